@@ -9,11 +9,11 @@ use Rattle.delivery_token.specs.declared.Verdict.{Verdict}
 use Rattle.delivery_token.specs.declared.log.Noted.{Noted}
 use Rattle.world.specs.World.{Config, World}
 use Rattle.world.proofs.Base.{Every, Rising, every_append, every_weaker, rising_push}
-use Rattle.imap_session.specs.Exchange.{Answer, PendingLiteral, ForDone, ForLiteral, ForNothing, ForVerdict, Mailing, Sent, Standing, Turn, Waiting, kept_tag, waiting}
+use Rattle.imap_session.specs.Exchange.{Answer, PendingLiteral, ForDone, ForLiteral, ForNothing, ForVerdict, Mailing, Sent, Standing, Turn, Waiting, waiting}
 use Rattle.imap_session.specs.Commands.{on_verdict, turn_of, turn_with, without_sent}
 use Rattle.imap_session.specs.Store.{IdleTurns, Met}
 use Rattle.house_peers.proofs.Rising.{NumbersRise, idles_keep, then_rises}
-use Rattle.laws_client.specs.Commands.{IsPrinted}
+use Rattle.laws_client.specs.Commands.{IsPrinted, whole_line}
 use Rattle.laws_client.specs.Talks.{Happening, Line, LongLine, Turned, Literal, Heard, leads_to}
 use Rattle.laws_client.proofs.IdleTags.{AreTagsOf, Keeps, played_keeps}
 use Rattle.laws_client.proofs.Talking.{happening_keeps_so}
@@ -48,7 +48,7 @@ same_numbers now = (omega arith, λ s is. inl is)
 
 line_rises : (now : Standing) (line : List ℕ) (answers : List Answer) (turn : Turn) → turn_of now line answers ≡ Some turn → NumbersRise now.mailing turn.standing.mailing
 line_rises now line answers turn e =
-    line_stays (λ (s : Standing). NumbersRise now.mailing s.mailing) (numbers_keep now.mailing) now line answers turn (same_numbers now.mailing) (same_numbers now.mailing) (same_numbers now.mailing) (same_numbers now.mailing) e
+    line_stays (λ (s : Standing). NumbersRise now.mailing s.mailing) (numbers_keep now.mailing) now line answers turn (same_numbers now.mailing) (same_numbers now.mailing) (same_numbers now.mailing) e
 
 turned_rises : (k : Config) (n : ℕ) (now : Standing) (answers : List Answer) (w : World) (turn : Turn) (v : World) → leads_to now (Turned answers) ≡ Some turn → Met (Calls k n) w turn.events v → NumbersRise now.mailing turn.standing.mailing
 turned_rises k n now answers w turn v e met =

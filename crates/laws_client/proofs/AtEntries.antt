@@ -14,7 +14,7 @@ use Rattle.imap_grammar.specs.Reading.{read}
 use Rattle.imap_grammar.specs.Verbs.{verb_of}
 use Rattle.imap_grammar.specs.declared.command.Command.{Command}
 use Rattle.imap_session.specs.Commands.{turn_of}
-use Rattle.imap_session.specs.Exchange.{Answer as StoreAnswer, Standing, Turn, kept_tag, tagged}
+use Rattle.imap_session.specs.Exchange.{Answer as StoreAnswer, Standing, Turn, tagged}
 use Rattle.house.specs.Meets.{Meets}
 use Rattle.house_peers.specs.Visitor.{Visitor}
 use Rattle.house_peers.specs.Visitor.{more_waits as session_more_waits}
@@ -52,6 +52,7 @@ use Rattle.laws_client.proofs.Recording.{Arrival, Client, came_as, client_more, 
 use Rattle.laws_client.proofs.Since.{Fresh, Lately, fresh_grown, goes_lately, turned, untold}
 use Rattle.imap_session.specs.declared.texts.ResponseText.TheVariants as texts
 use Rattle.imap_session.specs.Texts.{response_text}
+use Rattle.laws_client.specs.Commands.{whole_line}
 
 -- ---- one entry more
 

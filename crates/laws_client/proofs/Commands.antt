@@ -25,14 +25,14 @@ use Rattle.imap_grammar.specs.declared.command.ImapFault.TheVariants.{NoTag, Unk
 use Rattle.imap_session.specs.declared.standing.After.TheVariants.{Go}
 use Rattle.imap_session.specs.declared.standing.Selected.{Selected}
 use Rattle.imap_session.specs.Exchange.{Answer, PendingLiteral, Exchange, Expunge, Feed, Folder, ForNothing, ForVerdict, Mailing, Sent, Standing, Turn, Wait, Write, bye, kept_behind, tagged, untagged}
-use Rattle.imap_session.specs.Commands.{appended_words, appending, last_number, long_idle_text, long_rest_text, long_text, most_unasked, nowhere, number_named, on_rest, on_text, on_verdict, is_over, over, turn_behind, turn_with, wanting, wanting_for, without_begun, without_sent, completed, counting, expunge_set, fault_text, fetch_messages, fetched, fetching, folder_of, in_selected, in_writable, messages_done, on_chosen, on_command, on_found, on_idle_line, on_read, on_set, only_says, says, showing, store_messages, stored, storing, subscribing, turn_while, unlimited, wrong_state, arguments_text, asking, coming, logged_in, refused_text, found_in, search_done, search_known, search_messages, searching, on_text_line, flags_for, mailbox_for}
+use Rattle.imap_session.specs.Commands.{appended_words, appending, last_number, long_idle_text, long_rest_text, long_text, most_unasked, nowhere, number_named, on_rest, on_text, on_verdict, is_over, over, turn_with, wanting, wanting_for, without_begun, without_sent, completed, counting, expunge_set, fault_text, fetch_messages, fetched, fetching, folder_of, in_selected, in_writable, messages_done, on_chosen, on_command, on_found, on_idle_line, on_read, on_set, only_says, says, showing, store_messages, stored, storing, subscribing, unlimited, wrong_state, arguments_text, asking, coming, logged_in, refused_text, found_in, search_done, search_known, search_messages, searching, on_text_line, flags_for, mailbox_for}
 use Rattle.imap_answers.specs.Answers.{flags_answer, list_answer}
 use Rattle.imap_answers.specs.declared.list.Listing.{Listing}
 use Rattle.imap_answers.specs.declared.list.Listing.TheVariants.{All, Subscribed}
 use Rattle.laws_client.specs.Beliefs.{Leads, Leaves, TellsNothing}
 use Rattle.laws_client.specs.ListTurns.{is_inner, IsPlain, IsRowOf, IsTag, Says, SeesAll}
 use Rattle.laws_client.specs.Fetches.{AreToldParts, IsNumbered}
-use Rattle.laws_client.specs.Commands.{AreNames, IsFollowed, IsPrinted, MayAnswer, MayAsk, MayCome}
+use Rattle.laws_client.specs.Commands.{AreNames, IsPrinted, MayAnswer, MayAsk, MayCome}
 use Rattle.laws_client.specs.ListLaws.{AnswerIsFollowed, LongLineTellsNothing, VerdictIsFollowed}
 use Rattle.laws_client.proofs.Ends.{leaves, refusals, tagged_tells_nothing}
 use Rattle.laws_client.proofs.Chosen.{AreIn, named_are_in, small_in}

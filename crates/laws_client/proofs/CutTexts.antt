@@ -14,11 +14,9 @@ use Rattle.mailbox.specs.declared.clients.Opening.{Opening}
 use Rattle.mailbox.specs.declared.clients.Row.{Row}
 use Rattle.mailbox.specs.declared.mailbox.Status.{Status}
 use Rattle.imap_answers.specs.Answers.{all_flags, answered, asks_for_root, date_item, flags_answer, is_listed, item_text, list_answer, listed, literal, name_answer, opening_text, origin_text, part, part_bytes, part_word, root_answer, row_answer, section, status_answer, status_number, status_text, search_answer, spaced_numbers}
-use Rattle.imap_grammar.specs.Grammar.{rfc822_word, section_word, status_word}
+use Rattle.imap_grammar.specs.Grammar.{rfc822_word, status_word}
 use Rattle.imap_grammar.specs.declared.items.FetchItem.{FetchItem}
 use Rattle.imap_grammar.specs.declared.items.FetchItem.TheVariants as fetch
-use Rattle.imap_grammar.specs.declared.items.Section.{Section}
-use Rattle.imap_grammar.specs.declared.items.Section.TheVariants.{Whole, Header, Text}
 use Rattle.imap_grammar.specs.declared.items.Span.{Span}
 use Rattle.imap_grammar.specs.declared.items.StatusItem.{StatusItem}
 use Rattle.imap_session.specs.Exchange.{Folder, bye, continuing, tagged, untagged}

@@ -17,7 +17,7 @@ use Rattle.laws_client.specs.Lives.{Lives, comes, others, turns}
 use Rattle.laws_client.specs.ClientRecords.{IsPrintable, first_standing, first_words, shown_by_then, user_by_then}
 use Rattle.laws_client.specs.Sizes.{HasShortTexts, HasSmallNumbers}
 use Rattle.laws_client.specs.RecordTurns.{Stands, told_line, told_of}
-use Rattle.laws_client.specs.Commands.{AreNames}
+use Rattle.laws_client.specs.Commands.{AreNames, whole_line}
 use Rattle.laws_client.specs.Talks.{Happening, Heard, Line, Literal, LongLine, Turned, leads_to}
 use Rattle.imap_grammar.specs.Reading.{read}
 use Rattle.imap_grammar.specs.declared.command.Command.{Command}

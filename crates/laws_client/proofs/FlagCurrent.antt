@@ -1,6 +1,6 @@
 -- Where nothing is pending, what a client believes of flags is what they are.
 use Rattle.std.proofs.Common.{◌≡◌, ℕ, ◌+◌, ◌-◌, ◌≤◌, Bool, true, List, [], ◌∷◌, ◌++◌, length, take, refl, sym, subst, ap, ◌∙◌, arith, append-nil}
-use Rattle.std.specs.Prelude.{Option, Some, None, IfSome, Result, Ok, if◌then◌else◌}
+use Rattle.std.specs.Prelude.{Option, Some, None, IfSome, Ok, if◌then◌else◌}
 use Rattle.std.proofs.Math.Seq.{take-length}
 use Rattle.std.proofs.lemmas.Bool.{false≢true}
 use Rattle.std.proofs.lemmas.List.{length-drop}
@@ -15,14 +15,12 @@ use Rattle.world.specs.World.{Config, Session, World, pending, shows}
 use Rattle.world.specs.Law.{IsShown}
 use Rattle.world.proofs.Kept.{Kept, SessionOk}
 use Rattle.imap_grammar.specs.Reading.{is_done, read}
-use Rattle.imap_grammar.specs.declared.command.Command.{Command}
 use Rattle.imap_grammar.specs.declared.command.Command.TheVariants as commands
-use Rattle.imap_grammar.specs.declared.command.ImapFault.{ImapFault}
 use Rattle.imap_session.specs.declared.standing.After.{After}
 use Rattle.imap_session.specs.declared.standing.After.TheVariants.{Go}
 use Rattle.imap_session.specs.declared.standing.Selected.{Selected}
-use Rattle.imap_session.specs.Exchange.{Answer, Fed, Refused, PendingLiteral, Event as Happened, Done, Feed, Standing, Turn, having, kept_behind, kept_tag, played, refused, saying}
-use Rattle.imap_session.specs.Commands.{completed, on_idle_line, on_read, says, showing, turn_behind, turn_while, unlimited}
+use Rattle.imap_session.specs.Exchange.{Answer, Fed, Refused, PendingLiteral, Event as Happened, Done, Feed, Standing, Turn, having, played, refused, saying}
+use Rattle.imap_session.specs.Commands.{completed, on_idle_line, says, showing, turn_behind, turn_while, unlimited, without_begun}
 use Rattle.imap_session.specs.Store.{Met}
 use Rattle.house.specs.Meets.{Meets}
 use Rattle.line_io.specs.Wire.{crlf}
@@ -49,7 +47,9 @@ use Rattle.laws_client.proofs.FlagWorlds.{the_point}
 use Rattle.imap_session.specs.declared.texts.ResponseText.TheVariants as texts
 use Rattle.imap_session.specs.Texts.{response_text}
 use Rattle.imap_grammar.specs.declared.command.Verb.TheVariants as verbs
-use Rattle.laws_client.proofs.Barred.{line_case, login_shows_none, refused_turn}
+use Rattle.laws_client.proofs.Barred.{line_case, login_shows_none, refused_turn, shown_waits}
+use Rattle.laws_client.specs.Commands.{whole_line, whole_in}
+use Rattle.laws_client.proofs.WholeLines.{said_turn}
 
 -- ---- a cursor at the end of its log
 

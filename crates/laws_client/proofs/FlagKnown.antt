@@ -1,20 +1,20 @@
 -- A turn of a session, and its whole life, as they tell its client flags.
-use Rattle.std.proofs.Common.{◌≡◌, ℕ, true, false, List, refl, sym, subst, ap, ap₂}
+use Rattle.std.proofs.Common.{◌≡◌, ℕ, true, false, List, refl, sym, subst, ap}
 use Rattle.std.specs.Prelude.{Option, Some, None, Result, Ok, Err, not}
 use Rattle.world.specs.World.{Config, World}
 use Rattle.imap_grammar.specs.Reading.{read}
 use Rattle.imap_grammar.specs.declared.command.Command.{Command}
 use Rattle.imap_grammar.specs.declared.command.Command.TheVariants as commands
 use Rattle.imap_grammar.specs.declared.command.ImapFault.{ImapFault}
-use Rattle.imap_session.specs.Exchange.{Answer as StoreAnswer, PendingLiteral, Standing, Turn, kept_tag, kept_behind, may_send, played}
-use Rattle.imap_session.specs.Commands.{logged_in, on_command, on_read, says, turn_behind, turn_of, turn_of_long_line, turn_while, with_bytes}
+use Rattle.imap_session.specs.Exchange.{Answer as StoreAnswer, Standing, Turn, may_send, played}
+use Rattle.imap_session.specs.Commands.{logged_in, on_command, on_read, says, turn_of, turn_of_long_line, with_bytes, on_text_line, without_begun}
 use Rattle.imap_session.specs.Store.{Met}
 use Rattle.laws_client.specs.Client.{Client}
-use Rattle.laws_client.specs.Commands.{MayAnswer, stays}
+use Rattle.laws_client.specs.Commands.{MayAnswer, stays, MayCome, whole_line}
 use Rattle.laws_client.specs.Fetches.{IsNumbered}
 use Rattle.laws_client.specs.Talks.{Happening, Line, LongLine, Turned, Literal, Heard, MayHappen, leads_to}
 use Rattle.laws_client.specs.ListTurns.{AreTags, IsTag}
-use Rattle.laws_client.proofs.Commands.{long_line_tells_nothing}
+use Rattle.laws_client.proofs.Commands.{long_line_tells_nothing, may_answer}
 use Rattle.laws_client.proofs.Tags.{Tagged, read_tagged}
 use Rattle.laws_client.proofs.Talking.{kept_is_tag}
 use Rattle.laws_client.proofs.Turns.{the_turn}
@@ -27,7 +27,7 @@ use Rattle.laws_client.specs.Sizes.{HasShortTexts, HasSmallNumbers}
 use Rattle.laws_client.specs.RecordTurns.{Stands, VerdictsArePrinted, told_line, told_of}
 use Rattle.laws_client.proofs.Boxes.{box_goes}
 use Rattle.laws_client.proofs.RecordEntering.{tagged_has}
-use Rattle.laws_client.proofs.RecordKnown.{may_ask, stands_still}
+use Rattle.laws_client.proofs.RecordKnown.{may_ask, stands_still, bare_stands, unfinished_may}
 use Rattle.laws_client.proofs.Living.{hears_last}
 use Rattle.laws_client.proofs.Moved.{Calls, hears_world, short_before, short_met, sound_met, sound_step}
 use Rattle.laws_client.proofs.Names.{goes_extends}
@@ -47,6 +47,8 @@ use Rattle.laws_client.proofs.FlagWorlds.{counted_of, others_flags, sees_all_fla
 use Rattle.imap_session.specs.declared.texts.ResponseText.TheVariants as texts
 use Rattle.imap_session.specs.Texts.{response_text}
 use Rattle.imap_grammar.specs.declared.command.Verb.TheVariants as verbs
+use Rattle.imap_grammar.specs.Verbs.{verb_of}
+use Rattle.laws_client.proofs.WholeLines.{unfinished_asks, turn_has, text_has}
 
 -- ---- what may happen
 

@@ -14,7 +14,7 @@ use Rattle.mail_date.specs.Fields.{message_date}
 use Rattle.mail_date.specs.Internal.{date_text, internal_text, sign, time_text, two_digits, zone_text}
 use Rattle.mail_date.specs.declared.stamp.Stamp.{Stamp}
 use Rattle.imap_answers.specs.Answers.{date_item, flags_text, origin_text, part, part_bytes, part_word, section}
-use Rattle.imap_grammar.specs.Grammar.{rfc822_word, section_word}
+use Rattle.imap_grammar.specs.Grammar.{rfc822_word}
 use Rattle.imap_grammar.specs.declared.items.FetchItem.{FetchItem}
 use Rattle.imap_grammar.specs.declared.items.FetchItem.TheVariants as fetch
 use Rattle.imap_grammar.specs.declared.items.Section.{Section}

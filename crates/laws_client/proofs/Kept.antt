@@ -13,9 +13,9 @@ use Rattle.mail_date.specs.Fields.{message_date}
 use Rattle.mail_date.specs.Internal.{date_text, internal_text, time_text, zone_text}
 use Rattle.mail_date.specs.declared.stamp.Stamp.{Stamp}
 use Rattle.imap_grammar.proofs.Tokens.{excludes, not_true}
-use Rattle.imap_answers.specs.Answers.{crlf, date_item, is_crlf, flags_text, fields_from, header, header_fields, header_from, item_text, literal, origin_text, part, part_bytes, part_word, section, takes_field}
+use Rattle.imap_answers.specs.Answers.{crlf, date_item, is_crlf, flags_text, fields_from, header, header_from, item_text, literal, origin_text, part, part_bytes, part_word, section, takes_field}
 use Rattle.imap_grammar.specs.Bytes.{is_field_byte}
-use Rattle.imap_grammar.specs.Grammar.{rfc822_word, section_word}
+use Rattle.imap_grammar.specs.Grammar.{rfc822_word}
 use Rattle.imap_grammar.specs.declared.items.BodyPart.{BodyPart}
 use Rattle.imap_grammar.specs.declared.items.BodyPart.TheVariants as parts
 use Rattle.imap_grammar.specs.declared.items.FetchItem.{FetchItem}

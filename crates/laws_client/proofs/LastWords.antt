@@ -15,7 +15,7 @@ use Rattle.imap_grammar.specs.Verbs.{verb_of}
 use Rattle.imap_session.specs.declared.standing.Selected.{Selected}
 use Rattle.imap_session.specs.Exchange as ex
 use Rattle.imap_session.specs.Exchange.{Answer, PendingLiteral, Exchange, Folder, ForVerdict, Mailing, Standing, Turn, bye, played, untagged}
-use Rattle.imap_session.specs.Commands.{appending, asking, closing, completed, counting, entering, expunge_set, fetch_messages, fetching, folder_of, if_writable, is_over, messages_done, most_unasked, notice, noticing, nowhere, number_named, on_chosen, on_command, on_found, on_idle_line, on_read, over, says, showing, store_messages, storing, subscribing, telling_recent, turn_behind, turn_of, turn_while, unlimited, wanting, wanting_for, without_begun, wrong_state, arguments_text, entered_text, logged_in, found_in, search_done, search_known, search_messages, searching, on_text_line}
+use Rattle.imap_session.specs.Commands.{appending, asking, closing, completed, counting, entering, expunge_set, fetch_messages, fetching, folder_of, if_writable, is_over, messages_done, most_unasked, notice, noticing, nowhere, number_named, on_chosen, on_command, on_found, on_idle_line, on_read, over, says, showing, store_messages, storing, subscribing, telling_recent, turn_of, unlimited, wanting, wanting_for, without_begun, wrong_state, arguments_text, entered_text, logged_in, found_in, search_done, search_known, search_messages, searching, on_text_line}
 use Rattle.imap_session.specs.Telling.{tells_uid}
 use Rattle.exactly_once.proofs.Whole.{IsWhole, bye_whole, ends, fetched_whole, flags_whole, list_whole, opening_whole, found_whole}
 use Rattle.laws_client.proofs.IdleTags.{AreTagsOf}
@@ -31,7 +31,6 @@ use Rattle.imap_session.specs.declared.standing.Profile.{Profile}
 use Rattle.imap_session.specs.declared.standing.Profile.TheVariants.{Standard, Compatible}
 use Rattle.imap_session.proofs.Barring.{line_has}
 use Rattle.imap_answers.specs.declared.list.Listing.TheVariants.{All, Subscribed}
-use Rattle.imap_grammar.specs.declared.command.Verb.TheVariants as verbs
 use Rattle.imap_grammar.specs.declared.command.Search.{Search}
 use Rattle.imap_grammar.specs.declared.view.Named.{Named}
 use Rattle.imap_grammar.specs.Keys.{all_messages}

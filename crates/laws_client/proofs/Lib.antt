@@ -39,6 +39,7 @@ mod LastRests
 mod LastWords
 mod LastTurns
 mod Waiting
+mod WholeLines
 mod Submitted
 mod Lanes
 mod Histories

@@ -1,6 +1,6 @@
 -- A client reads what a session says in a turn, over whatever store: by induction over the exchange, a clause for each answer that there is.
 use Rattle.std.proofs.Common.{zero, suc, ◌≡◌, ℕ, List, [], ◌∷◌, sym, subst, refl}
-use Rattle.std.specs.Prelude.{Option, Some, None}
+use Rattle.std.specs.Prelude.{Option, Some}
 use Rattle.std.proofs.lemmas.Option.{none-some}
 use Rattle.mailbox.specs.declared.clients.MailFault.TheVariants.{NoMemory}
 use Rattle.imap_session.specs.Exchange.{Answer, Looked, Found, Counted, Altered, Expunged, Fed, Refused, Starved, Exchange, Done, Wait, Write, Put, Enter, Look, Read, Count, Alter, Expunge, Feed, Leave, Standing, Turn, after_waiting, tagged, played, waiting, Dropped, ForLiteral, ForNothing, Waiting, bye, unkept}

@@ -6,13 +6,12 @@ use Rattle.mailbox.specs.declared.clients.MailFault.TheVariants.{Stranger, Lappe
 use Rattle.world.specs.World.{Config, World}
 use Rattle.delivery_token.specs.declared.Verdict.{Verdict}
 use Rattle.imap_grammar.specs.Reading.{read}
-use Rattle.imap_grammar.specs.Verbs.{verb_of}
 use Rattle.imap_grammar.specs.declared.command.Command.{Command}
 use Rattle.imap_grammar.specs.declared.command.Command.TheVariants as commands
 use Rattle.imap_grammar.specs.declared.command.ImapFault.{ImapFault}
 use Rattle.imap_session.specs.declared.standing.Selected.{Selected}
-use Rattle.imap_session.specs.Exchange.{Answer, Fed, Refused, PendingLiteral, ForDone, ForLiteral, ForNothing, ForVerdict, Sent, Standing, Turn, Waiting, is_idling, played, waiting}
-use Rattle.imap_session.specs.Commands.{barred_at, fault_text, idle_turn_in, logged_in, without_login, logs_in_as, on_command, on_found, on_idle_line, on_line, on_read, on_rest, on_verdict, says, turn_behind, turn_while, turn_with, without_begun, without_sent}
+use Rattle.imap_session.specs.Exchange.{Answer, Fed, Refused, ForDone, ForLiteral, ForNothing, ForVerdict, Sent, Standing, Turn, Waiting, is_idling, played, waiting}
+use Rattle.imap_session.specs.Commands.{barred_at, fault_text, idle_turn_in, logged_in, without_login, logs_in_as, on_command, on_found, on_idle_line, on_line, on_read, on_rest, on_verdict, says, turn_with, without_begun, without_sent, on_text_line, completed, turn_of}
 use Rattle.imap_session.specs.Texts.{response_text}
 use Rattle.laws_client.specs.Clients.{Told}
 use Rattle.laws_client.specs.Lives.{Lives, comes, turns, others}
@@ -22,6 +21,8 @@ use Rattle.laws_client.proofs.IdleTags.{Keeps, played_keeps}
 use Rattle.laws_client.proofs.Selecting.{StaysIn, fault_sel, idle_selected, in_command, in_found, in_idle_line, in_part, in_rest, selected_stays, verdict_sel}
 use Rattle.laws_client.proofs.Submitted.{line_stays}
 use Rattle.laws_client.proofs.Turns.{the_turn}
+use Rattle.imap_session.proofs.Parts.{text_line_has}
+use Rattle.laws_client.proofs.WholeLines.{turn_has}
 
 -- ---- who has logged in
 
@@ -59,7 +60,7 @@ heard_login (Some sent) now verdict answers turn none e = played_keeps NoLogin s
 
 none_asked : (now : Standing) (happening : Happening) (turn : Turn) → now.login ≡ None → leads_to now happening ≡ Some turn → turn.standing.login ≡ None
 unfolding NoLogin
-none_asked now (Line line answers) turn none e = line_stays NoLogin keeps now line answers turn none refl none none e
+none_asked now (Line line answers) turn none e = line_stays NoLogin keeps now line answers turn none none refl e
 none_asked now LongLine turn none e = ap (λ (t : Turn). t.standing.login) (sym (ap (the_turn turn) e)) ∙ none
 none_asked now (Turned answers) turn none e = idle_login now.selected (is_idling now) now answers turn e ∙ none
 none_asked now (Literal kept bytes) turn none e = ap (λ (t : Turn). t.standing.login) (sym (ap (the_turn turn) e)) ∙ none

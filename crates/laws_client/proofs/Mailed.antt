@@ -27,7 +27,7 @@ use Rattle.imap_session.specs.declared.standing.After.TheVariants as afters
 use Rattle.imap_session.specs.declared.standing.Selected.{Selected}
 use Rattle.imap_session.specs.Exchange.{Answer, Entered, Looked, Found, Counted, Altered, Expunged, Fed, Left, Refused, Starved, Exchange, ForDone, ForLiteral, ForVerdict, ForNothing, Done, Wait, Write, Put, Enter, Look, Read, Count, Alter, Expunge, Feed, Leave, Folder, Mailing, Standing, Turn, PendingLiteral, Sent, Waiting, closed, having, played, refusal_after, refusal_text, refused, saying, tagged, waiting, unkept, Asked, Dropped, Unasked, bye}
 use Rattle.imap_session.proofs.Unkept.{unkept_by}
-use Rattle.imap_session.specs.Commands.{appending, closing, completed, counting, entering, expunge_set, fault_text, fetch_messages, fetched, fetching, folder_of, idle_turn_in, if_writable, in_writable, is_over, kept_text, last_number, messages_done, most_unasked, nowhere, number_named, on_chosen, on_command, on_folder, on_found, on_idle_line, on_read, on_rest, on_set, on_text, on_verdict, only_says, over, says, selecting, showing, store_messages, stored, storing, taking, turn_behind, turn_of, turn_of_long_line, turn_of_verdict, turn_while, turn_with, unlimited, wanting, wanting_for, with_bytes, without_begun, without_sent, wrong_state, asking, coming, entered_text, logged_in, subscribing, telling_recent, found_in, search_done, search_known, search_messages, searching}
+use Rattle.imap_session.specs.Commands.{appending, closing, completed, counting, entering, expunge_set, fault_text, fetch_messages, fetched, fetching, folder_of, idle_turn_in, if_writable, in_writable, is_over, kept_text, last_number, messages_done, most_unasked, nowhere, number_named, on_chosen, on_command, on_folder, on_found, on_idle_line, on_read, on_rest, on_set, on_text, on_verdict, only_says, over, says, selecting, showing, store_messages, stored, storing, taking, turn_of, turn_of_long_line, turn_of_verdict, turn_with, unlimited, wanting, wanting_for, with_bytes, without_begun, without_sent, wrong_state, asking, coming, entered_text, logged_in, subscribing, telling_recent, found_in, search_done, search_known, search_messages, searching, on_text_line, flags_for, mailbox_for}
 use Rattle.delivery_token.specs.declared.Verdict.{Verdict}
 use Rattle.delivery_token.specs.declared.Verdict.TheVariants as verdicts
 use Rattle.laws_client.proofs.Turns.{the_turn}
@@ -40,6 +40,8 @@ use Rattle.laws_client.proofs.Barred.{line_case}
 use Rattle.imap_grammar.specs.declared.command.Search.{Search}
 use Rattle.imap_grammar.specs.declared.view.Named.{Named}
 use Rattle.imap_grammar.specs.Keys.{all_messages}
+use Rattle.imap_session.proofs.Parts.{text_line_has, IsPart, tells_part, ends_part, asks_part, comes_part, challenge_part}
+use Rattle.laws_client.proofs.WholeLines.{turn_has}
 
 -- what it has of messages: of one that is announced no more than was, and of one that was submitted no more than it takes
 pub record IsMailShort (most : ℕ) (m : Mailing) : Type 0 where
@@ -298,22 +300,24 @@ fault_keeps most now text (answer ∷ more) turn k e = absurd (none-some turn e)
 
 read_keeps : (most : ℕ) (now : Standing) (r : Result (List ℕ × Command) ImapFault) (answers : List Answer) (turn : Turn) → IsMailShort most now.mailing → on_read now r answers ≡ Some turn → Kept most turn
 read_keeps most now (Ok line) answers turn k e =
-    line_case (Kept most turn) now line.0 line.1 answers turn (λ logs d. mail_stays most line.0 (logged_in now) login_completed answers turn tt k d)
+    line_case (Kept most turn) now line.0 line.1 answers turn (λ logs d. mail_stays most line.0 (logged_in now) (completed line.1) answers turn tt k d)
     (λ text is d. mail_stays most line.0 now (says (response_text text)) answers turn tt k d) (λ d. mail_stays most line.0 now (on_command now line.1) answers turn (fit_command most now line.1) k d) e
 read_keeps most now (Err fault) answers turn k e = fault_keeps most now (fault_text now.profile fault) answers turn k e
 
-while_keeps : (most : ℕ) (idling : Option (List ℕ)) (now : Standing) (line : List ℕ) (answers : List Answer) (turn : Turn) → IsMailShort most now.mailing → turn_while idling now line answers ≡ Some turn → Kept most turn
-while_keeps most None now line answers turn k e = read_keeps most now (read line) answers turn k e
-while_keeps most (Some tag) now line answers turn k e = mail_stays most tag (record now { idling = None }) (on_idle_line now.selected line) answers turn (fit_idle_line most now.selected line) k e
+-- a line that isn't whole yet, or is given up
+fit_part : (most : ℕ) (x : Exchange) → IsPart x → TextsFit most x
+fit_part most x (tells_part text h e) = subst (TextsFit most) (sym e) tt
+fit_part most x (ends_part text h e) = subst (TextsFit most) (sym e) tt
+fit_part most x (asks_part line size e) = subst (TextsFit most) (sym e) tt
+fit_part most x (comes_part line size e) = subst (TextsFit most) (sym e) tt
+fit_part most x (challenge_part line e) = subst (TextsFit most) (sym e) tt
+
+text_keeps : (most : ℕ) (now : Standing) (line : List ℕ) (answers : List Answer) (turn : Turn) → IsMailShort most now.mailing → on_text_line now line answers ≡ Some turn → Kept most turn
+text_keeps most now line answers turn k e =
+    text_line_has (λ o. o ≡ Some turn → Kept most turn) now line answers (λ tag x part d. mail_stays most tag now x answers turn (fit_part most x part) k d) (λ d. read_keeps most now (read line) answers turn k d) e
 
 none_begun : (most : ℕ) (now : Standing) → IsMailShort most now.mailing → IsMailShort most (without_begun now).mailing
 none_begun most now k = record { takes = k.takes; begun = tt; sent = k.sent }
-
-behind_keeps : (most : ℕ) (begun : Option PendingLiteral) (now : Standing) (line : List ℕ) (answers : List Answer) (turn : Turn) → IfSome begun (λ a. IfSome a.text (λ text. length text + a.due ≤ a.size)) → IsMailShort most now.mailing
-    → turn_behind begun now line answers ≡ Some turn → Kept most turn
-behind_keeps most None now line answers turn b k e = while_keeps most now.idling now line answers turn k e
-behind_keeps most (Some a) now line answers turn b k e =
-    mail_stays most a.tag (without_begun now) (on_rest now.mailing a (length line == 0)) answers turn (fit_rest most now.mailing a (length line == 0) k.takes b) (none_begun most now k) e
 
 heard_keeps : (most : ℕ) (sent : Option Sent) (now : Standing) (verdict : Verdict) (answers : List Answer) (turn : Turn) → IsMailShort most now.mailing → turn_with sent now verdict answers ≡ Some turn → Kept most turn
 heard_keeps most None now verdict answers turn k e = absurd (none-some turn e)
@@ -321,7 +325,15 @@ heard_keeps most (Some sent) now verdict answers turn k e =
     mail_stays most sent.tag (without_sent now) (on_verdict now.selected sent.append.mailbox verdict) answers turn (fit_verdict most now.selected sent.append.mailbox verdict) (record { takes = k.takes; begun = tt; sent = tt }) e
 
 pub line_mail : (most : ℕ) (now : Standing) (line : List ℕ) (answers : List Answer) (turn : Turn) → IsMailShort most now.mailing → turn_of now line answers ≡ Some turn → Kept most turn
-line_mail most now line answers turn k e = behind_keeps most now.mailing.begun now line answers turn k.begun k e
+line_mail most now line answers turn k e =
+    turn_has (λ whole o. o ≡ Some turn → Kept most turn) now line answers
+    (λ tag b i d. mail_stays most tag (record now { idling = None }) (on_idle_line now.selected line) answers turn (fit_idle_line most now.selected line) k d)
+    (λ a mailbox flags b p d. mail_stays most a.tag (without_begun now) (on_rest now.mailing a (length line == 0)) answers turn (fit_rest most now.mailing a (length line == 0) k.takes (few a b)) (none_begun most now k) d)
+    (λ a x b part d. mail_stays most a.tag (without_begun now) x answers turn (fit_part most x part) (none_begun most now k) d)
+    (λ whole w d. text_keeps most (without_begun now) whole answers turn (none_begun most now k) d) e
+  where
+    few : (a : PendingLiteral) → now.mailing.begun ≡ Some a → IfSome a.text (λ text. length text + a.due ≤ a.size)
+    few a b = subst (λ (o : Option PendingLiteral). IfSome o (λ x. IfSome x.text (λ text. length text + x.due ≤ x.size))) b k.begun
 
 pub long_mail : (most : ℕ) (now : Standing) → IsMailShort most now.mailing → Kept most (turn_of_long_line now)
 long_mail most now k = none_begun most now k

@@ -27,8 +27,8 @@ use Rattle.imap_grammar.specs.declared.command.Fetch.{Fetch}
 use Rattle.imap_grammar.specs.declared.command.Store.{Store}
 use Rattle.imap_session.specs.declared.standing.After.{After}
 use Rattle.imap_session.specs.declared.standing.Selected.{Selected}
-use Rattle.imap_session.specs.Exchange.{PendingLiteral, kept_behind, kept_tag, Call, Answer, Event, Looked, Found, Counted, Altered, Expunged, Fed, Refused, Starved, Exchange, Done, Wait, Write, Put, Enter, Look, Read, Count, Alter, Expunge, Feed, Leave, Standing, Turn, having, played, refusal_text, refused, saying, tagged}
-use Rattle.imap_session.specs.Commands.{completed, counting, expunge_set, fetch_messages, fetched, fetching, folder_of, if_writable, in_writable, messages_done, on_chosen, on_command, on_found, on_read, on_set, turn_behind, turn_of, turn_while, says, showing, store_messages, stored, storing, unlimited, wrong_state, wanting_for, found_in, search_done, search_known, search_messages, searching, wanting, without_begun}
+use Rattle.imap_session.specs.Exchange.{Call, Answer, Event, Looked, Found, Counted, Altered, Expunged, Fed, Refused, Starved, Exchange, Done, Wait, Write, Put, Enter, Look, Read, Count, Alter, Expunge, Feed, Leave, Standing, Turn, having, played, refusal_text, refused, saying, tagged}
+use Rattle.imap_session.specs.Commands.{completed, counting, expunge_set, fetch_messages, fetched, fetching, folder_of, if_writable, in_writable, messages_done, on_chosen, on_command, on_found, on_set, turn_of, says, showing, store_messages, stored, storing, unlimited, wrong_state, wanting_for, found_in, search_done, search_known, search_messages, searching, wanting, without_begun}
 use Rattle.laws_client.specs.ListTurns.{IsTag}
 use Rattle.line_io.specs.Wire.{crlf}
 use Rattle.laws_client.specs.Talks.{Line}

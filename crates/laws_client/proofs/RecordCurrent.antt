@@ -1,6 +1,6 @@
 -- Where all that was pending was shown, what the session counts is what is there.
 use Rattle.std.proofs.Common.{zero, suc, ◌≡◌, ◌⊎◌, inl, inr, ℕ, ◌+◌, ◌-◌, ◌≤◌, Bool, true, false, List, [], ◌∷◌, ◌++◌, length, take, drop, refl, sym, subst, ap, ◌∙◌, arith, append-nil}
-use Rattle.std.specs.Prelude.{Option, Some, None, IfSome, Result, Ok, if◌then◌else◌}
+use Rattle.std.specs.Prelude.{Option, Some, None, IfSome, Ok, if◌then◌else◌}
 use Rattle.std.proofs.Math.Seq.{take-length}
 use Rattle.std.proofs.lemmas.Bool.{false≢true}
 use Rattle.std.proofs.lemmas.List.{length-drop}
@@ -17,14 +17,12 @@ use Rattle.world.specs.Law.{IsShown}
 use Rattle.world.proofs.Kept.{Kept, SessionOk}
 use Rattle.world.proofs.Always.{kept_always, kept_step}
 use Rattle.imap_grammar.specs.Reading.{is_done, read}
-use Rattle.imap_grammar.specs.declared.command.Command.{Command}
 use Rattle.imap_grammar.specs.declared.command.Command.TheVariants as commands
-use Rattle.imap_grammar.specs.declared.command.ImapFault.{ImapFault}
 use Rattle.imap_session.specs.declared.standing.After.{After}
 use Rattle.imap_session.specs.declared.standing.After.TheVariants.{Go}
 use Rattle.imap_session.specs.declared.standing.Selected.{Selected}
-use Rattle.imap_session.specs.Exchange.{Answer, Fed, Refused, PendingLiteral, Event as Happened, Done, Feed, Standing, Turn, having, kept_behind, kept_tag, played, refusal_text, refused, saying}
-use Rattle.imap_session.specs.Commands.{completed, on_idle_line, on_read, says, showing, turn_behind, turn_of, turn_while, unlimited, without_begun}
+use Rattle.imap_session.specs.Exchange.{Answer, Fed, Refused, PendingLiteral, Event as Happened, Done, Feed, Standing, Turn, having, played, refusal_text, refused, saying}
+use Rattle.imap_session.specs.Commands.{completed, on_idle_line, says, showing, turn_behind, turn_of, turn_while, unlimited, without_begun}
 use Rattle.imap_session.specs.Store.{Met}
 use Rattle.house.specs.Meets.{Meets}
 use Rattle.laws_client.specs.ListTurns.{IsTag}

@@ -1,13 +1,13 @@
 -- A turn of a session, as its client hears it that knows which of its lines were SELECT, EXAMINE, CLOSE or UNSELECT.
-use Rattle.std.proofs.Common.{◌≡◌, ℕ, true, false, List, [], refl, sym, subst, ap, ap₂}
+use Rattle.std.proofs.Common.{◌≡◌, ℕ, true, false, List, [], refl, sym, subst, ap}
 use Rattle.std.specs.Prelude.{Option, Some, None, Result, Ok, Err, not}
 use Rattle.world.specs.World.{Config, World}
 use Rattle.imap_grammar.specs.Reading.{read}
 use Rattle.imap_grammar.specs.declared.command.Command.{Command}
 use Rattle.imap_grammar.specs.declared.command.Command.TheVariants as commands
 use Rattle.imap_grammar.specs.declared.command.ImapFault.{ImapFault}
-use Rattle.imap_session.specs.Exchange.{Answer as StoreAnswer, PendingLiteral, Standing, Folder, Turn, is_idling, kept_tag, kept_behind, played}
-use Rattle.imap_session.specs.Commands.{logged_in, on_command, on_read, says, turn_behind, turn_of, turn_while, on_text_line, wants_response, without_begun}
+use Rattle.imap_session.specs.Exchange.{Answer as StoreAnswer, Standing, Folder, Turn, is_idling, played}
+use Rattle.imap_session.specs.Commands.{logged_in, on_command, on_read, says, turn_of, on_text_line, wants_response, without_begun}
 use Rattle.imap_session.specs.Store.{Met}
 use Rattle.laws_client.specs.Client.{Client}
 use Rattle.laws_client.specs.Commands.{AreNames, HasToldParts, MayAnswer, MayAsk, stays, whole_line, MayCome}

@@ -115,7 +115,7 @@ another_tag k w author tag said noted kept other = other kept.under
 never_sent : (k : Setup) (w : World) (author : Author) (tag said : List ℕ) (noted : Noted) → author.sent ≡ [] → TellsKept k w author tag said noted → ⊥
 never_sent k w author tag said noted none kept =
     let c = kept.came in
-    absurd (omega (arith, ap length (sym c.whole ∙ none), length-append (c.front ++ (c.line ++ crlf) ++ kept.message.append.text ++ crlf) c.behind, length-append (c.front ++ (c.line ++ crlf) ++ kept.message.append.text) crlf))
+    absurd (omega (arith, ap length (sym c.whole ∙ none), length-append (c.front ++ (c.bytes ++ crlf) ++ kept.message.append.text ++ crlf) c.behind, length-append (c.front ++ (c.bytes ++ crlf) ++ kept.message.append.text) crlf))
 
 -- and two such answers about one copy
 one_copy_twice : (k : Setup) (w : World) (author : Author) (told : List Told) (a b : Noted) → a.key ≡ b.key → (tells : TellsOfAppends k w author told) → filter_map as_it_is tells.verdicts ≡ a ∷ b ∷ [] → ⊥

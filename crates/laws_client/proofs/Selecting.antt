@@ -13,9 +13,9 @@ use Rattle.imap_session.specs.declared.standing.After.{After}
 use Rattle.imap_session.specs.declared.standing.After.TheVariants.{Go, Bye}
 use Rattle.imap_session.specs.declared.standing.After.TheVariants as afters
 use Rattle.imap_session.specs.declared.standing.Selected.{Selected}
-use Rattle.imap_session.specs.Exchange.{Answer, Entered, Looked, Found, Counted, Altered, Expunged, Fed, Left, Refused, Starved, Exchange, ForDone, ForLiteral, ForVerdict, ForNothing, Done, Wait, Write, Put, Enter, Look, Read, Count, Alter, Expunge, Feed, Leave, Standing, Turn, PendingLiteral, Sent, Waiting, closed, having, played, refusal_after, refusal_text, refused, saying, tagged, waiting, Folder, Mailing, kept_behind, kept_tag, is_idling, unkept, bye}
+use Rattle.imap_session.specs.Exchange.{Answer, Entered, Looked, Found, Counted, Altered, Expunged, Fed, Left, Refused, Starved, Exchange, ForDone, ForLiteral, ForVerdict, ForNothing, Done, Wait, Write, Put, Enter, Look, Read, Count, Alter, Expunge, Feed, Leave, Standing, Turn, PendingLiteral, Sent, Waiting, closed, having, played, refusal_after, refusal_text, refused, saying, tagged, waiting, Folder, Mailing, is_idling, unkept, bye}
 use Rattle.imap_session.proofs.Unkept.{unkept_by}
-use Rattle.imap_session.specs.Commands.{idle_turn_in, turn_of, fault_text, on_command, on_idle_line, on_read, on_rest, on_verdict, only_says, turn_behind, turn_while, turn_with, without_begun, without_sent, appending, closing, completed, counting, entering, expunge_set, fetch_messages, fetched, fetching, folder_of, if_writable, in_writable, is_over, last_number, messages_done, most_unasked, nowhere, number_named, on_chosen, on_folder, on_found, on_set, on_text, over, says, selecting, showing, store_messages, stored, storing, unlimited, wanting, wanting_for, wrong_state, opened, asking, coming, logged_in, subscribing, telling_recent, entered_text, found_in, search_done, search_known, search_messages, searching, on_text_line, flags_for, mailbox_for}
+use Rattle.imap_session.specs.Commands.{idle_turn_in, turn_of, fault_text, on_command, on_idle_line, on_read, on_rest, on_verdict, only_says, turn_with, without_begun, without_sent, appending, closing, completed, counting, entering, expunge_set, fetch_messages, fetched, fetching, folder_of, if_writable, in_writable, is_over, last_number, messages_done, most_unasked, nowhere, number_named, on_chosen, on_folder, on_found, on_set, on_text, over, says, selecting, showing, store_messages, stored, storing, unlimited, wanting, wanting_for, wrong_state, opened, asking, coming, logged_in, subscribing, telling_recent, entered_text, found_in, search_done, search_known, search_messages, searching, on_text_line, flags_for, mailbox_for}
 use Rattle.delivery_token.specs.declared.Verdict.{Verdict}
 use Rattle.std.specs.List.{list_any}
 use Rattle.change_ring.specs.declared.change.Flags.{Flags}

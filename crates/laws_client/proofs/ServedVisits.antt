@@ -14,7 +14,7 @@ use Rattle.workers_sync.specs.Carried.{Carried}
 use Rattle.workers_sync.specs.declared.courier.Lost.{Lost}
 use Rattle.imap_session.specs.declared.standing.After.{After}
 use Rattle.imap_session.specs.Exchange.{Call, Answer, Enter, Look, Read, Count, Alter, Expunge, Feed, Leave, Entered, Looked, Found, Counted, Altered, Expunged, Fed, Left, Refused, Starved, Event, Standing, Turn, may_send, nothing_more, begun_with}
-use Rattle.imap_session.specs.Commands.{greeting, turn_of_long_line, with_bytes}
+use Rattle.imap_session.specs.Commands.{greeting, turn_of_long_line, with_bytes, says}
 use Rattle.imap_session.specs.Store.{Met}
 use Rattle.imap_session.specs.Dialogue as dialogue
 use Rattle.imap_session.specs.Dialogue.{Answered, AnswersOne, Converses, Dialogue, Sends, StandsFor, spelled}

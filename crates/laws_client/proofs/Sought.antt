@@ -1,6 +1,6 @@
 -- The answer to a SEARCH: numbers on one line, which tell a client nothing of messages.
 use Rattle.std.proofs.Common.{◌≡◌, ℕ, zero, suc, ◌+◌, ◌<◌, ◌/◌, ◌%◌, ◌==◌, Bool, true, false, List, [], ◌∷◌, ◌++◌, refl, ap, sym, ◌∙◌, arith}
-use Rattle.std.specs.Prelude.{codes, decimal, nat_lt, ◌&&◌, not, if◌then◌else◌}
+use Rattle.std.specs.Prelude.{codes, decimal, nat_lt, if◌then◌else◌}
 use Rattle.std.specs.Fmt.{digit_glyph, digits, digits_onto}
 use Rattle.std.specs.List.{list_all}
 use Rattle.std.proofs.lemmas.Bool.{ne_eqb}

@@ -1,6 +1,7 @@
 -- The message that a session submits is one that its client sent: its line, its literal, and the CRLF behind that.
-use Rattle.std.proofs.Common.{◌≡◌, inl, inr, ℕ, ◌+◌, ◌≤◌, Bool, true, false, ◌==◌, List, [], ◌∷◌, ◌++◌, length, length-append, refl, sym, ap, ◌∙◌, subst, arith, append-nil, append_assoc, Option, Some, None}
-use Rattle.std.specs.Prelude.{IfSome, Result, Ok, Err}
+use Rattle.std.proofs.Common.{◌≡◌, inl, inr, ℕ, ◌+◌, ◌≤◌, Bool, true, false, ◌==◌, List, [], ◌∷◌, ◌++◌, length, length-append, refl, sym, ap, ◌∙◌, subst, arith, append-nil, append_assoc, Option, Some, None, take, codes}
+use Rattle.imap_grammar.specs.declared.command.Literal.{Literal as Announced}
+use Rattle.std.specs.Prelude.{if◌then◌else◌, IfSome, Result, Ok, Err, nat_lt}
 use Rattle.std.specs.Option.{option_map}
 use Rattle.std.proofs.lemmas.Bool.{eqb-true}
 use Rattle.std.proofs.lemmas.Option.{none-some}
@@ -14,44 +15,50 @@ use Rattle.imap_grammar.specs.declared.command.ImapFault.{ImapFault}
 use Rattle.delivery_token.specs.declared.Verdict.{Verdict}
 use Rattle.mailbox.specs.declared.clients.MailFault.TheVariants.{Stranger, Lapped}
 use Rattle.imap_session.specs.declared.standing.Selected.{Selected}
-use Rattle.imap_session.specs.Exchange.{Answer, Fed, Refused, is_idling, PendingLiteral, Asked, Dropped, Folder, ForDone, ForLiteral, ForNothing, ForVerdict, Mailing, Sent, Standing, Turn, Unasked, Waiting, waiting}
-use Rattle.imap_session.specs.Commands.{due_of, fault_text, idle_turn_in, kept_text, number_named, on_command, on_idle_line, on_read, on_rest, on_verdict, only_says, taking, turn_behind, turn_of, turn_while, turn_with, with_bytes, without_begun, without_sent, logged_in, logs_in_as, on_line, says}
+use Rattle.imap_session.specs.Exchange.{Answer, Fed, Refused, is_idling, PendingLiteral, Asked, Dropped, Folder, ForDone, ForLiteral, ForNothing, ForVerdict, Mailing, Sent, Standing, Turn, Unasked, Waiting, waiting, Argument, Message, Response, Purpose}
+use Rattle.imap_session.specs.Commands.{due_of, fault_text, idle_turn_in, kept_text, number_named, on_command, on_idle_line, on_read, on_rest, on_verdict, only_says, taking, turn_of, turn_with, with_bytes, without_begun, without_sent, logged_in, logs_in_as, on_line, says, on_text_line, flags_for, mailbox_for, completed, response_in, most_line}
 use Rattle.imap_session.specs.Store.{IdleTurns, Met}
 use Rattle.house_peers.proofs.Rising.{idles_keep}
 use Rattle.laws_client.specs.Talks.{Happening, Line, LongLine, Turned, Literal, Heard, leads_to}
 use Rattle.laws_client.proofs.IdleTags.{Keeps, played_keeps}
 use Rattle.laws_client.proofs.Turns.{the_turn}
-use Rattle.laws_client.specs.Appends.{IsSentAs}
+use Rattle.laws_client.specs.Appends.{IsSentAs, IsSpelled, as_it_stands, with_literal, with_response}
 use Rattle.laws_client.specs.Lives.{IsSentFor}
 use Rattle.laws_client.proofs.Moved.{Calls}
-use Rattle.laws_client.proofs.Waiting.{ForItsLiteral, ForItsVerdict, IsMail, IsNoAppend, append_mail, idling_mail, other_mail, rest_mail, verdict_mail}
+use Rattle.laws_client.proofs.Waiting.{ForItsArgument, ForItsLiteral, ForItsResponse, ForItsVerdict, IsMail, IsNoAppend, append_mail, argument_mail, given_mail, response_mail, idling_mail, other_mail, rest_mail, verdict_mail}
 use Rattle.laws_client.proofs.Barred.{line_case}
 use Rattle.imap_session.specs.Texts.{response_text}
+use Rattle.change_ring.specs.declared.change.Flags.{Flags}
+use Rattle.imap_grammar.specs.declared.command.Authenticate.{Authenticate}
+use Rattle.imap_grammar.specs.Literals.{announced, quoted}
+use Rattle.laws_client.specs.Commands.{whole_line, whole_in, whole_behind, if_kept}
+use Rattle.imap_session.proofs.Parts.{text_line_has}
+use Rattle.laws_client.proofs.WholeLines.{turn_given, text_awaits, turn_has}
 
 -- ---- what stays so behind a line
 
--- whatever stays so while it answers, and where it logs in, or no longer idles, or waits for a literal
-pub line_stays : (Q : Standing → Type 0) → ((tag : List ℕ) → Keeps Q tag) → (now : Standing) (line : List ℕ) (answers : List Answer) (turn : Turn) → Q now → Q (logged_in now) → Q (record now { idling = None }) → Q (without_begun now)
+-- whatever stays so while it answers, of a session that no longer idles, or waits for no literal, also where it logs in
+pub line_stays : (Q : Standing → Type 0) → ((tag : List ℕ) → Keeps Q tag) → (now : Standing) (line : List ℕ) (answers : List Answer) (turn : Turn) → Q (record now { idling = None }) → Q (without_begun now) → Q (logged_in (without_begun now))
     → turn_of now line answers ≡ Some turn → Q turn.standing
-line_stays Q keeps now line answers turn q l r s e = behind now.mailing.begun e
+line_stays Q keeps now line answers turn r s l e =
+    turn_has (λ whole o. o ≡ Some turn → Q turn.standing) now line answers
+    (λ tag b i d. played_keeps Q tag (keeps tag) (record now { idling = None }) (on_idle_line now.selected line) answers turn r d)
+    (λ a mailbox flags b p d. played_keeps Q a.tag (keeps a.tag) bare (on_rest now.mailing a (length line == 0)) answers turn s d)
+    (λ a x b part d. played_keeps Q a.tag (keeps a.tag) bare x answers turn s d)
+    (λ whole w d. text_line_has (λ o. o ≡ Some turn → Q turn.standing) bare whole answers (λ tag x part f. played_keeps Q tag (keeps tag) bare x answers turn s f) (λ f. reads (read whole) f) d) e
   where
-    said : (text : List ℕ) (answers : List Answer) → only_says text now answers ≡ Some turn → Q turn.standing
-    said text [] e = subst (λ (t : Turn). Q t.standing) (ap (the_turn turn) e) q
+    bare : Standing
+    bare = without_begun now
+
+    said : (text : List ℕ) (answers : List Answer) → only_says text bare answers ≡ Some turn → Q turn.standing
+    said text [] e = subst (λ (t : Turn). Q t.standing) (ap (the_turn turn) e) s
     said text (a ∷ more) e = absurd (none-some turn e)
 
-    reads : (found : Result (List ℕ × Command) ImapFault) → on_read now found answers ≡ Some turn → Q turn.standing
+    reads : (found : Result (List ℕ × Command) ImapFault) → on_read bare found answers ≡ Some turn → Q turn.standing
     reads (Ok c) e =
-        line_case (Q turn.standing) now c.0 c.1 answers turn (λ logs d. played_keeps Q c.0 (keeps c.0) (logged_in now) login_completed answers turn l d)
-        (λ text is d. played_keeps Q c.0 (keeps c.0) now (says (response_text text)) answers turn q d) (λ d. played_keeps Q c.0 (keeps c.0) now (on_command now c.1) answers turn q d) e
+        line_case (Q turn.standing) bare c.0 c.1 answers turn (λ logs d. played_keeps Q c.0 (keeps c.0) (logged_in bare) (completed c.1) answers turn l d)
+        (λ text is d. played_keeps Q c.0 (keeps c.0) bare (says (response_text text)) answers turn s d) (λ d. played_keeps Q c.0 (keeps c.0) bare (on_command bare c.1) answers turn s d) e
     reads (Err fault) e = said (fault_text now.profile fault) answers e
-
-    while : (idling : Option (List ℕ)) → turn_while idling now line answers ≡ Some turn → Q turn.standing
-    while None e = reads (read line) e
-    while (Some tag) e = played_keeps Q tag (keeps tag) (record now { idling = None }) (on_idle_line now.selected line) answers turn r e
-
-    behind : (begun : Option PendingLiteral) → turn_behind begun now line answers ≡ Some turn → Q turn.standing
-    behind None e = while now.idling e
-    behind (Some a) e = played_keeps Q a.tag (keeps a.tag) (without_begun now) (on_rest now.mailing a (length line == 0)) answers turn s e
 
 -- its mailboxes
 
@@ -71,19 +78,56 @@ folders_keep folders tag = record { ends = λ now k. k; enters = λ now selected
 
 -- ---- what its client sent
 
--- of a message whose bytes come, so many of them came, behind its line
-pub record BegunWith (folders : List Folder) (sent : List ℕ) (a : PendingLiteral) (text : List ℕ) : Type 0 where
+-- with its last line a client sent this as the line of a command
+pub record SaysLine (sent line : List ℕ) : Type 0 where
   pub front : List ℕ
+  pub bytes : List ℕ
+  pub spelled : IsSpelled bytes line
+  pub whole : sent ≡ front ++ (bytes ++ crlf)
+
+-- of a message whose bytes come, so many of them came, behind its line
+pub record MessageWith (folders : List Folder) (sent : List ℕ) (to : Option ℕ) (with : Flags) (a : PendingLiteral) (text : List ℕ) : Type 0 where
+  pub front : List ℕ
+  pub bytes : List ℕ
   pub line : List ℕ
   pub append : Append
+  pub spelled : IsSpelled bytes line
   pub reads : read line ≡ Ok (a.tag, commands.Append append)
-  pub named : a.mailbox ≡ number_named append.name folders
-  pub flags : a.flags ≡ append.flags
+  pub named : to ≡ number_named append.name folders
+  pub flags : with ≡ append.flags
   pub size : length text + a.due ≡ append.literal.size
-  pub whole : sent ≡ front ++ (line ++ crlf) ++ text
+  pub whole : sent ≡ front ++ (bytes ++ crlf) ++ text
+
+-- of an argument, behind the line that announced it
+pub record ArgumentWith (sent before : List ℕ) (a : PendingLiteral) (text : List ℕ) : Type 0 where
+  pub front : List ℕ
+  pub bytes : List ℕ
+  pub line : List ℕ
+  pub found : ℕ × Announced
+  pub spelled : IsSpelled bytes line
+  pub announces : announced line ≡ Some found
+  pub cut : before ≡ take found.0 line
+  pub size : length text + a.due ≡ found.1.size
+  pub whole : sent ≡ front ++ (bytes ++ crlf) ++ text
+
+-- and of a response nothing comes before its line
+pub record ResponseWith (sent before : List ℕ) (a : PendingLiteral) (text : List ℕ) : Type 0 where
+  pub front : List ℕ
+  pub bytes : List ℕ
+  pub tag : List ℕ
+  pub command : Authenticate
+  pub spelled : IsSpelled bytes before
+  pub reads : read before ≡ Ok (tag, commands.Authenticate command)
+  pub size : length text + a.due ≡ 0
+  pub whole : sent ≡ front ++ (bytes ++ crlf) ++ text
+
+abbrev pub IsBegunFor : Purpose → List Folder → List ℕ → PendingLiteral → List ℕ → Type 0
+IsBegunFor (Message mailbox flags) folders sent a text = MessageWith folders sent mailbox flags a text
+IsBegunFor (Argument before) folders sent a text = ArgumentWith sent before a text
+IsBegunFor (Response before) folders sent a text = ResponseWith sent before a text
 
 abbrev pub IsBegunAs : List Folder → List ℕ → PendingLiteral → Type 0
-IsBegunAs folders sent a = (text : List ℕ) → a.text ≡ Some text → BegunWith folders sent a text
+IsBegunAs folders sent a = (text : List ℕ) → a.text ≡ Some text → IsBegunFor a.purpose folders sent a text
 
 -- the messages that a session knows of are its client's
 pub record Mailed (folders : List Folder) (sent : List ℕ) (now : Standing) : Type 0 where
@@ -94,14 +138,16 @@ pub record Mailed (folders : List Folder) (sent : List ℕ) (now : Standing) : T
 pub sent_more : (folders : List Folder) (sent bytes : List ℕ) (message : Sent) → IsSentAs folders sent message → IsSentAs folders (sent ++ bytes) message
 sent_more folders sent bytes message h = record {
   front = h.front;
+  bytes = h.bytes;
   line = h.line;
   behind = h.behind ++ bytes;
   append = h.append;
+  spelled = h.spelled;
   reads = h.reads;
   named = h.named;
   flags = h.flags;
   size = h.size;
-  whole = ap (λ (x : List ℕ). x ++ bytes) h.whole ∙ append_assoc (h.front ++ (h.line ++ crlf) ++ message.append.text ++ crlf) h.behind bytes;
+  whole = ap (λ (x : List ℕ). x ++ bytes) h.whole ∙ append_assoc (h.front ++ (h.bytes ++ crlf) ++ message.append.text ++ crlf) h.behind bytes;
 }
 
 waits_more : (folders : List Folder) (sent bytes : List ℕ) (o : Option Sent) → IfSome o (IsSentAs folders sent) → IfSome o (IsSentAs folders (sent ++ bytes))
@@ -125,104 +171,235 @@ no_bytes : (line : List ℕ) → (length line == 0) ≡ true → line ≡ []
 no_bytes [] e = refl
 no_bytes (b ∷ bs) e = let some : length (b ∷ bs) ≡ 0 = eqb-true (length (b ∷ bs)) 0 e in absurd (omega (arith, some))
 
--- ---- an APPEND begins
+no_text : (text : List ℕ) → length text ≡ 0 → text ≡ []
+no_text [] e = refl
+no_text (b ∷ bs) e = absurd (omega (arith, e))
 
--- its bytes are to come
-begins : (folders : List Folder) (sent line tag : List ℕ) (append : Append) (mailbox : Option ℕ) (a : PendingLiteral) → read line ≡ Ok (tag, commands.Append append) → mailbox ≡ number_named append.name folders → a.tag ≡ tag → a.mailbox ≡ mailbox
-    → a.flags ≡ append.flags → a.due ≡ append.literal.size → a.text ≡ Some [] → IsBegunAs folders (sent ++ (line ++ crlf)) a
-begins folders sent line tag append mailbox a reads named same at flags due none text is =
-    let empty : text ≡ [] = ap (the_text text) (sym is ∙ none) in record {
-      front = sent;
-      line = line;
-      append = append;
-      reads = subst (λ (t : List ℕ). read line ≡ Ok (t, commands.Append append)) (sym same) reads;
-      named = at ∙ named;
-      flags = flags;
-      size = omega (arith, ap length empty, due);
-      whole = sym (append-nil (sent ++ (line ++ crlf))) ∙ ap (λ (x : List ℕ). (sent ++ (line ++ crlf)) ++ x) (sym empty);
-    }
-  where
-    the_text : List ℕ → Option (List ℕ) → List ℕ
-    the_text d None = d
-    the_text d (Some t) = t
+-- bytes more, behind those that came
+longer : (front bytes sent more had text : List ℕ) → sent ≡ front ++ bytes ++ had → had ++ more ≡ text → sent ++ more ≡ front ++ bytes ++ text
+longer front bytes sent more had text e all = ap (λ (x : List ℕ). x ++ more) e ∙ append_assoc (front ++ bytes) had more ∙ ap (λ (x : List ℕ). (front ++ bytes) ++ x) all
+
+-- ---- a literal begins
+
+abbrev the_text : List ℕ → Option (List ℕ) → List ℕ
+the_text d None = d
+the_text d (Some t) = t
+
+-- where no bytes came yet, and where memory was refused to them
+begun_so : (purpose : Purpose) (folders : List Folder) (sent : List ℕ) (a : PendingLiteral) → a.text ≡ Some [] → IsBegunFor purpose folders sent a [] → a.purpose ≡ purpose → IsBegunAs folders sent a
+begun_so purpose folders sent a none h same text is =
+    subst (λ (p : Purpose). IsBegunFor p folders sent a text) (sym same) (subst (λ (t : List ℕ). IsBegunFor purpose folders sent a t) (ap (the_text []) (sym none ∙ is)) h)
 
 dropped : (folders : List Folder) (sent : List ℕ) (a : PendingLiteral) → a.text ≡ None → IsBegunAs folders sent a
 dropped folders sent a none text is = absurd (none-some text (sym none ∙ is))
 
-append_begins : (folders : List Folder) (sent line tag : List ℕ) (append : Append) (now next : Standing) → Mailed folders sent now → next.folders ≡ now.folders → now.mailing.begun ≡ None → read line ≡ Ok (tag, commands.Append append)
-    → IsMail (ForItsLiteral (number_named append.name now.folders) append) tag now.mailing next.mailing → Mailed folders (sent ++ (line ++ crlf)) next
-append_begins folders sent line tag append now next m same begun reads (inl e) = same_mail folders sent (line ++ crlf) now next m same (ap (λ (x : Mailing). x.sent) e) (ap (λ (x : Mailing). x.begun) e ∙ begun)
-append_begins folders sent line tag append now next m same begun reads (inr (ForDone, p, e)) = absurd p
-append_begins folders sent line tag append now next m same begun reads (inr (ForVerdict mailbox flags text, p, e)) = absurd p
-append_begins folders sent line tag append now next m same begun reads (inr (ForNothing, p, e)) = same_mail folders sent (line ++ crlf) now next m same (ap (λ (x : Mailing). x.sent) e) (ap (λ (x : Mailing). x.begun) e ∙ begun)
-append_begins folders sent line tag append now next m same begun reads (inr (ForLiteral Dropped purpose size, p, e)) = record {
+-- the same message waits, and a literal begins
+begun_mail : (folders : List Folder) (sent bytes : List ℕ) (now next : Standing) (a : PendingLiteral) → Mailed folders sent now → next.folders ≡ now.folders → next.mailing.sent ≡ now.mailing.sent → next.mailing.begun ≡ Some a → IsBegunAs folders (sent ++ bytes) a
+    → Mailed folders (sent ++ bytes) next
+begun_mail folders sent bytes now next a m same waits begun h = record {
   same = same ∙ m.same;
-  begun = subst (λ (x : Mailing). IfSome x.begun (IsBegunAs folders (sent ++ (line ++ crlf)))) (sym e) (dropped folders (sent ++ (line ++ crlf)) _ refl);
-  waits = subst (λ (x : Mailing). IfSome x.sent (IsSentAs folders (sent ++ (line ++ crlf)))) (sym e) (waits_more folders sent (line ++ crlf) now.mailing.sent m.waits);
-}
-append_begins folders sent line tag append now next m same begun reads (inr (ForLiteral Asked purpose size, p, e)) = record {
-  same = same ∙ m.same;
-  begun = subst (λ (x : Mailing). IfSome x.begun (IsBegunAs folders (sent ++ (line ++ crlf)))) (sym e)
-      (begins folders sent line tag append mailbox _ reads (p.0 ∙ ap (number_named append.name) m.same) refl refl p.1 p.2 refl);
-  waits = subst (λ (x : Mailing). IfSome x.sent (IsSentAs folders (sent ++ (line ++ crlf)))) (sym e) (waits_more folders sent (line ++ crlf) now.mailing.sent m.waits);
-}
-append_begins folders sent line tag append now next m same begun reads (inr (ForLiteral Unasked purpose size, p, e)) = record {
-  same = same ∙ m.same;
-  begun = subst (λ (x : Mailing). IfSome x.begun (IsBegunAs folders (sent ++ (line ++ crlf)))) (sym e)
-      (begins folders sent line tag append mailbox _ reads (p.0 ∙ ap (number_named append.name) m.same) refl refl p.1 p.2 refl);
-  waits = subst (λ (x : Mailing). IfSome x.sent (IsSentAs folders (sent ++ (line ++ crlf)))) (sym e) (waits_more folders sent (line ++ crlf) now.mailing.sent m.waits);
+  begun = subst (λ (o : Option PendingLiteral). IfSome o (IsBegunAs folders (sent ++ bytes))) (sym begun) h;
+  waits = subst (λ (o : Option Sent). IfSome o (IsSentAs folders (sent ++ bytes))) (sym waits) (waits_more folders sent bytes now.mailing.sent m.waits);
 }
 
+-- a literal whose bytes are to come, for this
+abbrev coming : List ℕ → Purpose → ℕ → PendingLiteral
+coming tag purpose size = record { tag = tag; purpose = purpose; size = size; due = size; text = Some [] }
+
+-- it waits so for its literal
+waits_for_it : (A : Waiting → Type 0) (folders : List Folder) (sent bytes tag : List ℕ) (purpose : Purpose) (now next : Standing) → Mailed folders sent now → next.folders ≡ now.folders → (A ForDone → ⊥)
+    → ((mailbox : ℕ) (flags : Flags) (text : List ℕ) → A (ForVerdict mailbox flags text) → ⊥)
+    → ((p : Purpose) (size : ℕ) → A (ForLiteral Asked p size) → IsBegunAs folders (sent ++ bytes) (coming tag p size)) → ((p : Purpose) (size : ℕ) → A (ForLiteral Unasked p size) → IsBegunAs folders (sent ++ bytes) (coming tag p size))
+    → IsMail A tag (without_begun now).mailing next.mailing → Mailed folders (sent ++ bytes) next
+waits_for_it A folders sent bytes tag purpose now next m same no_done no_verdict asked unasked (inl e) = same_mail folders sent bytes now next m same (ap (λ (x : Mailing). x.sent) e) (ap (λ (x : Mailing). x.begun) e)
+waits_for_it A folders sent bytes tag purpose now next m same no_done no_verdict asked unasked (inr (ForDone, p, e)) = absurd (no_done p)
+waits_for_it A folders sent bytes tag purpose now next m same no_done no_verdict asked unasked (inr (ForVerdict mailbox flags text, p, e)) = absurd (no_verdict mailbox flags text p)
+waits_for_it A folders sent bytes tag purpose now next m same no_done no_verdict asked unasked (inr (ForNothing, p, e)) = same_mail folders sent bytes now next m same (ap (λ (x : Mailing). x.sent) e) (ap (λ (x : Mailing). x.begun) e)
+waits_for_it A folders sent bytes tag purpose now next m same no_done no_verdict asked unasked (inr (ForLiteral Dropped q size, p, e)) =
+    begun_mail folders sent bytes now next (record { tag = tag; purpose = q; size = size; due = size; text = None }) m same (ap (λ (x : Mailing). x.sent) e) (ap (λ (x : Mailing). x.begun) e) (dropped folders (sent ++ bytes) _ refl)
+waits_for_it A folders sent bytes tag purpose now next m same no_done no_verdict asked unasked (inr (ForLiteral Asked q size, p, e)) =
+    begun_mail folders sent bytes now next (coming tag q size) m same (ap (λ (x : Mailing). x.sent) e) (ap (λ (x : Mailing). x.begun) e) (asked q size p)
+waits_for_it A folders sent bytes tag purpose now next m same no_done no_verdict asked unasked (inr (ForLiteral Unasked q size, p, e)) =
+    begun_mail folders sent bytes now next (coming tag q size) m same (ap (λ (x : Mailing). x.sent) e) (ap (λ (x : Mailing). x.begun) e) (unasked q size p)
+
+-- an APPEND waits for its message
+append_begins : (folders : List Folder) (sent bytes line tag : List ℕ) (append : Append) (now next : Standing) → Mailed folders sent now → next.folders ≡ now.folders → SaysLine (sent ++ bytes) line → read line ≡ Ok (tag, commands.Append append)
+    → IsMail (ForItsLiteral (number_named append.name now.folders) append) tag (without_begun now).mailing next.mailing → Mailed folders (sent ++ bytes) next
+append_begins folders sent bytes line tag append now next m same says reads mail =
+    waits_for_it (ForItsLiteral (number_named append.name now.folders) append) folders sent bytes tag (Message (number_named append.name folders) append.flags) now next m same (λ p. p) (λ mailbox flags text p. p)
+    (λ p size h. begins p size h.0 h.1) (λ p size h. begins p size h.0 h.1) mail
+  where
+    begins : (purpose : Purpose) (size : ℕ) → purpose ≡ Message (number_named append.name now.folders) append.flags → size ≡ append.literal.size → IsBegunAs folders (sent ++ bytes) (coming tag purpose size)
+    begins purpose size p s =
+        begun_so (Message (number_named append.name now.folders) append.flags) folders (sent ++ bytes) (coming tag purpose size) refl (record {
+          front = says.front;
+          bytes = says.bytes;
+          line = line;
+          append = append;
+          spelled = says.spelled;
+          reads = reads;
+          named = ap (number_named append.name) m.same;
+          flags = refl;
+          size = omega (arith, s);
+          whole = says.whole ∙ sym (append-nil (says.front ++ (says.bytes ++ crlf)));
+        }) p
+
+-- a line that isn't whole waits for its argument
+argument_begins : (folders : List Folder) (sent bytes line tag : List ℕ) (found : ℕ × Announced) (now next : Standing) → Mailed folders sent now → next.folders ≡ now.folders → SaysLine (sent ++ bytes) line → announced line ≡ Some found
+    → IsMail (ForItsArgument line found) tag (without_begun now).mailing next.mailing → Mailed folders (sent ++ bytes) next
+argument_begins folders sent bytes line tag found now next m same says announces mail =
+    waits_for_it (ForItsArgument line found) folders sent bytes tag (Argument (take found.0 line)) now next m same (λ p. p) (λ mailbox flags text p. p) (λ p size h. begins p size h.0 h.1) (λ p size h. begins p size h.0 h.1) mail
+  where
+    begins : (purpose : Purpose) (size : ℕ) → purpose ≡ Argument (take found.0 line) → size ≡ found.1.size → IsBegunAs folders (sent ++ bytes) (coming tag purpose size)
+    begins purpose size p s =
+        begun_so (Argument (take found.0 line)) folders (sent ++ bytes) (coming tag purpose size) refl (record {
+          front = says.front;
+          bytes = says.bytes;
+          line = line;
+          found = found;
+          spelled = says.spelled;
+          announces = announces;
+          cut = refl;
+          size = omega (arith, s);
+          whole = says.whole ∙ sym (append-nil (says.front ++ (says.bytes ++ crlf)));
+        }) p
+
+-- and AUTHENTICATE for its response
+response_begins : (folders : List Folder) (sent bytes line tag said : List ℕ) (a : Authenticate) (now next : Standing) → Mailed folders sent now → next.folders ≡ now.folders → SaysLine (sent ++ bytes) line → read line ≡ Ok (said, commands.Authenticate a)
+    → IsMail (ForItsResponse line) tag (without_begun now).mailing next.mailing → Mailed folders (sent ++ bytes) next
+response_begins folders sent bytes line tag said a now next m same says reads mail =
+    waits_for_it (ForItsResponse line) folders sent bytes tag (Response line) now next m same (λ p. p) (λ mailbox flags text p. p) (λ p size h. begins p size h.0 h.1) (λ p size h. begins p size h.0 h.1) mail
+  where
+    begins : (purpose : Purpose) (size : ℕ) → purpose ≡ Response line → size ≡ 0 → IsBegunAs folders (sent ++ bytes) (coming tag purpose size)
+    begins purpose size p s =
+        begun_so (Response line) folders (sent ++ bytes) (coming tag purpose size) refl (record {
+          front = says.front;
+          bytes = says.bytes;
+          tag = said;
+          command = a;
+          spelled = says.spelled;
+          reads = reads;
+          size = omega (arith, s);
+          whole = says.whole ∙ sym (append-nil (says.front ++ (says.bytes ++ crlf)));
+        }) p
+
 -- ---- its bytes come, and then the rest of the line
+
+more_came : (purpose : Purpose) (folders : List Folder) (sent bytes had text : List ℕ) (kept : Bool) (a : PendingLiteral) → length bytes ≤ a.due → had ++ bytes ≡ text → IsBegunFor purpose folders sent a had → IsBegunFor purpose folders (sent ++ bytes) (taking kept bytes a) text
+more_came (Message mailbox flags) folders sent bytes had text kept a few all b = record {
+  front = b.front;
+  bytes = b.bytes;
+  line = b.line;
+  append = b.append;
+  spelled = b.spelled;
+  reads = b.reads;
+  named = b.named;
+  flags = b.flags;
+  size = omega (arith, b.size, few, ap length all, length-append had bytes);
+  whole = longer b.front (b.bytes ++ crlf) sent bytes had text b.whole all;
+}
+more_came (Argument before) folders sent bytes had text kept a few all b = record {
+  front = b.front;
+  bytes = b.bytes;
+  line = b.line;
+  found = b.found;
+  spelled = b.spelled;
+  announces = b.announces;
+  cut = b.cut;
+  size = omega (arith, b.size, few, ap length all, length-append had bytes);
+  whole = longer b.front (b.bytes ++ crlf) sent bytes had text b.whole all;
+}
+more_came (Response before) folders sent bytes had text kept a few all b = record {
+  front = b.front;
+  bytes = b.bytes;
+  tag = b.tag;
+  command = b.command;
+  spelled = b.spelled;
+  reads = b.reads;
+  size = omega (arith, b.size, few, ap length all, length-append had bytes);
+  whole = longer b.front (b.bytes ++ crlf) sent bytes had text b.whole all;
+}
 
 bytes_come : (folders : List Folder) (sent bytes : List ℕ) (kept : Bool) (a : PendingLiteral) → length bytes ≤ a.due → IsBegunAs folders sent a → IsBegunAs folders (sent ++ bytes) (taking kept bytes a)
 bytes_come folders sent bytes kept a few h text is = by kept a.text refl is
   where
-    the_text : List ℕ → Option (List ℕ) → List ℕ
-    the_text d None = d
-    the_text d (Some t) = t
-
-    by : (kept : Bool) (o : Option (List ℕ)) → a.text ≡ o → kept_text kept bytes o ≡ Some text → BegunWith folders (sent ++ bytes) (taking kept bytes a) text
+    by : (b : Bool) (o : Option (List ℕ)) → a.text ≡ o → kept_text b bytes o ≡ Some text → IsBegunFor a.purpose folders (sent ++ bytes) (taking kept bytes a) text
     by true None t e = absurd (none-some text e)
     by false None t e = absurd (none-some text e)
     by false (Some had) t e = absurd (none-some text e)
-    by true (Some had) t e =
-        let b = h had t in
-        let all : had ++ bytes ≡ text = ap (the_text text) e in record {
-          front = b.front;
-          line = b.line;
-          append = b.append;
-          reads = b.reads;
-          named = b.named;
-          flags = b.flags;
-          size = omega (arith, b.size, few, ap length all, length-append had bytes);
-          whole = ap (λ (x : List ℕ). x ++ bytes) b.whole ∙ append_assoc (b.front ++ (b.line ++ crlf)) had bytes ∙ ap (λ (x : List ℕ). (b.front ++ (b.line ++ crlf)) ++ x) all;
-        }
+    by true (Some had) t e = more_came a.purpose folders sent bytes had text kept a few (ap (the_text text) e) (h had t)
 
-rest_comes : (folders : List Folder) (sent line : List ℕ) (a : PendingLiteral) (now next : Standing) → Mailed folders sent now → next.folders ≡ now.folders → now.mailing.begun ≡ Some a → a.due ≡ 0
+rest_comes : (folders : List Folder) (sent line : List ℕ) (a : PendingLiteral) (to : Option ℕ) (with : Flags) (now next : Standing) → Mailed folders sent now → next.folders ≡ now.folders → now.mailing.begun ≡ Some a → a.purpose ≡ Message to with → a.due ≡ 0
     → IsMail (ForItsVerdict a (length line == 0)) a.tag (without_begun now).mailing next.mailing → Mailed folders (sent ++ (line ++ crlf)) next
-rest_comes folders sent line a now next m same begun due (inl e) = same_mail folders sent (line ++ crlf) now next m same (ap (λ (x : Mailing). x.sent) e) (ap (λ (x : Mailing). x.begun) e)
-rest_comes folders sent line a now next m same begun due (inr (ForDone, p, e)) = absurd p
-rest_comes folders sent line a now next m same begun due (inr (ForNothing, p, e)) = absurd p
-rest_comes folders sent line a now next m same begun due (inr (ForLiteral coming purpose size, p, e)) = absurd p
-rest_comes folders sent line a now next m same begun due (inr (ForVerdict mailbox flags text, p, e)) =
+rest_comes folders sent line a to with now next m same begun purpose due (inl e) = same_mail folders sent (line ++ crlf) now next m same (ap (λ (x : Mailing). x.sent) e) (ap (λ (x : Mailing). x.begun) e)
+rest_comes folders sent line a to with now next m same begun purpose due (inr (ForDone, p, e)) = absurd p
+rest_comes folders sent line a to with now next m same begun purpose due (inr (ForNothing, p, e)) = absurd p
+rest_comes folders sent line a to with now next m same begun purpose due (inr (ForLiteral coming q size, p, e)) = absurd p
+rest_comes folders sent line a to with now next m same begun purpose due (inr (ForVerdict mailbox flags text, p, e)) =
     let h : IsBegunAs folders sent a = subst (λ (o : Option PendingLiteral). IfSome o (IsBegunAs folders sent)) begun m.begun in
-    let b = h text p.2 in
+    let b : MessageWith folders sent to with a text = subst (λ (q : Purpose). IsBegunFor q folders sent a text) purpose (h text p.2) in
     let empty : line ≡ [] = no_bytes line p.3 in record {
       same = same ∙ m.same;
       begun = subst (λ (x : Mailing). IfSome x.begun (IsBegunAs folders (sent ++ (line ++ crlf)))) (sym e) tt;
       waits = subst (λ (x : Mailing). IfSome x.sent (IsSentAs folders (sent ++ (line ++ crlf)))) (sym e) (record {
         front = b.front;
+        bytes = b.bytes;
         line = b.line;
         behind = [];
         append = b.append;
+        spelled = b.spelled;
         reads = b.reads;
-        named = sym b.named ∙ p.0;
-        flags = p.1 ∙ b.flags;
+        named = sym b.named ∙ sym (ap mailbox_for purpose) ∙ p.0;
+        flags = p.1 ∙ ap flags_for purpose ∙ b.flags;
         size = omega (arith, b.size, due);
-        whole = ap (λ (x : List ℕ). sent ++ (x ++ crlf)) empty ∙ ap (λ (x : List ℕ). x ++ crlf) b.whole ∙ sym (append-nil (((b.front ++ (b.line ++ crlf)) ++ text) ++ crlf));
+        whole = ap (λ (x : List ℕ). sent ++ (x ++ crlf)) empty ∙ ap (λ (x : List ℕ). x ++ crlf) b.whole ∙ sym (append-nil (((b.front ++ (b.bytes ++ crlf)) ++ text) ++ crlf));
       });
     }
+
+-- ---- what its client sent as a command
+
+-- the rest of a line, behind what came before
+rejoined : (front bytes text line : List ℕ) → ((front ++ bytes) ++ text) ++ (line ++ crlf) ≡ front ++ (((bytes ++ text) ++ line) ++ crlf)
+rejoined front bytes text line = ap (λ (x : List ℕ). x ++ (line ++ crlf)) (append_assoc front bytes text) ∙ append_assoc front (bytes ++ text) (line ++ crlf) ∙ ap (λ (x : List ℕ). front ++ x) (sym (append_assoc (bytes ++ text) line crlf))
+
+-- where it isn't given up, it is what was joined
+joined_is : (text : Option (List ℕ)) (with : List ℕ → List ℕ) (whole : List ℕ) → if_kept (option_map with text) ≡ Some whole → (t : List ℕ) × (text ≡ Some t) × (with t ≡ whole)
+joined_is None with whole e = absurd (none-some whole e)
+joined_is (Some t) with whole e = (t, refl, by (nat_lt most_line (length (with t))) e)
+  where
+    by : (long : Bool) → (if long then None else Some (with t)) ≡ Some whole → with t ≡ whole
+    by true e = absurd (none-some whole e)
+    by false e = ap (the_text []) e
+
+says_line : (folders : List Folder) (sent line whole : List ℕ) (now : Standing) → Mailed folders sent now → due_of now.mailing.begun ≡ 0 → whole_line now line ≡ Some whole → SaysLine (sent ++ (line ++ crlf)) whole
+says_line folders sent line whole now m due e = behind now.mailing.begun now.idling m.begun due e
+  where
+    for : (a : PendingLiteral) (purpose : Purpose) → a.due ≡ 0 → ((text : List ℕ) → a.text ≡ Some text → IsBegunFor purpose folders sent a text) → whole_behind purpose a.text line ≡ Some whole → SaysLine (sent ++ (line ++ crlf)) whole
+    for a (Message mailbox flags) none h e = absurd (none-some whole e)
+    for a (Argument before) none h e =
+        let j = joined_is a.text (λ text. before ++ quoted text ++ line) whole e in
+        let b = h j.0 j.1 in record {
+          front = b.front;
+          bytes = b.bytes ++ crlf ++ j.0 ++ line;
+          spelled = subst (λ (x : List ℕ). IsSpelled (b.bytes ++ crlf ++ j.0 ++ line) x) (ap (λ (x : List ℕ). x ++ quoted j.0 ++ line) (sym b.cut) ∙ j.2)
+              (with_literal b.bytes b.line b.found j.0 line b.spelled b.announces (omega (arith, b.size, none)));
+          whole = ap (λ (x : List ℕ). x ++ (line ++ crlf)) b.whole ∙ rejoined b.front (b.bytes ++ crlf) j.0 line;
+        }
+    for a (Response before) none h e =
+        let j = joined_is a.text (λ text. before ++ codes " " ++ response_in line) whole e in
+        let b = h j.0 j.1 in
+        let empty : j.0 ≡ [] = no_text j.0 (omega (arith, b.size)) in record {
+          front = b.front;
+          bytes = b.bytes ++ crlf ++ line;
+          spelled = subst (λ (x : List ℕ). IsSpelled (b.bytes ++ crlf ++ line) x) j.2 (with_response b.bytes before b.tag b.command line b.spelled b.reads);
+          whole = ap (λ (x : List ℕ). x ++ (line ++ crlf)) b.whole ∙ rejoined b.front (b.bytes ++ crlf) j.0 line
+              ∙ ap (λ (t : List ℕ). b.front ++ ((((b.bytes ++ crlf) ++ t) ++ line) ++ crlf)) empty ∙ ap (λ (x : List ℕ). b.front ++ ((x ++ line) ++ crlf)) (append-nil (b.bytes ++ crlf));
+        }
+
+    behind : (begun : Option PendingLiteral) (idling : Option (List ℕ)) → IfSome begun (IsBegunAs folders sent) → due_of begun ≡ 0 → whole_in begun idling line ≡ Some whole → SaysLine (sent ++ (line ++ crlf)) whole
+    behind None None h none e = record { front = sent; bytes = line; spelled = subst (λ (x : List ℕ). IsSpelled line x) (ap (the_text []) e) (as_it_stands line); whole = refl }
+    behind None (Some tag) h none e = absurd (none-some whole e)
+    behind (Some a) idling h none e = for a a.purpose none h e
 
 -- ---- a turn
 
@@ -232,38 +409,46 @@ ComesInTurn now (Line line answers) = due_of now.mailing.begun ≡ 0
 ComesInTurn now (Literal kept bytes) = length bytes ≤ due_of now.mailing.begun
 ComesInTurn now happening = Unit {0}
 
-line_mailed : (folders : List Folder) (sent line : List ℕ) (now : Standing) (answers : List Answer) (turn : Turn) → Mailed folders sent now → due_of now.mailing.begun ≡ 0 → turn_of now line answers ≡ Some turn → Mailed folders (sent ++ (line ++ crlf)) turn.standing
-unfolding HasFolders
-line_mailed folders sent line now answers turn m due e = behind now.mailing.begun refl e
+-- a line that came as a command
+text_mailed : (folders : List Folder) (sent bytes line : List ℕ) (now : Standing) (answers : List Answer) (turn : Turn) → Mailed folders sent now → SaysLine (sent ++ bytes) line → turn.standing.folders ≡ now.folders
+    → on_text_line (without_begun now) line answers ≡ Some turn → Mailed folders (sent ++ bytes) turn.standing
+text_mailed folders sent bytes line now answers turn m says same e =
+    text_awaits (λ o. o ≡ Some turn → Mailed folders (sent ++ bytes) turn.standing) bare line answers
+    (λ tag found f d. argument_begins folders sent bytes line tag found now turn.standing m same says f (argument_mail tag bare line found answers turn d))
+    (λ tag a f d. response_begins folders sent bytes line tag tag a now turn.standing m same says f (response_mail tag bare line answers turn d)) (λ d. reads (read line) refl d) e
   where
-    same : turn.standing.folders ≡ now.folders
-    same = line_stays (HasFolders now.folders) (folders_keep now.folders) now line answers turn refl refl refl refl e
+    bare : Standing
+    bare = without_begun now
 
-    said : (text : List ℕ) (answers : List Answer) → now.mailing.begun ≡ None → only_says text now answers ≡ Some turn → Mailed folders (sent ++ (line ++ crlf)) turn.standing
-    said text [] none e = subst (λ (t : Turn). Mailed folders (sent ++ (line ++ crlf)) t.standing) (ap (the_turn turn) e) (same_mail folders sent (line ++ crlf) now now m refl refl none)
-    said text (a ∷ more) none e = absurd (none-some turn e)
+    only : turn.standing.mailing ≡ bare.mailing → Mailed folders (sent ++ bytes) turn.standing
+    only mailing = same_mail folders sent bytes now turn.standing m same (ap (λ (x : Mailing). x.sent) mailing) (ap (λ (x : Mailing). x.begun) mailing)
 
-    reads : (found : Result (List ℕ × Command) ImapFault) → read line ≡ found → now.mailing.begun ≡ None → on_read now found answers ≡ Some turn → Mailed folders (sent ++ (line ++ crlf)) turn.standing
-    reads (Err fault) is none e = said (fault_text now.profile fault) answers none e
-    reads (Ok l) is none e =
+    said : (text : List ℕ) (answers : List Answer) → only_says text bare answers ≡ Some turn → Mailed folders (sent ++ bytes) turn.standing
+    said text [] e = only (ap (λ (t : Turn). t.standing.mailing) (sym (ap (the_turn turn) e)))
+    said text (a ∷ more) e = absurd (none-some turn e)
+
+    reads : (found : Result (List ℕ × Command) ImapFault) → read line ≡ found → on_read bare found answers ≡ Some turn → Mailed folders (sent ++ bytes) turn.standing
+    reads (Err fault) is e = said (fault_text now.profile fault) answers e
+    reads (Ok l) is e =
         command_case l.1
         (λ append same_command.
-        let as_append : on_line (logs_in_as now.login (commands.Append append)) now l.0 (commands.Append append) answers ≡ Some turn = subst (λ (c : Command). on_line (logs_in_as now.login c) now l.0 c answers ≡ Some turn) same_command e in
-        append_begins folders sent line l.0 append now turn.standing m same none (subst (λ (c : Command). read line ≡ Ok (l.0, c)) same_command is) (append_mail l.0 now append answers turn as_append))
-        (λ other.
-        let mailing = other_mail l.0 now l.1 answers turn other e in
-        same_mail folders sent (line ++ crlf) now turn.standing m same (ap (λ (x : Mailing). x.sent) mailing) (ap (λ (x : Mailing). x.begun) mailing ∙ none))
+        let as_append : on_line (logs_in_as now.login (commands.Append append)) bare l.0 (commands.Append append) answers ≡ Some turn = subst (λ (c : Command). on_line (logs_in_as now.login c) bare l.0 c answers ≡ Some turn) same_command e in
+        append_begins folders sent bytes line l.0 append now turn.standing m same says (subst (λ (c : Command). read line ≡ Ok (l.0, c)) same_command is) (append_mail l.0 bare append answers turn as_append))
+        (λ other. only (other_mail l.0 bare l.1 answers turn other e))
 
-    while : (idling : Option (List ℕ)) → now.mailing.begun ≡ None → turn_while idling now line answers ≡ Some turn → Mailed folders (sent ++ (line ++ crlf)) turn.standing
-    while None none e = reads (read line) refl none e
-    while (Some tag) none e =
-        let mailing = idling_mail tag (record now { idling = None }) now.selected line answers turn e in
-        same_mail folders sent (line ++ crlf) now turn.standing m same (ap (λ (x : Mailing). x.sent) mailing) (ap (λ (x : Mailing). x.begun) mailing ∙ none)
-
-    behind : (begun : Option PendingLiteral) → now.mailing.begun ≡ begun → turn_behind begun now line answers ≡ Some turn → Mailed folders (sent ++ (line ++ crlf)) turn.standing
-    behind None none e = while now.idling none e
-    behind (Some a) is e =
-        rest_comes folders sent line a now turn.standing m same is (sym (ap due_of is) ∙ due) (rest_mail (without_begun now) now.mailing a (length line == 0) answers turn e)
+line_mailed : (folders : List Folder) (sent line : List ℕ) (now : Standing) (answers : List Answer) (turn : Turn) → Mailed folders sent now → due_of now.mailing.begun ≡ 0 → turn_of now line answers ≡ Some turn → Mailed folders (sent ++ (line ++ crlf)) turn.standing
+unfolding HasFolders
+line_mailed folders sent line now answers turn m due e =
+    turn_given (λ whole o. o ≡ Some turn → Mailed folders (sent ++ (line ++ crlf)) turn.standing) now line answers
+    (λ tag b i d. let mailing = idling_mail tag (record now { idling = None }) now.selected line answers turn d in
+    same_mail folders sent (line ++ crlf) now turn.standing m same (ap (λ (x : Mailing). x.sent) mailing) (ap (λ (x : Mailing). x.begun) mailing ∙ b))
+    (λ a mailbox flags b p d. rest_comes folders sent line a mailbox flags now turn.standing m same b p (sym (ap due_of b) ∙ due) (rest_mail (without_begun now) now.mailing a (length line == 0) answers turn d))
+    (λ a told parting b t p d. let mailing = given_mail a.tag (without_begun now) line told parting answers turn d in
+    same_mail folders sent (line ++ crlf) now turn.standing m same (ap (λ (x : Mailing). x.sent) mailing) (ap (λ (x : Mailing). x.begun) mailing))
+    (λ whole w d. text_mailed folders sent (line ++ crlf) whole now answers turn m (says_line folders sent line whole now m due w) same d) e
+  where
+    same : turn.standing.folders ≡ now.folders
+    same = line_stays (HasFolders now.folders) (folders_keep now.folders) now line answers turn refl refl refl e
 
 turned_folders : (selected : Option Selected) (idling : Bool) (now : Standing) (answers : List Answer) (turn : Turn) → idle_turn_in selected idling now answers ≡ Some turn → turn.standing.folders ≡ now.folders
 turned_folders (Some selected) true now [] turn e = absurd (none-some turn e)

@@ -4,10 +4,9 @@ use Rattle.std.specs.Prelude.{Option, Some, None, IfSome}
 use Rattle.std.proofs.lemmas.Option.{none-some}
 use Rattle.mailbox.specs.declared.clients.MailFault.TheVariants.{Stranger, Lapped}
 use Rattle.imap_session.specs.declared.standing.Selected.{Selected}
-use Rattle.imap_session.specs.Exchange.{Answer, Fed, Refused, Standing, Turn, PendingLiteral, is_idling, kept_behind, kept_tag, may_send}
+use Rattle.imap_session.specs.Exchange.{Answer, Fed, Refused, Standing, Turn, PendingLiteral, is_idling, kept_behind, may_send}
 use Rattle.imap_session.specs.Commands.{idle_turn_in, turn_of_long_line, with_bytes}
 use Rattle.laws_client.specs.Beliefs.{IsOf, Follows, Leads}
-use Rattle.laws_client.specs.Commands.{IsFollowed}
 use Rattle.laws_client.specs.ListLaws.{TalkIsFollowed}
 use Rattle.laws_client.specs.Talks.{Happening, Line, LongLine, Turned, Literal, Heard, MayHappen, leads_to}
 use Rattle.laws_client.specs.ListTurns.{AreTags, IsTag, SeesAll}

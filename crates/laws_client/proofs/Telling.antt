@@ -9,7 +9,6 @@ use Rattle.mailbox.specs.declared.clients.Row.{Row}
 use Rattle.mail_date.proofs.Plain.{message_dated}
 use Rattle.mail_date.specs.Fields.{message_date}
 use Rattle.imap_answers.specs.Answers.{answered, fetch_answer, item_text, part, part_bytes, row_answer, section, flags_answer}
-use Rattle.imap_grammar.specs.declared.items.BodyPart.{BodyPart}
 use Rattle.imap_grammar.specs.declared.items.FetchItem.{FetchItem}
 use Rattle.imap_grammar.specs.declared.items.FetchItem.TheVariants as fetch
 use Rattle.laws_client.specs.Client.{Known, closing, flag_names, into_first, items, knowing, number, unopened, with_flags, with_uid, words}

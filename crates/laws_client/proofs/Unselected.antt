@@ -14,8 +14,8 @@ use Rattle.imap_grammar.specs.declared.command.Command.{Command}
 use Rattle.imap_grammar.specs.declared.command.Command.TheVariants as commands
 use Rattle.imap_grammar.specs.declared.command.ImapFault.{ImapFault}
 use Rattle.imap_session.specs.declared.standing.Selected.{Selected}
-use Rattle.imap_session.specs.Exchange.{Answer, PendingLiteral, Entered, Left, Refused, Event, Exchange, Put, Enter, Leave, Folder, Standing, Turn, closed, having, kept_behind, kept_tag, played, refusal_after, refused, saying, tagged}
-use Rattle.imap_session.specs.Commands.{closing, entering, folder_of, on_command, on_folder, on_found, on_read, opened, says, telling_recent, turn_behind, turn_of, turn_while, wanting, entered_text, barred_at, logs_in_as, on_line, on_text_line, without_begun}
+use Rattle.imap_session.specs.Exchange.{Answer, Entered, Left, Refused, Event, Exchange, Put, Enter, Leave, Folder, Standing, Turn, closed, having, played, refusal_after, refused, saying, tagged}
+use Rattle.imap_session.specs.Commands.{closing, entering, folder_of, on_command, on_folder, on_found, on_read, opened, says, telling_recent, wanting, entered_text, barred_at, logs_in_as, on_line, on_text_line, without_begun}
 use Rattle.imap_session.specs.Store.{Met}
 use Rattle.imap_answers.specs.Answers.{all_flags, opening_text}
 use Rattle.laws_client.specs.ListTurns.{IsTag}
@@ -32,7 +32,6 @@ use Rattle.imap_session.specs.declared.standing.Profile.{Profile}
 use Rattle.imap_session.specs.declared.standing.Profile.TheVariants.{Standard, Compatible}
 use Rattle.imap_session.specs.declared.texts.ResponseText.{ResponseText}
 use Rattle.laws_client.proofs.Barred.{login_asks}
-use Rattle.change_ring.specs.declared.change.Flags.{Flags}
 use Rattle.laws_client.proofs.WholeLines.{unfinished_asks, text_has, whole_turn}
 
 -- ---- the OK behind what is told of a mailbox that was entered

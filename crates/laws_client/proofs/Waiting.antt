@@ -337,9 +337,10 @@ append_waits most folders a = by (number_named a.name folders)
         in_either (ForItsLiteral (Some m) a) a.literal.waits _ _ (in_either (ForItsLiteral (Some m) a) (is_over most a.literal.size) (over most) _ (over_waits (ForItsLiteral (Some m) a) most) (refl, refl))
         (in_either (ForItsLiteral (Some m) a) (nat_lt most_unasked a.literal.size) _ _ tt (refl, refl))
 
--- an IDLE waits for DONE, and nothing else waits
+-- an IDLE waits for DONE, a session that ends for nothing more, and nothing else waits
 abbrev pub ForItsDone : Waiting → Type 0
 ForItsDone ForDone = Unit {0}
+ForItsDone ForNothing = Unit {0}
 ForItsDone w = ⊥
 
 -- a command that is no APPEND

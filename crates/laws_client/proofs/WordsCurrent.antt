@@ -12,8 +12,8 @@ use Rattle.imap_grammar.specs.Reading.{is_done}
 use Rattle.imap_grammar.specs.declared.command.Command.TheVariants as commands
 use Rattle.imap_session.specs.declared.standing.After.TheVariants.{Go}
 use Rattle.imap_session.specs.declared.standing.Selected.{Selected}
-use Rattle.imap_session.specs.Exchange.{Answer, PendingLiteral, Counted, Refused, Count, Done, Feed, Sent, Standing, Turn, having, is_idling, kept_behind, kept_tag, played, refusal_text, refused}
-use Rattle.imap_session.specs.Commands.{appended_words, completed, on_idle_line, on_verdict, refused_text, says, showing, turn_behind, turn_of, turn_while, turn_with, unlimited, without_begun, without_sent}
+use Rattle.imap_session.specs.Exchange.{Answer, PendingLiteral, Counted, Refused, Count, Done, Feed, Sent, Standing, Turn, having, is_idling, played, refusal_text, refused}
+use Rattle.imap_session.specs.Commands.{appended_words, completed, on_idle_line, on_verdict, refused_text, says, showing, turn_of, turn_with, unlimited, without_begun, without_sent}
 use Rattle.imap_session.specs.Store.{Met}
 use Rattle.laws_client.specs.Beliefs.{IsRight}
 use Rattle.laws_client.specs.Client.{Client, Known, knowing, reads}

@@ -1,5 +1,5 @@
 -- A whole talk of a session with its client, in one mailbox: what happens one after the other, and all that is written.
-use Rattle.std.specs.Prelude.{◌≡◌, ℕ, Bool, List, [], ◌∷◌, ◌++◌, Option, Some, None}
+use Rattle.std.specs.Prelude.{◌≡◌, ℕ, Bool, List, [], ◌∷◌, ◌++◌, Option, Some}
 use Rattle.delivery_token.specs.declared.Verdict.{Verdict}
 use Rattle.imap_session.specs.Exchange.{Answer, Standing, Turn, may_send, nothing_more}
 use Rattle.imap_session.specs.Commands.{idle_turn, turn_of, turn_of_long_line, turn_of_verdict, with_bytes}

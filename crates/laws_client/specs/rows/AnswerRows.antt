@@ -1,12 +1,13 @@
 -- How answers end, which numbers their last lines tell, and how a client cuts what it reads.
 use Rattle.std.specs.Prelude.{◌≡◌, ℕ, List, true, false, codes, [], ◌∷◌}
+use Rattle.imap_grammar.specs.Literals.{announced}
 use Rattle.imap_grammar.specs.Reading.{read}
 use Rattle.imap_session.specs.Exchange.{Sent}
 use Rattle.std.specs.Fmt.{digits}
 use Rattle.std.proofs.Common.{refl}
 use Rattle.imap_session.specs.Commands.{appended_words}
 use Rattle.imap_session.specs.Telling.{tells_uid}
-use Rattle.laws_client.specs.Appends.{EndsWith, IsSentAs, last_line}
+use Rattle.laws_client.specs.Appends.{EndsWith, IsSentAs, IsSpelled, as_it_stands, last_line, with_literal, with_response}
 use Rattle.laws_client.specs.Clients.{Answer, Words}
 use Rattle.laws_client.specs.Cuts.{amid, between, cut_between, cuts, is_ended}
 
@@ -43,15 +44,45 @@ sent_so : IsSentAs (record { name = codes "INBOX"; mailbox = 4 } ∷ []) (codes 
 unfolding read
 sent_so = record {
   front = codes "a0 NOOP\r\n";
+  bytes = codes "a1 APPEND INBOX (\\Seen) {3}";
   line = codes "a1 APPEND INBOX (\\Seen) {3}";
   behind = codes "a2 LOGOUT\r\n";
   append = record { name = codes "INBOX"; flags = record { answered = false; flagged = false; deleted = false; seen = true; draft = false }; literal = record { size = 3; waits = true } };
+  spelled = as_it_stands (codes "a1 APPEND INBOX (\\Seen) {3}");
   reads = refl;
   named = refl;
   flags = refl;
   size = refl;
   whole = refl;
 }
+
+-- and one that names its mailbox by a literal
+sent_by_literals : IsSentAs (record { name = codes "INBOX"; mailbox = 4 } ∷ []) (codes "a1 APPEND {5}\r\ninbox (\\Seen) {3+}\r\nx\r\n\r\n") (a_message 4 (codes "x\r\n"))
+unfolding read announced
+sent_by_literals = record {
+  front = [];
+  bytes = codes "a1 APPEND {5}\r\ninbox (\\Seen) {3+}";
+  line = codes "a1 APPEND \"inbox\" (\\Seen) {3+}";
+  behind = [];
+  append = record { name = codes "inbox"; flags = record { answered = false; flagged = false; deleted = false; seen = true; draft = false }; literal = record { size = 3; waits = false } };
+  spelled = with_literal (codes "a1 APPEND {5}") (codes "a1 APPEND {5}") (10, record { size = 5; waits = true }) (codes "inbox") (codes " (\\Seen) {3+}") (as_it_stands (codes "a1 APPEND {5}")) refl refl;
+  reads = refl;
+  named = refl;
+  flags = refl;
+  size = refl;
+  whole = refl;
+}
+
+-- two literals, and a response
+spelled_twice : IsSpelled (codes "a LOGIN {2+}\r\nme {3+}\r\na\"b") (codes "a LOGIN \"me\" \"a\\\"b\"")
+unfolding announced
+spelled_twice =
+    with_literal (codes "a LOGIN {2+}\r\nme {3+}") (codes "a LOGIN \"me\" {3+}") (13, record { size = 3; waits = false }) (codes "a\"b") []
+    (with_literal (codes "a LOGIN {2+}") (codes "a LOGIN {2+}") (8, record { size = 2; waits = false }) (codes "me") (codes " {3+}") (as_it_stands (codes "a LOGIN {2+}")) refl refl) refl refl
+
+responds : IsSpelled (codes "a AUTHENTICATE PLAIN\r\nAHgAeQ==") (codes "a AUTHENTICATE PLAIN AHgAeQ==")
+unfolding read
+responds = with_response (codes "a AUTHENTICATE PLAIN") (codes "a AUTHENTICATE PLAIN") (codes "a") _ (codes "AHgAeQ==") (as_it_stands (codes "a AUTHENTICATE PLAIN")) refl
 
 -- ---- cuts
 
