@@ -159,8 +159,8 @@ impl Session {
         requires alone { self.old.mailing.begun ≡ None }
         requires unsent { self.old.mailing.sent ≡ None }
         requires fits { vec_len out.old + (length tag.now + LAST) ≤ vec_capacity out.old }
-        ensures leads { Leads tag.now self.old (awaiting_response line.now) out.old.items out.new.items
-            result self.new }
+        ensures leads { Leads tag.now self.old (awaiting_response line.now) out.old.items
+            out.new.items result self.new }
         ensures folders { self.new.folders ≡ self.old.folders }
         ensures sends { result ≡ may_send self.new }
     {
