@@ -765,9 +765,14 @@ match all action "keep"
 
 
 def fdm(place):
-    place.run("fdm", "-f", place.write("fdm.conf", FDM % (place.port, place.room)), "-l", "-vv", "fetch")
-    if maildir(place.room / "maildir") == unix(BROUGHT):
+    # Its children run as a user of their own, who may not write into the room.
+    place.run("env", "TMPDIR=/tmp", "fdm", "-f", place.write("fdm.conf", FDM % (place.port, place.room)), "-vv", "fetch")
+    # It adds a field of its own to each message.
+    texts = [re.sub(rb"Received: by localhost .*?\n(?!\s)", b"", text, count=1, flags=re.DOTALL) for text in maildir(place.room / "maildir")]
+    if sorted(texts) == unix(BROUGHT):
         yield "reads"
+    if place.mailbox() == {}:
+        yield "removes"
 
 
 PHP = r"""
@@ -976,9 +981,9 @@ KNOWN = {
     "offlineimap3": Known(offlineimap, programs("offlineimap"), "reads flags removes uploads"),
     "mutt": Known(mutt, programs("mutt"), "reads flags removes"),
     # It goes on to LOGIN.
-    "neomutt": Known(neomutt, programs("neomutt"), "reads flags removes", (f"AUTHENTICATE PLAIN {NOT_HERE}",)),
+    "neomutt": Known(neomutt, programs("neomutt"), "reads flags removes"),
     "mbsync": Known(mbsync, programs("mbsync"), "reads flags removes uploads"),
-    "interimap": Known(interimap, programs("interimap"), "", ("Server did not advertise ENABLE (RFC 5161) capability.",)),
+    "interimap": Known(interimap, programs("interimap"), "", ("Server did not advertise QRESYNC capability.",)),
     "aerc": Known(aerc, programs("aerc"), "", (f"UID FETCH 1:3 (BODYSTRUCTURE ENVELOPE INTERNALDATE FLAGS UID BODY.PEEK[HEADER]) {INVALID}",)),
     "alpine": Known(
         alpine,
@@ -990,7 +995,7 @@ KNOWN = {
     "s-nail": Known(s_nail, programs("s-nail"), ALL),
     "mailutils' movemail": Known(movemail, programs("movemail.mailutils"), "", (f"FETCH 1:* (UID FLAGS ENVELOPE RFC822.SIZE BODY BODY.PEEK[HEADER]) {INVALID}",)),
     "mailutils' mail": Known(mailutils_mail, programs("mail.mailutils"), "", (f"FETCH 1:* (UID FLAGS ENVELOPE RFC822.SIZE BODY BODY.PEEK[HEADER]) {INVALID}",)),
-    "fdm": Known(fdm, programs("fdm"), "", (f"LOGIN {{5}} {INVALID}",)),
+    "fdm": Known(fdm, programs("fdm"), "reads removes"),
     "PHP imap": Known(php, PHP_HAS, ALL),
     "PHP imap's overview": Known(php_overview, PHP_HAS, "", (f"FETCH .. (UID ENVELOPE BODY.PEEK[HEADER.FIELDS (..)] INTERNALDATE RFC822.SIZE FLAGS) {INVALID}",)),
     # It asks for an overview of what was found.

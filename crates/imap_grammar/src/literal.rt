@@ -70,7 +70,8 @@ fn put_byte(b: u8, out: &mut Vec<u8>)
         ≤ vec_capacity out.old }
     ensures text { out.new.items
         ≡ out.old.items ++ (if is_special b then 92 ∷ b ∷ [] else b ∷ []) }
-    ensures len { vec_len out.new ≡ vec_len out.old + length (if is_special b then 92 ∷ b ∷ [] else b ∷ []) }
+    ensures len { vec_len out.new
+        ≡ vec_len out.old + length (if is_special b then 92 ∷ b ∷ [] else b ∷ []) }
     ensures capacity { vec_capacity out.new ≡ vec_capacity out.old }
 {
     if is_special(b) {

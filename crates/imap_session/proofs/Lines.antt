@@ -9,11 +9,10 @@ use Rattle.imap_grammar.specs.declared.command.ImapFault.{ImapFault}
 use Rattle.imap_grammar.specs.Reading.{is_done, read}
 use Rattle.imap_session.specs.declared.standing.After.{After}
 use Rattle.imap_session.specs.declared.standing.After.TheVariants.{Go, Idle}
-use Rattle.imap_session.specs.declared.standing.SessionFault.{SessionFault}
 use Rattle.imap_session.specs.declared.standing.Profile.{Profile}
 use Rattle.imap_session.specs.declared.standing.Selected.{Selected}
 use Rattle.imap_session.specs.Exchange.{Answer, Argument, Exchange, ForNothing, Wait, bye, Message, PendingLiteral, Purpose, Response as ForResponse, Call, Standing, Starved, closed, played, tagged, continuing}
-use Rattle.imap_session.specs.Commands.{awaiting_response, comes_unasked, given_up, lacks_part, literal_in, most_line, on_behind, on_joined, on_part, on_rest_of, on_text_line, response_in, wants_response, barred, barred_at, completed, fault_text, logged_in, logs_in_as, on_command, on_found, on_idle_line, on_line, on_read, says, appending, showing, on_rest, turn_behind, turn_of, turn_while, without_begun}
+use Rattle.imap_session.specs.Commands.{awaiting_response, comes_unasked, given_up, lacks_part, literal_in, most_line, on_behind, on_joined, on_part, on_rest_of, on_text_line, response_in, wants_response, barred, barred_at, completed, fault_text, logged_in, logs_in_as, on_command, on_found, on_idle_line, on_line, on_read, says, appending, showing, on_rest, turn_behind, turn_while, without_begun}
 use Rattle.imap_session.specs.Store.{Answers}
 use Rattle.imap_session.specs.inner.Lines.{AnswersJoined, AnswersText, Had, IsJoined, is_message, on_rest_part}
 use Rattle.imap_grammar.specs.Literals.{announced, quoted}

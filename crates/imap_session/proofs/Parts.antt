@@ -1,5 +1,5 @@
 -- Lines of a command that aren't whole yet, or are given up: what is done about them is one of five things.
-use Rattle.std.proofs.Common.{◌≡◌, ℕ, Bool, true, false, List, [], ◌∷◌, ◌++◌, sym, take, subst, Option, Some, None, Result, Ok, Err, refl, ap, length, codes, ◌+◌, ◌==◌, if◌then◌else◌}
+use Rattle.std.proofs.Common.{◌≡◌, ℕ, Bool, true, false, List, [], ◌++◌, sym, take, subst, Option, Some, None, Result, Ok, Err, refl, ap, length, codes, ◌+◌, ◌==◌, if◌then◌else◌}
 use Rattle.std.specs.Prelude.{nat_lt}
 use Rattle.std.specs.Option.{option_map}
 use Rattle.imap_grammar.specs.declared.command.Command.{Command}

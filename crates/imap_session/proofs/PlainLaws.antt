@@ -1,5 +1,5 @@
 -- What a response is once it is decoded.
-use Rattle.std.proofs.Common.{◌≡◌, ℕ, Bool, true, false, List, [], ◌∷◌, ◌++◌, refl, Option, Some, None, Result, Ok, Err, ap, sym, ◌∙◌, subst, length, take, drop, if◌then◌else◌}
+use Rattle.std.proofs.Common.{◌≡◌, ℕ, Bool, true, false, List, [], ◌∷◌, ◌++◌, refl, Option, Some, None, Result, Ok, Err, ap, sym, ◌∙◌, length, take, drop, if◌then◌else◌}
 use Rattle.std.specs.Result.{is_ok}
 use Rattle.base64.specs.Decode.{decode_slice_result, decoded_bytes, groups_before_last, groups_error, lone_error, or_else, or_error, suffix_error}
 use Rattle.base64.specs.declared.engine.DecodePaddingMode.{DecodePaddingMode}

@@ -1,5 +1,5 @@
 -- What a response to AUTHENTICATE PLAIN says (RFC 4616, 2).
-use Rattle.std.specs.Prelude.{ℕ, Bool, true, false, List, length, Option, Some, None, if◌then◌else◌, ◌==◌, ◌&&◌, ◌||◌, codes}
+use Rattle.std.specs.Prelude.{ℕ, Bool, false, List, length, Option, Some, None, if◌then◌else◌, ◌==◌, ◌&&◌, ◌||◌, codes}
 use Rattle.std.specs.Result.{is_ok}
 use Rattle.std.specs.Str.{bytes_eq, str_eq_ignore_ascii_case as is_same}
 use Rattle.base64.specs.Engines.{standard}

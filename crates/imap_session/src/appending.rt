@@ -1,14 +1,15 @@
-//! The line of an APPEND, and the literal that it announces: whether that is asked for, and what becomes of it where memory is refused.
-//! What is said where is told in specs/Commands.antt; what comes behind the literal in `session`.
+//! The line of an APPEND, and the literal that it announces: whether that is asked for, what becomes of it where memory is refused, and how the message
+//! is submitted once it is there. What is said where is told in specs/Commands.antt.
 
 use crate::folders::find_folder;
-use crate::mailing::{PendingLiteral, Purpose, begin_text, refused_size};
-use crate::response::Response;
+use crate::mailing::{PendingLiteral, Purpose, Sent, begin_text, judge, refused_size};
+use crate::response::{LAST, Response, put_last};
 use crate::say::{put_bye, put_continuing, put_tagged};
 use crate::session::Session;
-use crate::standing::After;
+use crate::standing::{After, Append};
 use crate::tag::Tag;
 use crate::texts::ResponseText;
+use delivery_token::Text;
 use imap_grammar::{Append as AppendCommand, Name};
 use std::alloc::{AllocError, Global};
 
@@ -16,14 +17,15 @@ use std::alloc::{AllocError, Global};
 pub(crate) const MOST_UNASKED: u64 = 4_096;
 
 impl Session {
-    ghost use Rattle.std.specs.Prelude.{◌≡◌, ◌^◌, ◌<◌, ◌≤◌, min, true, false, [], length, None, Some, IfOk, IfSome};
+    ghost use Rattle.std.specs.Prelude.{◌≡◌, ◌^◌, ◌<◌, ◌≤◌, min, true, false, [], length, vec_len, ◌==◌, ◌+◌, ◌++◌, ℕ, List, None, Some, IfErr, IfOk, IfSome, OnErr, OnOk};
     ghost use Rattle.std.specs.Option.{option_map};
     ghost use Rattle.std.specs.Vec.{vec_capacity};
-    ghost use Rattle.imap_session.specs.Exchange.{may_send};
-    ghost use Rattle.imap_session.specs.Commands.{appending, asking, coming, number_named, wanting};
+    ghost use Rattle.imap_session.specs.Exchange.{may_send, tagged};
+    ghost use Rattle.imap_session.specs.Commands.{appending, asking, coming, number_named, on_rest, wanting};
     ghost use Rattle.imap_session.specs.Store.{most_first_room};
     ghost use Rattle.imap_session.specs.inner.Appends.{Leads};
-    ghost use Rattle.imap_session.specs.inner.Seen.{HasLineRoom, purpose_of};
+    ghost use Rattle.imap_session.specs.Texts.{response_text};
+    ghost use Rattle.imap_session.specs.inner.Seen.{HasLineRoom, pending_of, purpose_of};
 
     // Waits for the bytes of a literal.
     pub(crate) fn begin_literal(
@@ -234,5 +236,82 @@ impl Session {
             return After::Bye;
         }
         self.expect_literal(alloc, append, response, out)
+    }
+
+    // Answers the rest of a line behind the literal of a message.
+    pub(crate) fn message_line(
+        &mut self,
+        begun: PendingLiteral,
+        rest: &[u8],
+        out: &mut Vec<u8>,
+    ) -> After
+        requires going { self.old.ended ≡ false }
+        requires awake { self.old.idling ≡ None }
+        requires alone { self.old.mailing.begun ≡ None }
+        requires unsent { self.old.mailing.sent ≡ None }
+        requires fits { vec_len out.old + (length begun.tag + LAST) ≤ vec_capacity out.old }
+        ensures leads { Leads begun.tag self.old
+            (on_rest self.old.mailing (pending_of begun) (length rest.now == 0)) out.old.items
+            out.new.items result self.new }
+        ensures folders { self.new.folders ≡ self.old.folders }
+        ensures sends { result ≡ may_send self.new }
+    {
+        match self.submit(begun, rest.is_empty()) {
+            Ok(()) => After::Submit,
+            Err((tag, text)) => {
+                put_last(tag.as_slice(), text, out);
+                After::Go
+            }
+        }
+    }
+
+    // Submits a message whose bytes are all there, or gives its tag back with what the last line says.
+    fn submit(&mut self, begun: PendingLiteral, ends: bool) -> Result<(), (Tag, ResponseText)>
+        requires going { self.old.ended ≡ false }
+        requires awake { self.old.idling ≡ None }
+        requires alone { self.old.mailing.begun ≡ None }
+        requires unsent { self.old.mailing.sent ≡ None }
+        ensures sent { OnOk result ((before : List ℕ)
+            → Leads begun.tag self.old (on_rest self.old.mailing (pending_of begun) ends) before
+            before
+            After.Submit self.new) }
+        ensures refused { IfErr result (λ told. (before : List ℕ)
+            → Leads begun.tag self.old (on_rest self.old.mailing (pending_of begun) ends)
+            before (before ++ tagged told.0 (response_text told.1)) After.Go self.new) }
+        ensures tag { IfErr result (λ told. told.0 ≡ begun.tag) }
+        ensures folders { self.new.folders ≡ self.old.folders }
+        ensures waits { OnOk result (may_send self.new ≡ After.Submit) }
+        ensures goes { OnErr result (may_send self.new ≡ After.Go) }
+    {
+        let PendingLiteral {
+            tag,
+            purpose,
+            size,
+            due: _,
+            text,
+        } = begun;
+        let mailbox = purpose.mailbox();
+        let flags = purpose.flags();
+        let most = self.mailing.most;
+        let message = self.mailing.number;
+        match judge(text, mailbox, size, most, message, ends) {
+            Err(text) => Err((tag, text)),
+            Ok((mailbox, text)) => {
+                let Ok(text) = Text::new(text) else {
+                    return Err((tag, ResponseText::OutOfMemory));
+                };
+                self.mailing.number = message + 1;
+                self.mailing.sent = Some(Sent {
+                    tag,
+                    append: Append {
+                        message,
+                        mailbox,
+                        text,
+                        flags,
+                    },
+                });
+                Ok(())
+            }
+        }
     }
 }

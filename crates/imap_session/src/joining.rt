@@ -2,24 +2,30 @@
 //! What is said where is told in specs/Commands.antt; how a part is put in its place in `unfinished`, and messages that a client appends in `appending`.
 
 use crate::appending::MOST_UNASKED;
-use crate::mailing::{Purpose, begin_text};
+use crate::mailing::{PendingLiteral, Purpose, begin_text};
 use crate::response::{LAST, put_last};
 use crate::say::{put_bye, put_challenge, put_continuing};
 use crate::session::Session;
 use crate::standing::After;
+use crate::store::Store;
 use crate::tag::Tag;
 use crate::texts::ResponseText;
-use crate::unfinished::{DueArgument, MOST_LINE, comes_unasked, keep_line};
+use crate::turn::FIRST;
+use crate::unfinished::{
+    DueArgument, MOST_LINE, comes_unasked, keep_line, with_argument, with_response,
+};
 use std::alloc::{AllocError, Global};
 
 impl Session {
-    ghost use Rattle.std.specs.Prelude.{◌≡◌, ◌≤◌, ◌+◌, min, length, vec_len, IfOk, None, false, true, []};
+    ghost use Rattle.std.specs.Prelude.{◌≡◌, ◌≤◌, ◌+◌, ℕ, List, min, length, vec_len, IfOk, IfSome, None, false, true, []};
     ghost use Rattle.std.specs.Vec.{vec_capacity};
     ghost use Rattle.imap_session.specs.Exchange.{may_send};
     ghost use Rattle.imap_session.specs.Commands.{awaiting_argument, awaiting_response, given_up, most_line};
     ghost use Rattle.imap_session.specs.Texts.{response_text};
     ghost use Rattle.imap_session.specs.Store.{most_first_room};
     ghost use Rattle.imap_session.specs.inner.Appends.{Leads};
+    ghost use Rattle.imap_session.specs.inner.Lines.{AnswersJoined, Had, IsJoined, is_message, on_rest_part};
+    ghost use Rattle.imap_session.specs.inner.Seen.{HasFirstRoom, pending_of, purpose_of};
 
     // What a literal that is an argument is kept in: the front of its line, and room for its text.
     fn begin_argument(
@@ -153,8 +159,8 @@ impl Session {
         requires alone { self.old.mailing.begun ≡ None }
         requires unsent { self.old.mailing.sent ≡ None }
         requires fits { vec_len out.old + (length tag.now + LAST) ≤ vec_capacity out.old }
-        ensures leads { Leads tag.now self.old (awaiting_response line.now) out.old.items out.new.items
-            result self.new }
+        ensures leads { Leads tag.now self.old (awaiting_response line.now) out.old.items
+            out.new.items result self.new }
         ensures folders { self.new.folders ≡ self.old.folders }
         ensures sends { result ≡ may_send self.new }
     {
@@ -197,5 +203,84 @@ impl Session {
         }
         put_last(tag, told, out);
         After::Go
+    }
+
+    // Answers a line with its literals in it, which ends so, in room that was reserved; None where it is too long.
+    fn joined_line<S: Store>(
+        &mut self,
+        alloc: Global,
+        tag: &[u8],
+        line: Option<Vec<u8>>,
+        rest: &[u8],
+        store: &mut S,
+        out: &mut Vec<u8>,
+    ) -> After
+        requires going { self.old.ended ≡ false }
+        requires awake { self.old.idling ≡ None }
+        requires alone { self.old.mailing.begun ≡ None }
+        requires unsent { self.old.mailing.sent ≡ None }
+        requires short { IfSome line (λ l. length l.items ≤ most_line) }
+        requires fits { vec_len out.old + (length tag.now + MOST_LINE + LAST + FIRST)
+            ≤ vec_capacity out.old }
+        ensures answered { (whole : List ℕ) → IsJoined line whole
+            → AnswersJoined S.step tag.now self.old whole rest.now store.old store.new out.old.items
+            out.new.items result self.new }
+        ensures folders { self.new.folders ≡ self.old.folders }
+        ensures sends { result ≡ may_send self.new }
+    {
+        match line {
+            Some(line) => self.text_line(alloc, &line, store, out),
+            None => {
+                let told = ResponseText::LineTooLong;
+                self.give_up(tag, rest, told, ResponseText::LiteralTooBig, out)
+            }
+        }
+    }
+
+    // Answers the rest of a line behind a literal that is an argument of it, or behind a challenge.
+    pub(crate) fn part_line<S: Store>(
+        &mut self,
+        alloc: Global,
+        begun: PendingLiteral,
+        rest: &[u8],
+        store: &mut S,
+        out: &mut Vec<u8>,
+    ) -> After
+        requires going { self.old.ended ≡ false }
+        requires awake { self.old.idling ≡ None }
+        requires alone { self.old.mailing.begun ≡ None }
+        requires unsent { self.old.mailing.sent ≡ None }
+        requires part { is_message (purpose_of begun.purpose) ≡ false }
+        requires room { HasFirstRoom begun }
+        requires fits { vec_len out.old + (length begun.tag + MOST_LINE + LAST + FIRST)
+            ≤ vec_capacity out.old }
+        ensures answered { Had (on_rest_part (pending_of begun) self.old rest.now) S.step
+            store.old store.new out.old.items out.new.items result self.new }
+        ensures folders { self.new.folders ≡ self.old.folders }
+        ensures sends { result ≡ may_send self.new }
+    {
+        let PendingLiteral {
+            tag,
+            purpose,
+            size: _,
+            due: _,
+            text,
+        } = begun;
+        let tag = tag.as_slice();
+        let Some(text) = text else {
+            let told = ResponseText::OutOfMemory;
+            return self.give_up(tag, rest, told, ResponseText::ByeOutOfMemory, out);
+        };
+        match purpose {
+            Purpose::Argument(before) => {
+                let line = with_argument(before, &text, rest);
+                self.joined_line(alloc, tag, line, rest, store, out)
+            }
+            Purpose::Response(before) => {
+                let line = with_response(before, rest);
+                self.joined_line(alloc, tag, line, rest, store, out)
+            }
+            Purpose::Message { .. } => unreachable!(),
+        }
     }
 }

@@ -39,9 +39,10 @@ pub fn rest_shows_none()
 
 /// A line that isn't whole yet shows no changes, asks nothing of the store and has no tagged OK; nor has one that is given up.
 pub fn parts_show_none()
-    ensures unfinished { (profile : Profile) (login : Option (List ℕ)) (line tag : List ℕ) (x : Exchange)
-        → unfinished profile login line ≡ Some (tag, x) → PartShowsNone x }
-    ensures given_up { (rest : List ℕ) → PartShowsNone (given_up rest texts.LineTooLong texts.LiteralTooBig)
+    ensures unfinished { (profile : Profile) (login : Option (List ℕ)) (line tag : List ℕ)
+        (x : Exchange) → unfinished profile login line ≡ Some (tag, x) → PartShowsNone x }
+    ensures given_up { (rest : List ℕ)
+        → PartShowsNone (given_up rest texts.LineTooLong texts.LiteralTooBig)
         × PartShowsNone (given_up rest texts.OutOfMemory texts.ByeOutOfMemory) }
 {}
 

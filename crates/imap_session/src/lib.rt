@@ -6,6 +6,7 @@
 mod access;
 mod appended;
 mod appending;
+mod command_line;
 mod connection;
 mod count;
 mod expunge;

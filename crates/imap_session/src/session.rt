@@ -1,22 +1,18 @@
 //! The session of one client, from its greeting to its end.
 //! What it answers to a line is told in specs/Commands.antt, and how one line is carried out in `turn`.
 
-use crate::access::{barred_at, logs_in_as};
 use crate::appended::{STORED, tell_verdict};
-use crate::mailing::{Mailing, PendingLiteral, Purpose, Sent, judge, long_rest_text};
+use crate::mailing::{Mailing, PendingLiteral, Sent, long_rest_text};
 use crate::response::{LAST, Response, put_last};
 use crate::say::{put_continuing, put_of_server, put_tagged, put_untagged};
 use crate::standing::{Admission, After, Append, Folder, Profile, Selected, SessionFault};
 use crate::store::Store;
 use crate::tag::Tag;
 use crate::texts::{ResponseText, ServerText};
-use crate::turn::{
-    FIRST, after_command, append_of, carry_out, end_idle, is_idle, put_fault, put_first_line,
-};
-use crate::unfinished::{MOST_LINE, argument_due, wants_response, with_argument, with_response};
+use crate::turn::{FIRST, after_command, carry_out, end_idle};
 use crate::user::UserName;
-use delivery_token::{Text, Verdict};
-use imap_grammar::{Command, ImapFault, Verb, read_line};
+use delivery_token::Verdict;
+use imap_grammar::{Command, Verb};
 use mailbox::MailFault;
 use std::alloc::{AllocError, Global};
 use std::marker::Model;
@@ -51,18 +47,14 @@ impl Model for Session {
 }
 
 impl Session {
-    ghost use Rattle.std.specs.Prelude.{◌≡◌, ◌≢◌, ◌==◌, ◌^◌, ◌⊎◌, ◌+◌, ◌<◌, ◌≤◌, ◌++◌, ◌↔◌, ℕ, List, IfErr, IfSome, Ok, take, min, if◌then◌else◌, true, false, [], codes, length, is_some, None, Some, Err, OnOk, OnErr, IfOk, vec_len};
+    ghost use Rattle.std.specs.Prelude.{◌≡◌, ◌≢◌, ◌==◌, ◌^◌, ◌⊎◌, ◌+◌, ◌<◌, ◌≤◌, ◌++◌, ◌↔◌, take, min, if◌then◌else◌, true, false, [], codes, length, is_some, None, Some, Err, OnOk, OnErr, IfOk, vec_len};
     ghost use Rattle.std.specs.Option.{option_copied, option_map};
     ghost use Rattle.std.specs.Vec.{vec_capacity};
-    ghost use Rattle.imap_session.specs.Exchange.{Exchange, Sent as SentSpec, begun_with, kept_tag, Feed, Refused, closed, is_idling, may_send, refusal_text, continuing, tagged};
+    ghost use Rattle.imap_session.specs.Exchange.{Sent as SentSpec, begun_with, kept_tag, Feed, Refused, closed, is_idling, may_send, refusal_text, continuing, tagged};
     ghost use Rattle.imap_session.specs.Texts.{response_text};
     ghost use Rattle.imap_session.specs.declared.texts.ResponseText.TheVariants as texts;
-    ghost use Rattle.imap_grammar.specs.declared.command.Verb.TheVariants as verbs;
-    ghost use Rattle.imap_session.specs.Commands.{due_of, fault_tag, fault_text, literal_in, on_rest, on_verdict, greeting, logged_in, long_line_text, most_changes, on_idle_line, most_line, turn_of_long_line};
+    ghost use Rattle.imap_session.specs.Commands.{due_of, on_verdict, greeting, logged_in, long_line_text, most_changes, on_idle_line, turn_of_long_line};
     ghost use Rattle.imap_session.specs.inner.Seen.{HasFirstRoom, pending_of, purpose_of, sent_of};
-    ghost use Rattle.imap_session.specs.inner.Lines.{AnswersJoined, AnswersText, Had, IsJoined, is_message, on_rest_part};
-    ghost use Rattle.imap_grammar.specs.Reading.{read};
-    ghost use Rattle.imap_session.specs.inner.Appends.{Leads};
     ghost use Rattle.imap_session.specs.Store.{Answers, AnswersVerdict, IdleTurns, Starves, TakesBytes, room_for, room_for_verdict, room_rest};
     ghost use Rattle.imap_session.specs.inner.Store.{Plays, behind_first_line, first_line, is_open};
 
@@ -108,14 +100,14 @@ impl Session {
     }
 
     // Which commands and answers it has.
-    fn profile(&self) -> Profile
+    pub(crate) fn profile(&self) -> Profile
         ensures { result ≡ self.now.profile }
     {
         self.profile
     }
 
     // The client has logged in, by a command of this verb.
-    fn log_in(&mut self, tag: &[u8], verb: Verb, out: &mut Vec<u8>) -> After
+    pub(crate) fn log_in(&mut self, tag: &[u8], verb: Verb, out: &mut Vec<u8>) -> After
         requires fits { vec_len out.old + (length tag.now + LAST) ≤ vec_capacity out.old }
         ensures after { result ≡ After.Go }
         ensures standing { self.new ≡ logged_in self.old }
@@ -128,7 +120,7 @@ impl Session {
     }
 
     // As whom the client is to log in.
-    fn awaited(&self) -> Option<&[u8]>
+    pub(crate) fn awaited(&self) -> Option<&[u8]>
         ensures { option_copied result ≡ self.now.login }
     {
         match &self.login {
@@ -201,7 +193,12 @@ impl Session {
     }
 
     // Begins to idle. Where memory for the tag is refused, that is told: of a tag of at most 32 bytes it isn't asked.
-    fn begin_idling(&mut self, alloc: Global, response: Response<'_>, out: &mut Vec<u8>) -> After
+    pub(crate) fn begin_idling(
+        &mut self,
+        alloc: Global,
+        response: Response<'_>,
+        out: &mut Vec<u8>,
+    ) -> After
         ensures begun { result ≡ After.Idle
             → (self.new ≡ record self.old { idling = Some response.entry.tag }) ×
             (out.new.items ≡ response.entry.text ++ continuing (response_text texts.Idling)) }
@@ -222,7 +219,7 @@ impl Session {
     }
 
     // Answers a command other than IDLE and APPEND, behind its first line.
-    fn answer<S: Store>(
+    pub(crate) fn answer<S: Store>(
         &mut self,
         alloc: Global,
         command: &Command<'_>,
@@ -257,110 +254,6 @@ impl Session {
         let after = response.conclude(after_command(command), done, out);
         self.ended = matches!(after, After::Bye);
         after
-    }
-
-    // Answers a command under its tag, which it has in this line.
-    fn answer_read<S: Store>(
-        &mut self,
-        alloc: Global,
-        line: &[u8],
-        tag: &[u8],
-        command: &Command<'_>,
-        store: &mut S,
-        out: &mut Vec<u8>,
-    ) -> After
-        requires going { self.old.ended ≡ false }
-        requires awake { self.old.idling ≡ None }
-        requires alone { self.old.mailing.begun ≡ None }
-        requires unsent { self.old.mailing.sent ≡ None }
-        requires fits { vec_len out.old + (length tag.now + LAST + FIRST) ≤ vec_capacity out.old }
-        ensures answered { read line.now ≡ Ok (tag.now, command.now)
-            → AnswersText S.step self.old line.now store.old store.new out.old.items out.new.items
-            result self.new }
-        ensures folders { self.new.folders ≡ self.old.folders }
-        ensures sends { result ≡ may_send self.new }
-    {
-        if wants_response(self.awaited(), command) {
-            return self.await_response(alloc, tag, line, out);
-        }
-        if logs_in_as(self.awaited(), command) {
-            return self.log_in(tag, command.verb(), out);
-        }
-        if let Some(text) = barred_at(self.awaited(), self.profile(), command) {
-            put_last(tag, text, out);
-            return After::Go;
-        }
-        if let Some(append) = append_of(command) {
-            let response = Response::new(tag, LAST, out);
-            return self.begin_append(alloc, append, response, out);
-        }
-        if is_idle(command) {
-            let response = Response::new(tag, LAST, out);
-            return self.begin_idling(alloc, response, out);
-        }
-        let first = put_first_line(self.profile(), command, out);
-        let response = Response::new(tag, LAST + (FIRST - first), out);
-        self.answer(alloc, command, store, response, out)
-    }
-
-    // Answers a line that is no command as it stands.
-    fn answer_fault(
-        &mut self,
-        alloc: Global,
-        line: &[u8],
-        fault: &ImapFault<'_>,
-        out: &mut Vec<u8>,
-    ) -> After
-        requires going { self.old.ended ≡ false }
-        requires awake { self.old.idling ≡ None }
-        requires alone { self.old.mailing.begun ≡ None }
-        requires unsent { self.old.mailing.sent ≡ None }
-        requires tagged { IfSome (fault_tag fault.now) (λ tag.
-            vec_len out.old + (length tag + LAST) ≤ vec_capacity out.old) }
-        requires fits { vec_len out.old + length (fault_text self.old.profile fault.now)
-            ≤ vec_capacity out.old }
-        ensures asks { (tag : List ℕ) (x : Exchange)
-            → literal_in self.old.profile line.now fault.now ≡ Some (tag, x)
-            → Leads tag self.old x out.old.items out.new.items result self.new }
-        ensures told { literal_in self.old.profile line.now fault.now ≡ None
-            → (result ≡ After.Go) × (self.new ≡ self.old) × (out.new.items
-            ≡ out.old.items ++ fault_text self.old.profile fault.now) }
-        ensures folders { self.new.folders ≡ self.old.folders }
-        ensures sends { result ≡ may_send self.new }
-    {
-        match argument_due(self.profile(), line, fault) {
-            Some(found) => self.await_argument(alloc, found, out),
-            None => {
-                put_fault(self.profile(), fault, out);
-                After::Go
-            }
-        }
-    }
-
-    // Answers a line as one of a command, in room that was reserved.
-    fn text_line<S: Store>(
-        &mut self,
-        alloc: Global,
-        line: &[u8],
-        store: &mut S,
-        out: &mut Vec<u8>,
-    ) -> After
-        requires going { self.old.ended ≡ false }
-        requires awake { self.old.idling ≡ None }
-        requires alone { self.old.mailing.begun ≡ None }
-        requires unsent { self.old.mailing.sent ≡ None }
-        requires fits { vec_len out.old + (length line.now + LAST + FIRST) ≤ vec_capacity out.old }
-        ensures answered { AnswersText S.step self.old line.now store.old store.new out.old.items
-            out.new.items result self.new }
-        ensures folders { self.new.folders ≡ self.old.folders }
-        ensures sends { result ≡ may_send self.new }
-    {
-        match read_line(line) {
-            Err(fault) => self.answer_fault(alloc, line, &fault, out),
-            Ok((tag, command)) => {
-                self.answer_read(alloc, line, tag.as_bytes(), &command, store, out)
-            }
-        }
     }
 
     // Answers a line where it doesn't idle.
@@ -541,105 +434,6 @@ impl Session {
         self.mailing.sent.is_some()
     }
 
-    // Answers a line with its literals in it, which ends so, in room that was reserved; None where it is too long.
-    fn joined_line<S: Store>(
-        &mut self,
-        alloc: Global,
-        tag: &[u8],
-        line: Option<Vec<u8>>,
-        rest: &[u8],
-        store: &mut S,
-        out: &mut Vec<u8>,
-    ) -> After
-        requires going { self.old.ended ≡ false }
-        requires awake { self.old.idling ≡ None }
-        requires alone { self.old.mailing.begun ≡ None }
-        requires unsent { self.old.mailing.sent ≡ None }
-        requires short { IfSome line (λ l. length l.items ≤ most_line) }
-        requires fits { vec_len out.old + (length tag.now + MOST_LINE + LAST + FIRST) ≤ vec_capacity out.old }
-        ensures answered { (whole : List ℕ) → IsJoined line whole
-            → AnswersJoined S.step tag.now self.old whole rest.now store.old store.new out.old.items
-            out.new.items result self.new }
-        ensures folders { self.new.folders ≡ self.old.folders }
-        ensures sends { result ≡ may_send self.new }
-    {
-        match line {
-            Some(line) => self.text_line(alloc, &line, store, out),
-            None => {
-                let told = ResponseText::LineTooLong;
-                self.give_up(tag, rest, told, ResponseText::LiteralTooBig, out)
-            }
-        }
-    }
-
-    // Answers the rest of a line behind a literal that is an argument of it, or behind a challenge.
-    fn part_line<S: Store>(
-        &mut self,
-        alloc: Global,
-        begun: PendingLiteral,
-        rest: &[u8],
-        store: &mut S,
-        out: &mut Vec<u8>,
-    ) -> After
-        requires going { self.old.ended ≡ false }
-        requires awake { self.old.idling ≡ None }
-        requires alone { self.old.mailing.begun ≡ None }
-        requires unsent { self.old.mailing.sent ≡ None }
-        requires part { is_message (purpose_of begun.purpose) ≡ false }
-        requires room { HasFirstRoom begun }
-        requires fits { vec_len out.old + (length begun.tag + MOST_LINE + LAST + FIRST) ≤ vec_capacity out.old }
-        ensures answered { Had (on_rest_part (pending_of begun) self.old rest.now) S.step store.old store.new
-            out.old.items out.new.items result self.new }
-        ensures folders { self.new.folders ≡ self.old.folders }
-        ensures sends { result ≡ may_send self.new }
-    {
-        let PendingLiteral {
-            tag,
-            purpose,
-            size: _,
-            due: _,
-            text,
-        } = begun;
-        let tag = tag.as_slice();
-        let Some(text) = text else {
-            let told = ResponseText::OutOfMemory;
-            return self.give_up(tag, rest, told, ResponseText::ByeOutOfMemory, out);
-        };
-        match purpose {
-            Purpose::Argument(before) => {
-                let line = with_argument(before, &text, rest);
-                self.joined_line(alloc, tag, line, rest, store, out)
-            }
-            Purpose::Response(before) => {
-                let line = with_response(before, rest);
-                self.joined_line(alloc, tag, line, rest, store, out)
-            }
-            Purpose::Message { .. } => unreachable!(),
-        }
-    }
-
-    // Answers the rest of a line behind the literal of a message.
-    fn message_line(&mut self, begun: PendingLiteral, rest: &[u8], out: &mut Vec<u8>) -> After
-        requires going { self.old.ended ≡ false }
-        requires awake { self.old.idling ≡ None }
-        requires alone { self.old.mailing.begun ≡ None }
-        requires unsent { self.old.mailing.sent ≡ None }
-        requires fits { vec_len out.old + (length begun.tag + LAST) ≤ vec_capacity out.old }
-        ensures leads { Leads begun.tag self.old
-            (on_rest self.old.mailing (pending_of begun) (length rest.now == 0)) out.old.items
-            out.new.items result self.new }
-        ensures folders { self.new.folders ≡ self.old.folders }
-        ensures sends { result ≡ may_send self.new }
-    {
-        match self.submit(begun, rest.is_empty()) {
-            Ok(()) => After::Submit,
-            Err((tag, text)) => {
-                put_last(tag.as_slice(), text, out);
-                After::Go
-            }
-        }
-    }
-
     // Answers the rest of a line behind a literal.
     fn rest_line<S: Store>(
         &mut self,
@@ -680,56 +474,6 @@ impl Session {
             return Ok(self.message_line(begun, line, out));
         }
         Ok(self.part_line(alloc, begun, line, store, out))
-    }
-
-    // Submits a message whose bytes are all there, or gives its tag back with what the last line says.
-    fn submit(&mut self, begun: PendingLiteral, ends: bool) -> Result<(), (Tag, ResponseText)>
-        requires going { self.old.ended ≡ false }
-        requires awake { self.old.idling ≡ None }
-        requires alone { self.old.mailing.begun ≡ None }
-        requires unsent { self.old.mailing.sent ≡ None }
-        ensures sent { OnOk result ((before : List ℕ)
-            → Leads begun.tag self.old (on_rest self.old.mailing (pending_of begun) ends) before
-            before
-            After.Submit self.new) }
-        ensures refused { IfErr result (λ told. (before : List ℕ)
-            → Leads begun.tag self.old (on_rest self.old.mailing (pending_of begun) ends)
-            before (before ++ tagged told.0 (response_text told.1)) After.Go self.new) }
-        ensures tag { IfErr result (λ told. told.0 ≡ begun.tag) }
-        ensures folders { self.new.folders ≡ self.old.folders }
-        ensures waits { OnOk result (may_send self.new ≡ After.Submit) }
-        ensures goes { OnErr result (may_send self.new ≡ After.Go) }
-    {
-        let PendingLiteral {
-            tag,
-            purpose,
-            size,
-            due: _,
-            text,
-        } = begun;
-        let mailbox = purpose.mailbox();
-        let flags = purpose.flags();
-        let most = self.mailing.most;
-        let message = self.mailing.number;
-        match judge(text, mailbox, size, most, message, ends) {
-            Err(text) => Err((tag, text)),
-            Ok((mailbox, text)) => {
-                let Ok(text) = Text::new(text) else {
-                    return Err((tag, ResponseText::OutOfMemory));
-                };
-                self.mailing.number = message + 1;
-                self.mailing.sent = Some(Sent {
-                    tag,
-                    append: Append {
-                        message,
-                        mailbox,
-                        text,
-                        flags,
-                    },
-                });
-                Ok(())
-            }
-        }
     }
 
     // Answers the verdict on a message.

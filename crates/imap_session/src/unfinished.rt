@@ -95,9 +95,11 @@ pub(crate) fn keep_line(alloc: Global, front: &[u8]) -> Result<Vec<u8>, AllocErr
 /// The line with a literal's text in its place, as the quoted string that says it, and the rest behind that; None where that is too long.
 pub(crate) fn with_argument(before: Vec<u8>, text: &[u8], rest: &[u8]) -> Option<Vec<u8>>
     requires room { most_line ≤ vec_capacity before }
-    ensures joined { IfSome result (λ line. line.items ≡ before.items ++ quoted text.now ++ rest.now) }
+    ensures joined { IfSome result (λ line.
+        line.items ≡ before.items ++ quoted text.now ++ rest.now) }
     ensures fits { IfSome result (λ line. length line.items ≤ most_line) }
-    ensures too_long { IfNone result (most_line < length (before.items ++ quoted text.now ++ rest.now)) }
+    ensures too_long { IfNone result
+        (most_line < length (before.items ++ quoted text.now ++ rest.now)) }
 {
     let quoted = quoted_len(text);
     if quoted > MOST_LINE as u128 {
@@ -115,9 +117,11 @@ pub(crate) fn with_argument(before: Vec<u8>, text: &[u8], rest: &[u8]) -> Option
 /// The line with a response behind it; None where that is too long.
 pub(crate) fn with_response(before: Vec<u8>, response: &[u8]) -> Option<Vec<u8>>
     requires room { most_line ≤ vec_capacity before }
-    ensures joined { IfSome result (λ line. line.items ≡ before.items ++ codes " " ++ response_in response.now) }
+    ensures joined { IfSome result (λ line.
+        line.items ≡ before.items ++ codes " " ++ response_in response.now) }
     ensures fits { IfSome result (λ line. length line.items ≤ most_line) }
-    ensures too_long { IfNone result (most_line < length (before.items ++ codes " " ++ response_in response.now)) }
+    ensures too_long { IfNone result
+        (most_line < length (before.items ++ codes " " ++ response_in response.now)) }
 {
     let mut line = before;
     let response = if response.is_empty() { b"=" } else { response };

@@ -9,7 +9,7 @@ use Rattle.imap_session.specs.Commands.{messages_done, search_done, searching, w
 use Rattle.imap_session.specs.inner.Store.{last}
 use Rattle.imap_session.proofs.Runs.{added, reaches_write, stops_look, stops_write}
 use Rattle.imap_session.proofs.Saying.{does_then}
-use Rattle.imap_session.proofs.Choosing.{does_chosen, reaches_too_high}
+use Rattle.imap_session.proofs.Choosing.{does_chosen}
 use Rattle.imap_session.proofs.search.search_messages.Goals as goal
 use Rattle.imap_session.specs.declared.texts.ResponseText.{ResponseText}
 

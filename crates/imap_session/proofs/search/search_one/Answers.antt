@@ -1,4 +1,4 @@
-use Rattle.std.proofs.Common.{◌≡◌, ◌∙◌, ℕ, List, Option, Some, None, ap, false}
+use Rattle.std.proofs.Common.{◌≡◌, Option, Some, None, ap, false}
 use Rattle.std.proofs.lemmas.Result.{err_from_is_err_and}
 use Rattle.mailbox.specs.declared.clients.Row.{Row}
 use Rattle.imap_grammar.specs.Sets.{named_at}

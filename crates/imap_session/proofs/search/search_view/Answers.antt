@@ -1,7 +1,4 @@
-use Rattle.std.proofs.Common.{◌≡◌, ◌∙◌, ℕ, List, [], sym}
-use Rattle.imap_grammar.specs.Sets.{last_uid, named_at}
-use Rattle.imap_session.specs.Exchange.{Exchange}
-use Rattle.imap_session.specs.Commands.{searching}
+use Rattle.std.proofs.Common.{◌≡◌, ◌∙◌, [], sym}
 use Rattle.imap_session.proofs.Runs.{nothing_added, reaches_write}
 use Rattle.imap_session.proofs.Searching.{last_named, none_at_end, none_named}
 use Rattle.imap_session.proofs.search.search_view.Goals as goal

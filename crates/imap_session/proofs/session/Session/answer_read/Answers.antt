@@ -1,17 +1,13 @@
 use Rattle.std.proofs.Common.{◌≡◌, ◌++◌, true, false, List, Option, Some, ℕ, Ok, ◌∙◌, ap, refl, subst, sym}
 use Rattle.imap_grammar.specs.Reading.{read}
-use Rattle.imap_grammar.specs.Verbs.{verb_of}
 use Rattle.imap_session.specs.declared.standing.Profile.{Profile}
 use Rattle.imap_session.specs.inner.Appends.{Leads}
 use Rattle.imap_session.specs.Response.{Response}
-use Rattle.imap_session.specs.Commands.{appending, awaiting_response, barred_at, logs_in_as, wants_response}
+use Rattle.imap_session.specs.Commands.{appending, barred_at, logs_in_as, wants_response}
 use Rattle.imap_session.specs.inner.Store.{first_line}
 use Rattle.imap_session.proofs.Ending.{plays_first_line}
 use Rattle.imap_session.proofs.Lines.{IsTaken, answers_append, answers_barred, answers_challenge, answers_command, answers_idle, answers_login, is_taken}
 use Rattle.std.specs.Option.{option_copied}
-use Rattle.imap_session.specs.Exchange.{tagged}
-use Rattle.imap_session.specs.Texts.{response_text}
-use Rattle.imap_session.specs.declared.texts.ResponseText.TheVariants as texts
 use Rattle.imap_session.proofs.session.Session.answer_read.Goals as goal
 
 pub returns-then-wants_response-clause-answered : goal.returns-then-wants_response-clause-answered

@@ -1,4 +1,4 @@
-use Rattle.std.proofs.Common.{◌≡◌, ◌<◌, ◌≤◌, ◌+◌, ◌∙◌, ap, arith, length, refl, List, ℕ, Some}
+use Rattle.std.proofs.Common.{◌<◌, ◌≤◌, ◌+◌, ◌∙◌, ap, arith, length, refl, List, ℕ, Some}
 use Rattle.imap_session.specs.Exchange.{Argument, Asked, ForLiteral, Wait, continuing}
 use Rattle.imap_session.specs.Commands.{awaiting_argument, most_line}
 use Rattle.imap_session.specs.Texts.{response_text}

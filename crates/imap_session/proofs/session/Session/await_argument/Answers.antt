@@ -1,6 +1,5 @@
-use Rattle.std.proofs.Common.{◌<◌, arith, refl}
 use Rattle.imap_session.specs.Exchange.{ForNothing, bye}
-use Rattle.imap_session.specs.Commands.{awaiting_argument, most_unasked}
+use Rattle.imap_session.specs.Commands.{awaiting_argument}
 use Rattle.imap_session.specs.Texts.{response_text}
 use Rattle.imap_session.specs.declared.texts.ResponseText.TheVariants as texts
 use Rattle.imap_session.proofs.Appends.{argument_too_big, ended_again, leads_waits}

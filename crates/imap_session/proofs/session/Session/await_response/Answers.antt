@@ -1,7 +1,6 @@
 use Rattle.std.proofs.Common.{◌∙◌, ap, refl, List, ℕ, Some, []}
 use Rattle.imap_session.specs.Exchange.{Asked, ForLiteral, Response, Wait, continuing}
 use Rattle.imap_session.specs.Commands.{awaiting_response}
-use Rattle.imap_session.specs.inner.Seen.{purpose_of}
 use Rattle.imap_session.proofs.Appends.{begun_again, leads_starved, leads_wanting_waits}
 use Rattle.imap_session.proofs.session.Session.await_response.Goals as goal
 

@@ -1,5 +1,5 @@
-use Rattle.std.proofs.Common.{◌<◌, ◌∙◌, ap, length, refl, subst, sym, append-nil, List, ℕ, Some, None, []}
-use Rattle.imap_session.specs.Exchange.{Argument, Dropped, ForLiteral, Unasked, bye}
+use Rattle.std.proofs.Common.{◌∙◌, ap, refl, sym, append-nil, List, ℕ, Some, None, []}
+use Rattle.imap_session.specs.Exchange.{Argument, Dropped, ForLiteral, Unasked}
 use Rattle.imap_session.specs.Commands.{awaiting_argument}
 use Rattle.imap_session.proofs.Appends.{argument_comes, begun_again, ended_again, leads_dropping_argument, leads_parting_argument, leads_waits}
 use Rattle.imap_session.proofs.session.Session.expect_argument.Goals as goal

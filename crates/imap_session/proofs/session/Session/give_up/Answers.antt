@@ -1,4 +1,4 @@
-use Rattle.std.proofs.Common.{◌∙◌, ap, refl, sym}
+use Rattle.std.proofs.Common.{◌∙◌, refl, sym}
 use Rattle.imap_session.specs.Exchange.{ForNothing, bye}
 use Rattle.imap_session.specs.Commands.{given_up}
 use Rattle.imap_session.specs.Texts.{response_text}

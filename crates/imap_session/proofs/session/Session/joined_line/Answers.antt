@@ -1,6 +1,6 @@
-use Rattle.std.proofs.Common.{◌<◌, length, subst}
+use Rattle.std.proofs.Common.{subst}
 use Rattle.imap_session.specs.inner.Lines.{IsJoined}
-use Rattle.imap_session.proofs.Lines.{joined_fits, joined_too_long}
+use Rattle.imap_session.proofs.Lines.{joined_too_long}
 use Rattle.imap_session.proofs.session.Session.joined_line.Goals as goal
 
 pub returns-in-None-clause-answered : goal.returns-in-None-clause-answered

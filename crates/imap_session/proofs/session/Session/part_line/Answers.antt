@@ -1,4 +1,4 @@
-use Rattle.std.proofs.Common.{◌≡◌, ◌∙◌, ◌++◌, ap, codes, refl, subst, sym, List, ℕ}
+use Rattle.std.proofs.Common.{◌++◌, ap, codes, refl, subst, List, ℕ}
 use Rattle.std.specs.Option.{option_map}
 use Rattle.imap_grammar.specs.Literals.{quoted}
 use Rattle.imap_session.specs.Commands.{given_up, on_rest_of, response_in}
