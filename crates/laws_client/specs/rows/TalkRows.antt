@@ -56,7 +56,7 @@ joined = refl
 responded : whole_line (goes_on (Response (codes "a1 AUTHENTICATE PLAIN")) (Some [])) [] ≡ Some (codes "a1 AUTHENTICATE PLAIN =")
 responded = refl
 
-behind_a_message : told_of (goes_on (Message None no_flags) (Some (codes "x"))) (Line [] []) (codes "a1 NO [TRYCREATE] No such mailbox\r\n") ≡ Words (codes "a1 NO [TRYCREATE] No such mailbox\r\n")
+behind_a_message : told_of (goes_on (Message None no_flags) (Some (codes "x"))) (Line [] []) (codes "a1 NO Message too big\r\n") ≡ Words (codes "a1 NO Message too big\r\n")
 behind_a_message = refl
 
 without_memory : whole_line (goes_on (Argument (codes "a1 SELECT ")) None) [] ≡ None
