@@ -207,26 +207,26 @@ abbrev coming : List ℕ → Purpose → ℕ → PendingLiteral
 coming tag purpose size = record { tag = tag; purpose = purpose; size = size; due = size; text = Some [] }
 
 -- it waits so for its literal
-waits_for_it : (A : Waiting → Type 0) (folders : List Folder) (sent bytes tag : List ℕ) (purpose : Purpose) (now next : Standing) → Mailed folders sent now → next.folders ≡ now.folders → (A ForDone → ⊥)
+waits_for_it : (A : Waiting → Type 0) (folders : List Folder) (sent bytes tag : List ℕ) (now next : Standing) → Mailed folders sent now → next.folders ≡ now.folders → (A ForDone → ⊥)
     → ((mailbox : ℕ) (flags : Flags) (text : List ℕ) → A (ForVerdict mailbox flags text) → ⊥)
     → ((p : Purpose) (size : ℕ) → A (ForLiteral Asked p size) → IsBegunAs folders (sent ++ bytes) (coming tag p size)) → ((p : Purpose) (size : ℕ) → A (ForLiteral Unasked p size) → IsBegunAs folders (sent ++ bytes) (coming tag p size))
     → IsMail A tag (without_begun now).mailing next.mailing → Mailed folders (sent ++ bytes) next
-waits_for_it A folders sent bytes tag purpose now next m same no_done no_verdict asked unasked (inl e) = same_mail folders sent bytes now next m same (ap (λ (x : Mailing). x.sent) e) (ap (λ (x : Mailing). x.begun) e)
-waits_for_it A folders sent bytes tag purpose now next m same no_done no_verdict asked unasked (inr (ForDone, p, e)) = absurd (no_done p)
-waits_for_it A folders sent bytes tag purpose now next m same no_done no_verdict asked unasked (inr (ForVerdict mailbox flags text, p, e)) = absurd (no_verdict mailbox flags text p)
-waits_for_it A folders sent bytes tag purpose now next m same no_done no_verdict asked unasked (inr (ForNothing, p, e)) = same_mail folders sent bytes now next m same (ap (λ (x : Mailing). x.sent) e) (ap (λ (x : Mailing). x.begun) e)
-waits_for_it A folders sent bytes tag purpose now next m same no_done no_verdict asked unasked (inr (ForLiteral Dropped q size, p, e)) =
+waits_for_it A folders sent bytes tag now next m same no_done no_verdict asked unasked (inl e) = same_mail folders sent bytes now next m same (ap (λ (x : Mailing). x.sent) e) (ap (λ (x : Mailing). x.begun) e)
+waits_for_it A folders sent bytes tag now next m same no_done no_verdict asked unasked (inr (ForDone, p, e)) = absurd (no_done p)
+waits_for_it A folders sent bytes tag now next m same no_done no_verdict asked unasked (inr (ForVerdict mailbox flags text, p, e)) = absurd (no_verdict mailbox flags text p)
+waits_for_it A folders sent bytes tag now next m same no_done no_verdict asked unasked (inr (ForNothing, p, e)) = same_mail folders sent bytes now next m same (ap (λ (x : Mailing). x.sent) e) (ap (λ (x : Mailing). x.begun) e)
+waits_for_it A folders sent bytes tag now next m same no_done no_verdict asked unasked (inr (ForLiteral Dropped q size, p, e)) =
     begun_mail folders sent bytes now next (record { tag = tag; purpose = q; size = size; due = size; text = None }) m same (ap (λ (x : Mailing). x.sent) e) (ap (λ (x : Mailing). x.begun) e) (dropped folders (sent ++ bytes) _ refl)
-waits_for_it A folders sent bytes tag purpose now next m same no_done no_verdict asked unasked (inr (ForLiteral Asked q size, p, e)) =
+waits_for_it A folders sent bytes tag now next m same no_done no_verdict asked unasked (inr (ForLiteral Asked q size, p, e)) =
     begun_mail folders sent bytes now next (coming tag q size) m same (ap (λ (x : Mailing). x.sent) e) (ap (λ (x : Mailing). x.begun) e) (asked q size p)
-waits_for_it A folders sent bytes tag purpose now next m same no_done no_verdict asked unasked (inr (ForLiteral Unasked q size, p, e)) =
+waits_for_it A folders sent bytes tag now next m same no_done no_verdict asked unasked (inr (ForLiteral Unasked q size, p, e)) =
     begun_mail folders sent bytes now next (coming tag q size) m same (ap (λ (x : Mailing). x.sent) e) (ap (λ (x : Mailing). x.begun) e) (unasked q size p)
 
 -- an APPEND waits for its message
 append_begins : (folders : List Folder) (sent bytes line tag : List ℕ) (append : Append) (now next : Standing) → Mailed folders sent now → next.folders ≡ now.folders → SaysLine (sent ++ bytes) line → read line ≡ Ok (tag, commands.Append append)
     → IsMail (ForItsLiteral (number_named append.name now.folders) append) tag (without_begun now).mailing next.mailing → Mailed folders (sent ++ bytes) next
 append_begins folders sent bytes line tag append now next m same says reads mail =
-    waits_for_it (ForItsLiteral (number_named append.name now.folders) append) folders sent bytes tag (Message (number_named append.name folders) append.flags) now next m same (λ p. p) (λ mailbox flags text p. p)
+    waits_for_it (ForItsLiteral (number_named append.name now.folders) append) folders sent bytes tag now next m same (λ p. p) (λ mailbox flags text p. p)
     (λ p size h. begins p size h.0 h.1) (λ p size h. begins p size h.0 h.1) mail
   where
     begins : (purpose : Purpose) (size : ℕ) → purpose ≡ Message (number_named append.name now.folders) append.flags → size ≡ append.literal.size → IsBegunAs folders (sent ++ bytes) (coming tag purpose size)
@@ -248,7 +248,7 @@ append_begins folders sent bytes line tag append now next m same says reads mail
 argument_begins : (folders : List Folder) (sent bytes line tag : List ℕ) (found : ℕ × Announced) (now next : Standing) → Mailed folders sent now → next.folders ≡ now.folders → SaysLine (sent ++ bytes) line → announced line ≡ Some found
     → IsMail (ForItsArgument line found) tag (without_begun now).mailing next.mailing → Mailed folders (sent ++ bytes) next
 argument_begins folders sent bytes line tag found now next m same says announces mail =
-    waits_for_it (ForItsArgument line found) folders sent bytes tag (Argument (take found.0 line)) now next m same (λ p. p) (λ mailbox flags text p. p) (λ p size h. begins p size h.0 h.1) (λ p size h. begins p size h.0 h.1) mail
+    waits_for_it (ForItsArgument line found) folders sent bytes tag now next m same (λ p. p) (λ mailbox flags text p. p) (λ p size h. begins p size h.0 h.1) (λ p size h. begins p size h.0 h.1) mail
   where
     begins : (purpose : Purpose) (size : ℕ) → purpose ≡ Argument (take found.0 line) → size ≡ found.1.size → IsBegunAs folders (sent ++ bytes) (coming tag purpose size)
     begins purpose size p s =
@@ -268,7 +268,7 @@ argument_begins folders sent bytes line tag found now next m same says announces
 response_begins : (folders : List Folder) (sent bytes line tag said : List ℕ) (a : Authenticate) (now next : Standing) → Mailed folders sent now → next.folders ≡ now.folders → SaysLine (sent ++ bytes) line → read line ≡ Ok (said, commands.Authenticate a)
     → IsMail (ForItsResponse line) tag (without_begun now).mailing next.mailing → Mailed folders (sent ++ bytes) next
 response_begins folders sent bytes line tag said a now next m same says reads mail =
-    waits_for_it (ForItsResponse line) folders sent bytes tag (Response line) now next m same (λ p. p) (λ mailbox flags text p. p) (λ p size h. begins p size h.0 h.1) (λ p size h. begins p size h.0 h.1) mail
+    waits_for_it (ForItsResponse line) folders sent bytes tag now next m same (λ p. p) (λ mailbox flags text p. p) (λ p size h. begins p size h.0 h.1) (λ p size h. begins p size h.0 h.1) mail
   where
     begins : (purpose : Purpose) (size : ℕ) → purpose ≡ Response line → size ≡ 0 → IsBegunAs folders (sent ++ bytes) (coming tag purpose size)
     begins purpose size p s =
