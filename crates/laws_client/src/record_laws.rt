@@ -91,8 +91,8 @@ pub fn one_life_happens()
 {}
 
 /// Where all that was pending was shown in a session's last call, what it counts is all that is there at that moment. So it is
-/// where NOOP, CHECK, LIST, LSUB, STATUS, EXPUNGE, UID EXPUNGE, UID FETCH, UID STORE or the DONE of an IDLE is answered OK in a mailbox
-/// that is selected (RFC 9051, 5.2 and 6.1.2; RFC 2177; RFC 3501, 6.3.9 and 6.4.1). A client that knows where it is, and has read such a command's answer to its end,
+/// where NOOP, CHECK, LIST, LSUB, STATUS, EXPUNGE, UID EXPUNGE, UID FETCH, UID STORE, UID SEARCH or the DONE of an IDLE is answered OK in a
+/// mailbox that is selected (RFC 9051, 5.2 and 6.1.2; RFC 2177; RFC 3501, 6.3.9 and 6.4.1). A client that knows where it is, and has read such a command's answer to its end,
 /// has a list of the mailbox as it is.
 pub fn lists_are_current()
     // Where the last call of a turn was for all that is pending, and was answered, the session counts all that is in its mailbox.
