@@ -8,6 +8,7 @@
 # And where a copy was answered `Delivered`, or `OK` with APPENDUID, and the script came to its TAIL, the mailbox has it, under the UID that was told. Each case
 # ends with a TAIL for that. Whatever was refused, the text of a literal is never answered as a command: such texts have tags that begin with x.
 # Where a SELECT or EXAMINE isn't answered OK no mailbox is selected, as the next CLOSE tells; and one behind another tells first that the other is closed.
+# One case is of the compatible profile: there a literal may be an argument of any command, and a response comes on a line of its own.
 # With no argument it builds the program; else the argument is the program.
 set -eu
 top=$(CDPATH= cd -- "$(dirname -- "$0")/.." && pwd)
@@ -30,7 +31,8 @@ for name in ${CC:-} cc gcc clang; do
 done
 "${compiler:?there is no C compiler}" -O1 -shared -fPIC -o "$room/refuse.so" "$top/tests/refuse.c" -ldl
 
-words='script --depth 2 --ring 16 --messages 8 --uidvalidity 7 alice bob'
+standard='script --depth 2 --ring 16 --messages 8 --uidvalidity 7 alice bob'
+compatible='script --compatible --depth 2 --ring 16 --messages 8 --uidvalidity 7 alice bob'
 refusal='^(L[1-8] 451 4[.]3[.]0|I[1-8] [^ *]+ NO|I[1-8] [*] BYE) Out of memory$'
 
 # Whether the bytes of a file are the first ones of what is wanted.
@@ -76,7 +78,7 @@ is_kept() {
 
 # Whether no text of a literal was answered as a command.
 is_unanswered() {
-    ! grep -q '^I1 x' "$room/out"
+    ! grep -q '^I[1-8] x' "$room/out"
 }
 
 # Whether a mailbox is selected just where a SELECT or EXAMINE told so, and each is told to be closed behind which another is asked for. Their tags begin with
@@ -124,12 +126,14 @@ try_case() {
 }
 
 passed=0 failed=0
-for case in first-message two-recipients-one-unknown select-and-list select-behind-another expunge partial-and-seen idle append commands-in-literals; do
+for case in first-message two-recipients-one-unknown select-and-list select-behind-another expunge partial-and-seen idle append commands-in-literals literals-in-commands; do
     input=$top/tests/cases/$case.stdin want=$top/tests/cases/$case.stdout
     # The first message is what the program's stored run reads.
     if test "$case" = first-message; then
         input=$top/crates/post_house/stdin want=$top/crates/post_house/stdout
     fi
+    words=$standard
+    if test "$case" = literals-in-commands; then words=$compatible; fi
     try_case
 done
 echo "$passed passed, $failed failed"
