@@ -14,6 +14,7 @@ use Rattle.imap_grammar.specs.declared.command.Command.{Command}
 use Rattle.imap_grammar.specs.declared.command.Command.TheVariants as commands
 use Rattle.imap_grammar.specs.declared.command.Fetch.{Fetch}
 use Rattle.imap_grammar.specs.declared.command.Append.{Append}
+use Rattle.imap_grammar.specs.declared.command.CopyMessages.{CopyMessages}
 use Rattle.imap_grammar.specs.declared.command.Authenticate.{Authenticate}
 use Rattle.imap_grammar.specs.declared.command.Literal.{Literal}
 use Rattle.imap_grammar.specs.Literals.{announced, quoted}
@@ -30,13 +31,18 @@ use Rattle.imap_grammar.specs.declared.command.ImapFault.{ImapFault}
 use Rattle.imap_grammar.specs.declared.command.ImapFault.TheVariants as faults
 use Rattle.imap_grammar.specs.Keys.{all_messages, matches}
 use Rattle.imap_grammar.specs.Sets.{last_uid, named_at, named_in}
-use Rattle.imap_grammar.specs.Verbs.{verb_of}
+use Rattle.imap_grammar.specs.Verbs.{copy_verb, verb_of}
 use Rattle.imap_grammar.specs.Reading.{is_done, read}
 use Rattle.imap_grammar.specs.Items.{is_compatible, is_recent, marks_seen}
 use Rattle.imap_answers.specs.Answers.{flags_answer, is_inbox, list_answer, opening_text, row_answer, search_answer, status_answer}
 use Rattle.imap_session.specs.declared.standing.After.TheVariants.{Go, Bye}
 use Rattle.imap_session.specs.declared.standing.After.TheVariants as afters
 use Rattle.imap_session.specs.declared.standing.Selected.{Selected}
+use Rattle.imap_session.specs.declared.standing.Source.{Source}
+use Rattle.imap_session.specs.declared.standing.Origin.{Origin}
+use Rattle.imap_session.specs.declared.standing.Origin.TheVariants.{Client, Copied}
+use Rattle.change_ring.specs.declared.flag_op.FlagOp.{FlagOp}
+use Rattle.change_ring.specs.declared.flag_op.FlagOp.TheVariants.{Insert}
 use Rattle.imap_session.specs.Exchange.{Answer, PendingLiteral, Purpose, Message, Argument, Response, Mailing, Sent, Fed, Refused, having, saying, nothing_more, refused, is_idling, Turn, Standing, Folder, Exchange, ForDone, ForLiteral, ForVerdict, ForNothing, Done, Wait, Write, Put, Enter, Look, Read, Count, Alter, Expunge, Feed, Leave, tagged, bye, played, Asked, Unasked, untagged, continuing}
 use Rattle.imap_session.specs.declared.texts.ResponseText.TheVariants as texts
 use Rattle.imap_session.specs.Texts.{response_text, server_text}
@@ -295,7 +301,7 @@ on_text mailing a text mailbox =
     if is_over mailing.most a.size then over mailing.most
     else if list_any (λ b. b == 0) text then says (response_text texts.NulByte)
     else if nat_le last_number mailing.number then says (response_text texts.MailboxSpent)
-    else wanting (Wait [] (ForVerdict mailbox (flags_for a.purpose) text))
+    else wanting (Wait [] (ForVerdict Client mailbox (flags_for a.purpose) text))
 
 -- the rest of the line, without its CRLF, behind the literal of a message. A rest that is too long is told as no empty one
 abbrev pub on_rest : Mailing → PendingLiteral → Bool → Exchange
@@ -311,10 +317,78 @@ refused_text refusals.Shut = texts.ShardClosed
 abbrev pub appended_words : ℕ → ℕ → List ℕ
 appended_words uidvalidity uid = codes "OK [APPENDUID " ++ decimal uidvalidity ++ codes " " ++ decimal uid ++ codes "] APPEND completed"
 
--- The verdict on the message. Where it was stored, its mailbox is counted for its UIDVALIDITY, and what is pending in the selected one is shown.
-abbrev pub on_verdict : Option Selected → ℕ → Verdict → Exchange
-on_verdict selected mailbox (verdicts.Stored uid) = Count mailbox (λ status. showing selected (says (appended_words status.uidvalidity uid)))
-on_verdict selected mailbox (verdicts.Refused why) = says (response_text (refused_text why))
+-- ---- COPY and MOVE
+
+-- A message that came by mail has at most so many bytes more than were sent: the line of its return path.
+abbrev pub most_return_path : ℕ
+most_return_path = 337
+
+-- the most bytes of a message that is copied; none is where the session takes no messages
+abbrev pub most_copied : Option ℕ → Option ℕ
+most_copied most = option_map (λ n. n + most_return_path) most
+
+-- the message that was read goes to this mailbox as a copy of its own, which shares its text, with its flags
+abbrev pub copying : Mailing → Source → (mailbox : ℕ) → Row → Exchange
+copying mailing source mailbox row =
+    if is_over (most_copied mailing.most) (length row.text) then over (most_copied mailing.most)
+    else if nat_le last_number mailing.number then says (response_text texts.MailboxSpent)
+    else wanting (Wait [] (ForVerdict (Copied source) mailbox row.flags row.text))
+
+-- the message is gone that was named: by its UID it is as if none had been named (RFC 9051, 6.4.9)
+abbrev pub copy_gone : CopyMessages → Exchange
+copy_gone copy = if copy.by_uid then completed (commands.Copy copy) else says (response_text texts.MessagesGone)
+
+-- Of these messages to this mailbox: one is read, and of none there is nothing to do. Several are refused: either all copies of a command stand or none does (6.4.7), which one copy is by itself.
+abbrev pub copy_of : Mailing → CopyMessages → (mailbox : ℕ) → (uids : List ℕ) → Exchange
+copy_of mailing copy mailbox [] = completed (commands.Copy copy)
+copy_of mailing copy mailbox (uid ∷ []) =
+    Read uid false (on_found (copying mailing (record { uid = uid; by_uid = copy.by_uid; moves = copy.moves }) mailbox) (copy_gone copy))
+copy_of mailing copy mailbox (uid ∷ other ∷ uids) = says (response_text texts.OneAtATime)
+
+abbrev pub copy_to : Mailing → CopyMessages → (mailbox : ℕ) → Exchange
+copy_to mailing copy mailbox = on_set copy.by_uid copy.set (λ view uids. copy_of mailing copy mailbox uids)
+
+-- MOVE changes the selected mailbox. Memory is wanted for the name.
+abbrev pub copy_messages : Standing → CopyMessages → Selected → Exchange
+copy_messages now copy selected =
+    if copy.moves && selected.read_only then says (response_text texts.ReadOnly)
+    else wanting (on_found (copy_to now.mailing copy) nowhere (number_named copy.name now.folders))
+
+-- under which UID the copy of a message is, behind the UIDVALIDITY of the copy's mailbox and the message's own UID (RFC 4315, 3)
+abbrev pub copy_code : (uidvalidity uid copy_uid : ℕ) → List ℕ
+copy_code uidvalidity uid copy_uid = codes "OK [COPYUID " ++ decimal uidvalidity ++ codes " " ++ decimal uid ++ codes " " ++ decimal copy_uid ++ codes "] "
+
+abbrev pub copied_words : (uidvalidity uid copy_uid : ℕ) → List ℕ
+copied_words uidvalidity uid copy_uid = copy_code uidvalidity uid copy_uid ++ codes "COPY completed"
+
+-- of MOVE they stand in a line of their own, before the message is removed (RFC 6851, 4.3)
+abbrev pub moved_words : (uidvalidity uid copy_uid : ℕ) → List ℕ
+moved_words uidvalidity uid copy_uid = copy_code uidvalidity uid copy_uid ++ codes "Moved"
+
+abbrev pub deleting : FlagOp
+deleting = Insert (record no_flags { deleted = true })
+
+-- The copy of a message that is moved stands. The message gets \Deleted and is removed, as by EXPUNGE of its UID. Where others took \Deleted away in between it stays.
+abbrev pub moving : Source → (uidvalidity copy_uid : ℕ) → Exchange
+moving source uidvalidity copy_uid =
+    Put (untagged (moved_words uidvalidity source.uid copy_uid))
+    (Alter source.uid deleting (λ flags.
+    Expunge (Some (source.uid ∷ [])) (Feed unlimited (says (response_text (texts.Completed (copy_verb source.by_uid true)))))))
+
+-- ---- verdicts on messages
+
+-- what is told of a message that was stored, whose mailbox has this UIDVALIDITY. What is pending in the selected mailbox is shown
+abbrev pub told_stored : Option Selected → Origin → (uidvalidity uid : ℕ) → Exchange
+told_stored selected Client uidvalidity uid = showing selected (says (appended_words uidvalidity uid))
+told_stored selected (Copied source) uidvalidity uid =
+    if source.moves then moving source uidvalidity uid else showing selected (says (copied_words uidvalidity source.uid uid))
+
+-- The verdict on the message. Where it was stored, its mailbox is counted for its UIDVALIDITY.
+abbrev pub on_verdict : Option Selected → Origin → (mailbox : ℕ) → Verdict → Exchange
+on_verdict selected origin mailbox (verdicts.Stored uid) = Count mailbox (λ status. told_stored selected origin status.uidvalidity uid)
+on_verdict selected origin mailbox (verdicts.Refused why) = says (response_text (refused_text why))
+
+-- ---- what each command does
 
 -- What a command says of the server, whatever the state (RFC 9051, 6.1.1, 6.3.1 and 6.3.10; RFC 2971). One that isn't here says nothing of it.
 abbrev pub notice : Profile → Command → Option (List ℕ)
@@ -356,6 +430,7 @@ on_command now (commands.UidExpunge set) = in_writable now (expunge_set set)
 on_command now (commands.Fetch fetch) = in_selected now (fetch_messages fetch)
 on_command now (commands.Search search) = in_selected now (search_known search)
 on_command now (commands.Store store) = in_writable now (store_messages store)
+on_command now (commands.Copy copy) = in_selected now (copy_messages now copy)
 on_command now (commands.Append append) = appending now.mailing.most now.folders append
 on_command now command = noticing (notice now.profile command) (completed command)
 
@@ -373,6 +448,10 @@ standard_lacks verbs.Subscribe = Some texts.NotOffered
 standard_lacks verbs.Unsubscribe = Some texts.NotOffered
 standard_lacks verbs.Search = Some texts.NotOffered
 standard_lacks verbs.UidSearch = Some texts.NotOffered
+standard_lacks verbs.Copy = Some texts.NotOffered
+standard_lacks verbs.UidCopy = Some texts.NotOffered
+standard_lacks verbs.Move = Some texts.NotOffered
+standard_lacks verbs.UidMove = Some texts.NotOffered
 standard_lacks _ = None
 
 abbrev pub unoffered_verb : Profile → Verb → Option ResponseText
@@ -593,7 +672,7 @@ with_bytes kept bytes now = record now { mailing = record now.mailing { begun = 
 
 abbrev pub turn_with : Option Sent → Standing → Verdict → List Answer → Option Turn
 turn_with None now verdict answers = None
-turn_with (Some sent) now verdict answers = played sent.tag (without_sent now) (on_verdict now.selected sent.append.mailbox verdict) answers
+turn_with (Some sent) now verdict answers = played sent.tag (without_sent now) (on_verdict now.selected sent.origin sent.append.mailbox verdict) answers
 
 -- where the verdict leads that a session waits for, with these answers of the store
 abbrev pub turn_of_verdict : Standing → Verdict → List Answer → Option Turn

@@ -17,6 +17,7 @@ use Rattle.imap_session.specs.declared.standing.After.TheVariants as afters
 use Rattle.imap_session.specs.declared.standing.Profile.{Profile}
 use Rattle.imap_session.specs.declared.standing.Selected.{Selected}
 use Rattle.imap_session.specs.declared.standing.Append.{Append}
+use Rattle.imap_session.specs.declared.standing.Origin.{Origin}
 use Rattle.imap_session.specs.Texts.{response_text}
 use Rattle.imap_session.specs.declared.texts.ResponseText.TheVariants as texts
 
@@ -80,10 +81,11 @@ pub record PendingLiteral : Type 0 where
   pub due : ℕ
   pub text : Option (List ℕ)
 
--- a message that was submitted, and waits for the verdict on its copy
+-- a message that was submitted, and waits for the verdict on its copy: the tag of its command, the message, and where it comes from
 pub record Sent : Type 0 where
   pub tag : List ℕ
   pub append : Append
+  pub origin : Origin
 
 -- What a session knows of messages that its client appends: the most bytes of one, or that none is taken; the number of the next that is submitted, the literal whose bytes come,
 -- which may be a message's, and the message that waits for its verdict.
@@ -177,14 +179,14 @@ pub data Waiting : Type 0 where
   -- so many bytes of a literal, and the rest of the line behind them
   ForLiteral : Coming → Purpose → (size : ℕ) → Waiting
   -- the verdict on a message, which is submitted under the next number
-  ForVerdict : (mailbox : ℕ) → Flags → (text : List ℕ) → Waiting
+  ForVerdict : Origin → (mailbox : ℕ) → Flags → (text : List ℕ) → Waiting
   -- nothing more: it has ended
   ForNothing : Waiting
 
 abbrev pub after_waiting : Waiting → After
 after_waiting ForDone = afters.Idle
 after_waiting (ForLiteral coming purpose size) = afters.Literal size
-after_waiting (ForVerdict mailbox flags text) = afters.Submit
+after_waiting (ForVerdict origin mailbox flags text) = afters.Submit
 after_waiting ForNothing = Bye
 
 -- what is kept of a literal before its bytes come, unless they are dropped
@@ -198,11 +200,11 @@ abbrev pub waiting : List ℕ → Waiting → Standing → Standing
 waiting tag ForDone now = record now { idling = Some tag }
 waiting tag (ForLiteral coming purpose size) now =
     record now { mailing = record now.mailing { begun = Some (record { tag = tag; purpose = purpose; size = size; due = size; text = text_before coming }) } }
-waiting tag (ForVerdict mailbox flags text) now =
+waiting tag (ForVerdict origin mailbox flags text) now =
     record now {
       mailing = record now.mailing {
         number = now.mailing.number + 1;
-        sent = Some (record { tag = tag; append = record { message = now.mailing.number; mailbox = mailbox; text = text; flags = flags } });
+        sent = Some (record { tag = tag; append = record { message = now.mailing.number; mailbox = mailbox; text = text; flags = flags }; origin = origin });
       };
     }
 waiting tag ForNothing now = record now { ended = true }

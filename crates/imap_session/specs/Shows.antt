@@ -1,5 +1,6 @@
 -- Where a session may show what others did to the mailbox (RFC 9051, 5.2 and 7.5.1).
-use Rattle.std.specs.Prelude.{◌≡◌, ◌⊎◌, ◌&&◌, ℕ, Bool, true, false, codes, decimal, is_some, take, map, List, [], ◌++◌, Option, Some, None}
+use Rattle.std.specs.Prelude.{◌≡◌, ◌⊎◌, ◌&&◌, ℕ, Bool, true, false, codes, decimal, is_some, take, map, List, [], ◌++◌, Option, Some, None, if◌then◌else◌}
+use Rattle.imap_grammar.specs.Verbs.{copy_verb}
 use Rattle.std.specs.Str.{bytes_eq}
 use Rattle.change_ring.specs.declared.change.Flags.{Flags}
 use Rattle.mailbox.specs.declared.clients.Opening.{Opening}
@@ -14,8 +15,11 @@ use Rattle.imap_answers.specs.Answers.{list_answer, opening_text, search_answer}
 use Rattle.imap_answers.specs.declared.list.Listing.TheVariants.{All, Subscribed}
 use Rattle.imap_session.specs.declared.standing.After.TheVariants.{Submit}
 use Rattle.imap_session.specs.declared.standing.Selected.{Selected}
+use Rattle.imap_session.specs.declared.standing.Source.{Source}
+use Rattle.imap_session.specs.declared.standing.Origin.{Origin}
+use Rattle.imap_session.specs.declared.standing.Origin.TheVariants.{Client, Copied}
 use Rattle.imap_session.specs.Exchange.{Exchange, Folder, Standing, Done, Wait, Write, Put, Enter, Look, Read, Count, Alter, Expunge, Feed, Leave, after_waiting, bye, untagged, continuing}
-use Rattle.imap_session.specs.Commands.{appended_words, completed, notice, says as last_line, unlimited}
+use Rattle.imap_session.specs.Commands.{appended_words, completed, copied_words, moved_words, notice, says as last_line, unlimited}
 use Rattle.imap_session.specs.declared.texts.ResponseText.TheVariants as texts
 use Rattle.imap_session.specs.Texts.{response_text}
 
@@ -72,6 +76,7 @@ MaySay now (commands.Fetch fetch) bytes = (bytes ≡ []) ⊎ IsFetchLine bytes
 MaySay now (commands.Store store) bytes = IsFetchLine bytes
 MaySay now (commands.Search search) bytes = (bytes ≡ []) ⊎ ((found : List ℕ) × (bytes ≡ search_answer found))
 MaySay now (commands.UidExpunge set) bytes = bytes ≡ []
+MaySay now (commands.Copy copy) bytes = bytes ≡ []
 MaySay now commands.Idle bytes = bytes ≡ continuing (response_text texts.Idling)
 MaySay now (commands.Append append) bytes = (bytes ≡ []) ⊎ (bytes ≡ continuing (response_text texts.Ready)) ⊎ (bytes ≡ bye (response_text texts.LiteralTooBig))
 MaySay now command bytes = IsNotice (notice now.profile command) bytes
@@ -126,14 +131,25 @@ abbrev pub IsRefused : Exchange → Type 0
 IsRefused (Done words how) = IsNoOk words
 IsRefused _ = ⊥
 
--- a mailbox is counted, and then changes are shown right before this tagged OK, in which its UIDVALIDITY stands
-abbrev pub CountsThenShows : Option Selected → ℕ → Exchange → Type 0
-CountsThenShows selected uid (Count mailbox next) = (status : Status)
-    → ShowsBefore (last_line (appended_words status.uidvalidity uid)) (λ bytes. bytes ≡ []) true (is_some selected) false (next status)
-CountsThenShows selected uid _ = ⊥
+-- the tagged OK of a MOVE
+abbrev pub moved : Source → Exchange
+moved source = last_line (response_text (texts.Completed (copy_verb source.by_uid true)))
 
--- The verdict on an appended message shows changes right before its tagged OK, where a mailbox is selected. Where the message was refused there is no tagged
+-- changes are shown right before the tagged OK that tells where a message was stored, and of one that is moved also before it is removed
+abbrev pub StoredShows : Option Selected → Origin → (uidvalidity uid : ℕ) → Exchange → Type 0
+StoredShows selected Client uidvalidity uid = ShowsBefore (last_line (appended_words uidvalidity uid)) (λ bytes. bytes ≡ []) true (is_some selected) false
+StoredShows selected (Copied source) uidvalidity uid =
+    if source.moves
+    then ShowsBefore (moved source) (λ bytes. bytes ≡ untagged (moved_words uidvalidity source.uid uid)) true true true
+    else ShowsBefore (last_line (copied_words uidvalidity source.uid uid)) (λ bytes. bytes ≡ []) true (is_some selected) false
+
+-- a mailbox is counted, and then changes are shown so, with its UIDVALIDITY
+abbrev pub CountsThenShows : Option Selected → Origin → ℕ → Exchange → Type 0
+CountsThenShows selected origin uid (Count mailbox next) = (status : Status) → StoredShows selected origin status.uidvalidity uid (next status)
+CountsThenShows selected origin uid _ = ⊥
+
+-- The verdict on a message shows changes right before its tagged OK, where a mailbox is selected. Where the message was refused there is no tagged
 -- OK, and none are shown.
-abbrev pub VerdictShowsInOrder : Option Selected → Verdict → Exchange → Type 0
-VerdictShowsInOrder selected (Stored uid) = CountsThenShows selected uid
-VerdictShowsInOrder selected (Refused why) = IsRefused
+abbrev pub VerdictShowsInOrder : Option Selected → Origin → Verdict → Exchange → Type 0
+VerdictShowsInOrder selected origin (Stored uid) = CountsThenShows selected origin uid
+VerdictShowsInOrder selected origin (Refused why) = IsRefused

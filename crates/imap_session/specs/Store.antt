@@ -119,10 +119,10 @@ room_behind (Some a) idling line = length a.tag + room_rest a.purpose
 abbrev pub room_for : Standing → List ℕ → ℕ
 room_for now line = room_behind now.mailing.begun now.idling line
 
--- The room that is reserved before a verdict is answered: for the tag, and for the line that tells where a message was stored.
+-- The room that is reserved before a verdict is answered: for the tag, for the line that tells where a message was stored, and for the last one, where that is another.
 abbrev pub room_sent : Option Sent → ℕ
 room_sent None = 0
-room_sent (Some sent) = length sent.tag + 56
+room_sent (Some sent) = length sent.tag + 104
 
 abbrev pub room_for_verdict : Standing → ℕ
 room_for_verdict now = room_sent now.mailing.sent

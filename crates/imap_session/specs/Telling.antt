@@ -8,6 +8,8 @@ use Rattle.mailbox.specs.declared.mailbox.Status.{Status}
 use Rattle.delivery_token.specs.declared.Verdict.{Verdict}
 use Rattle.delivery_token.specs.declared.Verdict.TheVariants.{Stored, Refused}
 use Rattle.imap_session.specs.declared.standing.Selected.{Selected}
+use Rattle.imap_session.specs.declared.standing.Origin.{Origin}
+use Rattle.imap_session.specs.declared.standing.Origin.TheVariants.{Client, Copied}
 use Rattle.imap_session.specs.Exchange.{Exchange, Done, Wait, Write, Put, Enter, Look, Read, Count, Alter, Expunge, Feed, Leave, tagged}
 use Rattle.imap_session.specs.Commands.{appended_words, says, showing}
 
@@ -40,10 +42,11 @@ abbrev pub TellsUid : Option Selected → (mailbox uid : ℕ) → Exchange → T
 TellsUid selected mailbox uid (Count counted next) = (counted ≡ mailbox) × ((status : Status) → next status ≡ showing selected (says (appended_words status.uidvalidity uid)))
 TellsUid selected mailbox uid _ = ⊥
 
--- the last line tells the UID under which the message was stored, and none where it was refused
-abbrev pub VerdictTellsUid : Option Selected → (mailbox : ℕ) → Verdict → Exchange → Type 0
-VerdictTellsUid selected mailbox (Stored uid) = TellsUid selected mailbox uid
-VerdictTellsUid selected mailbox (Refused why) = TellsNoUid
+-- The last line tells the UID under which a message was stored that the client appended, and none where it was refused. Of a message that was copied it tells none so.
+abbrev pub VerdictTellsUid : Option Selected → Origin → (mailbox : ℕ) → Verdict → Exchange → Type 0
+VerdictTellsUid selected Client mailbox (Stored uid) = TellsUid selected mailbox uid
+VerdictTellsUid selected (Copied source) mailbox (Stored uid) = TellsNoUid
+VerdictTellsUid selected origin mailbox (Refused why) = TellsNoUid
 
 -- ---- lines that no exchange says
 

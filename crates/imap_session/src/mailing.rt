@@ -7,12 +7,13 @@ ghost use Rattle.std.specs.List.{list_any};
 ghost use Rattle.std.specs.Option.{option_map};
 ghost use Rattle.imap_session.specs.Commands.{flags_for, is_over, long_rest_text, mailbox_for, on_rest, over, says, taking, wanting};
 ghost use Rattle.imap_session.specs.Exchange.{PendingLiteral as PendingSpec, Mailing as MailingSpec, ForVerdict, Wait};
+ghost use Rattle.imap_session.specs.declared.standing.Origin.TheVariants.{Client};
 ghost use Rattle.imap_session.specs.Store.{IsBeyondRoom, most_first_room};
 ghost use Rattle.imap_session.specs.Texts.{response_text};
 ghost use Rattle.imap_session.specs.inner.Seen.{HasFirstRoom, pending_of};
 
 use crate::response::LAST;
-use crate::standing::Append;
+use crate::standing::{Append, Origin};
 use crate::tag::Tag;
 use crate::texts::ResponseText;
 use crate::turn::FIRST;
@@ -99,6 +100,7 @@ pub(crate) struct PendingLiteral {
 pub(crate) struct Sent {
     pub(crate) tag: Tag,
     pub(crate) append: Append,
+    pub(crate) origin: Origin,
 }
 
 /// What a session knows of the literal that its client sends, and of the messages that it appends.
@@ -213,7 +215,7 @@ pub(crate) fn judge(
     ensures ready { IfOk result (λ made. (mailing : MailingSpec) (a : PendingSpec)
         → mailing.most ≡ most → mailing.number ≡ number →
         mailbox_for a.purpose ≡ mailbox → a.size ≡ size → a.text ≡ option_map (λ t. t.items) text →
-        on_rest mailing a empty ≡ wanting (Wait [] (ForVerdict made.0 (flags_for a.purpose) made.1.items))) }
+        on_rest mailing a empty ≡ wanting (Wait [] (ForVerdict Client made.0 (flags_for a.purpose) made.1.items))) }
     ensures numbered { IfOk result (λ made. number < 4294967295) }
 {
     let Some(mut text) = text else {

@@ -23,7 +23,7 @@ pub enum After {
     Go,
     /// DONE, since the session idles (RFC 2177).
     Idle,
-    /// So many bytes of the literal that APPEND announced, and behind them the rest of its line.
+    /// So many bytes of the literal that its line announced, and behind them the rest of that line.
     Literal(usize),
     /// Nothing before the verdict is there on the message that was submitted.
     Submit,
@@ -31,17 +31,37 @@ pub enum After {
     Bye,
 }
 
-/// A message that a client appended, on its way to its mailbox (RFC 9051, 6.3.12).
+/// A message that a client appended, or had copied, on its way to its mailbox (RFC 9051, 6.3.12 and 6.4.7).
 #[derive(Drop)]
 pub struct Append {
     /// Which message of the session it is, from 0.
     pub message: u32,
     /// The mailbox's number.
     pub mailbox: u8,
-    /// Its bytes, as they came in the literal.
+    /// Its bytes, as they came in the literal, or as they stand in the mailbox that it is copied from.
     pub text: Text,
     /// The flags that it is to have in the mailbox.
     pub flags: Flags,
+}
+
+/// Which message of the selected mailbox was copied, and by which command (RFC 9051, 6.4.7 to 6.4.9).
+#[derive(Clone, Copy, Debug, PartialEq, Eq)]
+pub struct Source {
+    /// The message's UID.
+    pub uid: u32,
+    /// It was UID COPY or UID MOVE.
+    pub by_uid: bool,
+    /// It was MOVE or UID MOVE: the message is removed, once its copy is stored.
+    pub moves: bool,
+}
+
+/// Where a message comes from that a session submits.
+#[derive(Clone, Copy, Debug, PartialEq, Eq)]
+pub enum Origin {
+    /// Its client appended it (RFC 9051, 6.3.12).
+    Client,
+    /// It is a copy of a message in the selected mailbox.
+    Copied(Source),
 }
 
 /// What a session begins with, beside its mailboxes.

@@ -1,4 +1,4 @@
-//! The tag of an IDLE or an APPEND, kept until that is done.
+//! The tag of a command that isn't done yet: of an IDLE, of one that goes on behind a literal, or of a message that waits for its verdict.
 
 use arrayvec::ArrayVec;
 use std::alloc::{AllocError, Global};

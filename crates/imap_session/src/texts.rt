@@ -27,6 +27,8 @@ pub enum ResponseText {
     NotOffered,
     /// Some messages that were to be fetched or changed are gone.
     MessagesGone,
+    /// A COPY or MOVE of several messages: it takes one.
+    OneAtATime,
     ReadOnly,
     MailboxSpent,
     MessageTooBig,
@@ -166,6 +168,7 @@ impl ResponseText {
             ResponseText::TryCreate => b"NO [TRYCREATE] No such mailbox",
             ResponseText::NotOffered => b"NO [CANNOT] Not offered here",
             ResponseText::MessagesGone => b"NO [EXPUNGEISSUED] Some messages are gone",
+            ResponseText::OneAtATime => b"NO [LIMIT] One message at a time",
             ResponseText::ReadOnly => b"NO Mailbox is read-only",
             ResponseText::MailboxSpent => b"NO Mailbox is spent",
             ResponseText::MessageTooBig => b"NO Message too big",

@@ -19,7 +19,7 @@ abbrev pub pending_of : begun.PendingLiteral → PendingLiteral
 pending_of a = record { tag = a.tag; purpose = purpose_of a.purpose; size = a.size; due = a.due; text = option_map (λ t. t.items) a.text }
 
 abbrev pub sent_of : sent.Sent → Sent
-sent_of s = record { tag = s.tag; append = s.append }
+sent_of s = record { tag = s.tag; append = s.append; origin = s.origin }
 
 -- a line that goes on has room for as much as a line may have
 abbrev pub HasLineRoom : purposes.Purpose → Type 0

@@ -113,10 +113,11 @@ abbrev pub is_idle : Command → Bool
 is_idle commands.Idle = true
 is_idle _ = false
 
--- IDLE and APPEND, which have no last line yet where they are taken
+-- IDLE and APPEND, which have no last line yet where they are taken, and COPY and MOVE, which may have none yet
 abbrev pub is_open : Command → Bool
 is_open commands.Idle = true
 is_open (commands.Append append) = true
+is_open (commands.Copy copy) = true
 is_open _ = false
 
 -- the last line of a command, after which a client may send this
