@@ -57,6 +57,12 @@ submitted_again {s} {now} origin mailbox own flags t u tag same e f =
     ap (λ (y : Flags). waiting tag (ForVerdict origin mailbox y t) s) same
     ∙ ap (λ (y : List ℕ). waiting tag (ForVerdict origin mailbox flags y) s) e ∙ ap (λ (x : Standing). waiting tag (ForVerdict origin mailbox flags u) x) f
 
+-- the same under a tag that was copied
+pub submitted_under : {s now : Standing} (origin : Origin) (mailbox : ℕ) (flags : Flags) (text t tag : List ℕ) → t ≡ tag → s ≡ now
+    → waiting t (ForVerdict origin mailbox flags text) s ≡ waiting tag (ForVerdict origin mailbox flags text) now
+submitted_under {s} {now} origin mailbox flags text t tag e f =
+    ap (λ (y : List ℕ). waiting y (ForVerdict origin mailbox flags text) s) e ∙ ap (λ (x : Standing). waiting tag (ForVerdict origin mailbox flags text) x) f
+
 -- ---- the line of an APPEND
 
 abbrev begins : List ℕ → Purpose → ℕ → Option (List ℕ) → Standing → Standing

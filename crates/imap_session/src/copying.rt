@@ -146,9 +146,9 @@ fn refused_copy(most: Option<u32>, number: u32, size: usize) -> Option<ResponseT
 }
 
 impl Session {
-    ghost use Rattle.std.specs.Prelude.{◌≡◌, false, None};
+    ghost use Rattle.std.specs.Prelude.{◌≡◌, ◌++◌, false, None};
     ghost use Rattle.imap_grammar.specs.declared.command.Command.TheVariants as commands;
-    ghost use Rattle.imap_session.specs.Exchange.{may_send, played};
+    ghost use Rattle.imap_session.specs.Exchange.{closed, may_send, played, refusal_after, refusal_text};
     ghost use Rattle.imap_session.specs.Commands.{copy_messages, copying, on_command, on_found, wrong_state};
     ghost use Rattle.imap_session.specs.Response.{Response as ResponseSpec};
     ghost use Rattle.imap_session.specs.inner.Appends.{Leads};
@@ -226,6 +226,23 @@ impl Session {
         After::Submit
     }
 
+    // Says that a fault stopped a COPY or MOVE, which may end the session.
+    fn stop_copy(&mut self, fault: MailFault, response: Response<'_>, out: &mut Vec<u8>) -> After
+        requires going { self.old.ended ≡ false }
+        requires awake { self.old.idling ≡ None }
+        requires alone { self.old.mailing.begun ≡ None }
+        requires unsent { self.old.mailing.sent ≡ None }
+        ensures text { out.new.items
+            ≡ response.entry.text ++ refusal_text response.entry.tag fault }
+        ensures after { result ≡ refusal_after fault }
+        ensures standing { self.new ≡ (closed self.old result).standing }
+        ensures sends { result ≡ may_send self.new }
+    {
+        let after = response.conclude(After::Go, Err(fault), out);
+        self.ended = matches!(after, After::Bye);
+        after
+    }
+
     // Takes the line of a COPY or MOVE.
     pub(crate) fn begin_copy<S: Store>(
         &mut self,
@@ -258,11 +275,7 @@ impl Session {
                 response.end(text, out);
                 After::Go
             }
-            Err(fault) => {
-                let after = response.conclude(After::Go, Err(fault), out);
-                self.ended = matches!(after, After::Bye);
-                after
-            }
+            Err(fault) => self.stop_copy(fault, response, out),
         }
     }
 }

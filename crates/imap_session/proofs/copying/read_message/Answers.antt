@@ -1,4 +1,4 @@
-use Rattle.std.proofs.Common.{Option, Some, None}
+use Rattle.std.proofs.Common.{false, Option, Some, None}
 use Rattle.std.proofs.lemmas.Result.{err_from_is_err_and}
 use Rattle.mailbox.specs.declared.clients.Row.{Row}
 use Rattle.imap_session.specs.Exchange.{Exchange}

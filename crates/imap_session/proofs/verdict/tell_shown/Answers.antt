@@ -1,4 +1,5 @@
 use Rattle.std.proofs.Common.{subst, sym}
+use Rattle.imap_session.specs.declared.standing.After.TheVariants.{Go}
 use Rattle.imap_session.specs.Exchange.{Exchange}
 use Rattle.imap_session.specs.Commands.{says, showing}
 use Rattle.imap_session.specs.inner.Copies.{stored_words}
@@ -10,7 +11,7 @@ use Rattle.imap_session.proofs.verdict.tell_shown.Goals as goal
 pub returns-in-Ok-clause-plays : goal.returns-in-Ok-clause-plays
 returns-in-Ok-clause-plays g c now =
     let words = stored_words c.args.origin c.args.uidvalidity c.args.uid in
-    let P : Exchange → Type 0 = λ x. Plays g.S.Store.step c.args.response.tag now now x _ _ c.args.response.text _ _ in
+    let P : Exchange → Type 0 = λ x. Plays g.S.Store.step c.args.response.tag now now x c.args.store.now c.show_pending.new.store c.args.response.text c.end_stored.new.out.items Go in
     subst P (sym (told_shown c.args.selected c.args.origin c.args.uidvalidity c.args.uid c.requires.stays))
     (plays_said g.S.Store.step words now (showing c.args.selected (says words)) _ _ c.args.response _ _
     (c.in-Ok.ensures.done (says words) c.args.response.tag now) c.end_stored.ensures)
@@ -18,7 +19,7 @@ returns-in-Ok-clause-plays g c now =
 pub returns-in-Err-clause-plays : goal.returns-in-Err-clause-plays
 returns-in-Err-clause-plays g c now =
     let words = stored_words c.args.origin c.args.uidvalidity c.args.uid in
-    let P : Exchange → Type 0 = λ x. Plays g.S.Store.step c.args.response.tag now now x _ _ c.args.response.text _ _ in
+    let P : Exchange → Type 0 = λ x. Plays g.S.Store.step c.args.response.tag now now x c.args.store.now c.show_pending.new.store c.args.response.text c.conclude.new.out.items c.conclude.result in
     subst P (sym (told_shown c.args.selected c.args.origin c.args.uidvalidity c.args.uid c.requires.stays))
     (plays_stopped g.S.Store.step now (showing c.args.selected (says words)) c.in-Err.fault _ _ c.args.response _ _ c.conclude.result
     (c.in-Err.ensures.done (says words) c.args.response.tag now) c.conclude.ensures.text c.conclude.ensures.after)

@@ -7,5 +7,5 @@ use Rattle.imap_session.proofs.verdict.tell_uid.Goals as goal
 pub returns-in-Some-clause-plays : goal.returns-in-Some-clause-plays
 returns-in-Some-clause-plays g c now =
     let is = c.in-Some.ensures.some in
-    let P : Exchange → Type 0 = λ x. Plays g.S.Store.step c.args.response.tag now now x _ _ c.args.response.text _ _ in
+    let P : Exchange → Type 0 = λ x. Plays g.S.Store.step c.args.response.tag now now x c.args.store.now c.tell_moved.new.store c.args.response.text c.tell_moved.new.out.items c.tell_moved.result in
     subst P (sym (told_moved c.args.selected c.args.origin c.in-Some.source c.args.uidvalidity c.args.uid is.0 is.1)) (c.tell_moved.ensures.plays now)

@@ -1,12 +1,5 @@
-use Rattle.std.proofs.Common.{◌≡◌, ◌∙◌, ap, sym, Option, Some, None}
+use Rattle.std.proofs.Common.{◌∙◌, sym}
 use Rattle.std.proofs.lemmas.Result.{err_from_is_err_and}
-use Rattle.imap_session.specs.declared.copying.Found.{Found}
-use Rattle.imap_session.specs.declared.standing.Selected.{Selected}
-use Rattle.imap_session.specs.Exchange.{Exchange, Standing}
-use Rattle.imap_session.specs.Commands.{copy_messages, copy_to, nowhere, on_found, says, wanting, wrong_state}
-use Rattle.imap_session.specs.Texts.{response_text}
-use Rattle.imap_session.specs.declared.texts.ResponseText.TheVariants as texts
-use Rattle.imap_session.specs.inner.Copies.{found_next}
 use Rattle.imap_session.proofs.Copies.{copy_found, copy_missing, copy_refused, copy_starved}
 use Rattle.imap_session.proofs.session.Session.find_copy.Goals as goal
 
@@ -21,9 +14,9 @@ returns-in_err-mailbox g c response =
 
 pub returns-in_default-2 : goal.returns-in_default-2
 returns-in_default-2 g c response =
-    copy_missing g.S.Store.step c.args.self.now c.args.copy.now c.selected.result c.args.store.now response c.selected.ensures (c.in_default.ensures.taken c.args.self.now) (sym c.in_ok-mailbox.ensures)
+    copy_missing g.S.Store.step c.args.self.now c.args.copy.now c.selected.result c.args.store.now response c.selected.ensures (c.in_default.ensures.taken c.args.self.now) (sym c.in_ok-mailbox.ensures ∙ c.in_default-2.is)
 
 pub returns : goal.returns
 returns g c response =
-    copy_found g.S.Store.step c.args.self.now c.args.copy.now c.selected.result c.in-Some.mailbox _ _ response c.find_message.result c.selected.ensures (c.in_default.ensures.taken c.args.self.now) (sym c.in_ok-mailbox.ensures)
+    copy_found g.S.Store.step c.args.self.now c.args.copy.now c.selected.result c.in-Some-2.mailbox _ _ response c.find_message.result c.selected.ensures (c.in_default.ensures.taken c.args.self.now) (sym c.in_ok-mailbox.ensures ∙ c.in-Some-2.is)
     (c.find_message.ensures response c.args.self.now.mailing)
