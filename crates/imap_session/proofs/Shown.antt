@@ -220,9 +220,11 @@ shown_in_order now (commands.Search search) =
 shown_in_order now (commands.Copy copy) =
     in_found now (commands.Copy copy) now.selected (copy_messages now copy)
     (λ s. in_either now (commands.Copy copy) (copy.moves && s.read_only) (says (response_text texts.ReadOnly)) (wanting (on_found (copy_to now.mailing copy) nowhere (number_named copy.name now.folders)))
-    (λ must. refl)
-    (refl, in_named now (commands.Copy copy) (copy_to now.mailing copy)
-    (λ m view. in_chosen now (commands.Copy copy) (named_in copy.by_uid copy.set view) (copy_of now.mailing copy m) (in_copy now copy m)) (number_named copy.name now.folders)))
+    (λ must. refl) (
+      refl,
+      in_named now (commands.Copy copy) (copy_to now.mailing copy)
+          (λ m view. in_chosen now (commands.Copy copy) (named_in copy.by_uid copy.set view) (copy_of now.mailing copy m) (in_copy now copy m)) (number_named copy.name now.folders),
+    ))
 shown_in_order now (commands.Append append) = in_append now now.mailing.most append (number_named append.name now.folders)
 shown_in_order now command = notice_shown now command (notice now.profile command) (λ bytes is. is) refl
 

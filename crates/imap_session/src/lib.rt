@@ -4,7 +4,6 @@
 #![tactic(auto)]
 
 mod access;
-
 mod appending;
 mod command_line;
 mod connection;

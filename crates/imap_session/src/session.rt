@@ -1,7 +1,6 @@
 //! The session of one client, from its greeting to its end.
 //! What it answers to a line is told in specs/Commands.antt, and how one line is carried out in `turn`.
 
-use crate::verdict::{STORED, tell_verdict};
 use crate::mailing::{Mailing, PendingLiteral, Sent, long_rest_text};
 use crate::response::{LAST, Response, put_last};
 use crate::say::{put_continuing, put_of_server, put_tagged, put_untagged};
@@ -11,6 +10,7 @@ use crate::tag::Tag;
 use crate::texts::{ResponseText, ServerText};
 use crate::turn::{FIRST, after_command, carry_out, end_idle};
 use crate::user::UserName;
+use crate::verdict::{STORED, tell_verdict};
 use delivery_token::Verdict;
 use imap_grammar::{Command, Verb};
 use mailbox::MailFault;

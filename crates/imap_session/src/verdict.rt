@@ -96,13 +96,7 @@ fn end_copied(response: Response<'_>, uidvalidity: u32, uid: u32, copy_uid: u32,
 }
 
 // Ends a response with the line that tells where a message was stored which isn't moved.
-fn end_stored(
-    origin: Origin,
-    response: Response<'_>,
-    uidvalidity: u32,
-    uid: u32,
-    out: &mut Vec<u8>,
-)
+fn end_stored(origin: Origin, response: Response<'_>, uidvalidity: u32, uid: u32, out: &mut Vec<u8>)
     requires long { length response.tag + STORED ≤ response.held }
     ensures { out.new.items ≡ response.entry.text
         ++ tagged response.entry.tag (stored_words origin uidvalidity uid) }
@@ -203,13 +197,7 @@ fn moved(origin: Origin) -> Option<Source>
 {
     match origin {
         Origin::Client => None,
-        Origin::Copied(source) => {
-            if source.moves {
-                Some(source)
-            } else {
-                None
-            }
-        }
+        Origin::Copied(source) => { if source.moves { Some(source) } else { None } }
     }
 }
 
@@ -252,7 +240,15 @@ fn tell_stored<S: Store>(
     ensures only { (result ≡ After.Go) ⊎ (result ≡ After.Bye) }
 {
     match store.status(mailbox) {
-        Ok(status) => tell_uid(origin, status.uidvalidity, uid, selected, store, response, out),
+        Ok(status) => tell_uid(
+            origin,
+            status.uidvalidity,
+            uid,
+            selected,
+            store,
+            response,
+            out,
+        ),
         Err(fault) => response.conclude(After::Go, Err(fault), out),
     }
 }

@@ -1,6 +1,5 @@
 use Rattle.std.proofs.Common.{Err, Ok, Some, true, ◌∷◌, []}
 use Rattle.std.proofs.lemmas.Result.{err_from_is_err_and}
-use Rattle.change_ring.specs.declared.change.Flags.{Flags}
 use Rattle.imap_grammar.specs.Verbs.{copy_verb}
 use Rattle.imap_session.specs.Exchange.{Exchange, Expunge, Feed}
 use Rattle.imap_session.specs.Commands.{deleting, says, unlimited}
