@@ -33,9 +33,9 @@ use Rattle.laws_client.proofs.Moved.{Calls}
 numbers_wait : (base : Mailing) (tag : List ℕ) (now : Standing) (w : Waiting) → NumbersRise base now.mailing → NumbersRise base (waiting tag w now).mailing
 numbers_wait base tag now ForDone k = k
 numbers_wait base tag now (ForLiteral coming purpose size) k = k
-numbers_wait base tag now (ForVerdict mailbox flags text) k = then_rises base now.mailing (waiting tag (ForVerdict mailbox flags text) now).mailing k (
+numbers_wait base tag now (ForVerdict origin mailbox flags text) k = then_rises base now.mailing (waiting tag (ForVerdict origin mailbox flags text) now).mailing k (
   omega arith,
-  λ s is. let e : record { tag = tag; append = record { message = now.mailing.number; mailbox = mailbox; text = text; flags = flags } } ≡ s = cc in let m : now.mailing.number ≡ s.append.message = ap (λ (x : Sent). x.append.message) e in
+  λ s is. let e : record { tag = tag; append = record { message = now.mailing.number; mailbox = mailbox; text = text; flags = flags }; origin = origin } ≡ s = cc in let m : now.mailing.number ≡ s.append.message = ap (λ (x : Sent). x.append.message) e in
       inr (omega (arith, m), omega (arith, m)),
 )
 numbers_wait base tag now ForNothing k = k
@@ -57,7 +57,7 @@ turned_rises k n now answers w turn v e met =
 
 heard_rises : (now : Standing) (verdict : Verdict) (sent : Sent) (answers : List Answer) (turn : Turn) → turn_with (Some sent) now verdict answers ≡ Some turn → NumbersRise (without_sent now).mailing turn.standing.mailing
 heard_rises now verdict sent answers turn e =
-    played_keeps (λ (s : Standing). NumbersRise (without_sent now).mailing s.mailing) sent.tag (numbers_keep (without_sent now).mailing sent.tag) (without_sent now) (on_verdict now.selected sent.append.mailbox verdict) answers turn
+    played_keeps (λ (s : Standing). NumbersRise (without_sent now).mailing s.mailing) sent.tag (numbers_keep (without_sent now).mailing sent.tag) (without_sent now) (on_verdict now.selected sent.origin sent.append.mailbox verdict) answers turn
     (same_numbers (without_sent now).mailing) e
 
 -- ---- what is known of a session's answers

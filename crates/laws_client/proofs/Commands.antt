@@ -250,7 +250,7 @@ rest_says : (tag view : List ℕ) (mailing : Mailing) (a : PendingLiteral) (empt
 rest_says tag view mailing a empty t = kept a.text
   where
     text_says : (big nul spent : Bool) (text : List ℕ) (mailbox : ℕ)
-        → Says tag view (if big then over mailing.most else if nul then says (response_text texts.NulByte) else if spent then says (response_text texts.MailboxSpent) else wanting (Wait [] (ForVerdict mailbox (flags_for a.purpose) text)))
+        → Says tag view (if big then over mailing.most else if nul then says (response_text texts.NulByte) else if spent then says (response_text texts.MailboxSpent) else wanting (Wait [] (ForVerdict Client mailbox (flags_for a.purpose) text)))
     text_says true nul spent text mailbox = over_says tag view mailing.most t
     text_says false true spent text mailbox = last tag view texts.NulByte t
     text_says false false true text mailbox = last tag view texts.MailboxSpent t
@@ -286,7 +286,7 @@ stored_plain uidvalidity uid v u =
       inner = inner_both (front ++ codes "] APPEND complete") (100 ∷ []) (inner_both front (codes "] APPEND complete") inner refl) refl;
     }
 
-verdict_says : (tag view : List ℕ) (selected : Option Selected) (mailbox : ℕ) (verdict : Verdict) → IsTag tag → IsPrinted verdict → Says tag view (on_verdict selected mailbox verdict)
+verdict_says : (tag view : List ℕ) (selected : Option Selected) (mailbox : ℕ) (verdict : Verdict) → IsTag tag → IsPrinted verdict → Says tag view (on_verdict selected origin mailbox verdict)
 verdict_says tag view selected mailbox (verdicts.Stored uid) t u = λ status counted.
     shows_then tag view selected (says (appended_words status.uidvalidity uid))
     (λ new. leaves new _ (tagged_tells_nothing tag (appended_words status.uidvalidity uid) t (stored_plain status.uidvalidity uid counted.uidvalidity u)))
@@ -424,8 +424,8 @@ heard_follows : (sent : Option Sent) (now : Standing) (verdict : Verdict) (view 
     → IfSome sent (λ s. IsTag s.tag) → IsPrinted verdict → turn_with sent now verdict answers ≡ Some turn → SeesAll view turn.events new → Leads view turn.bytes new
 heard_follows None now verdict view answers turn new t u e sees = absurd (none-some turn e)
 heard_follows (Some sent) now verdict view answers turn new t u e sees =
-    turn_follows sent.tag (refusals sent.tag t) view (without_sent now) (on_verdict now.selected sent.append.mailbox verdict) answers turn new e
-    (verdict_says sent.tag view now.selected sent.append.mailbox verdict t u) sees
+    turn_follows sent.tag (refusals sent.tag t) view (without_sent now) (on_verdict now.selected sent.origin sent.append.mailbox verdict) answers turn new e
+    (verdict_says sent.tag view now.selected sent.origin sent.append.mailbox verdict t u) sees
 
 pub verdict_is_followed : VerdictIsFollowed
 verdict_is_followed now verdict view answers turn new t u e sees = heard_follows now.mailing.sent now verdict view answers turn new t u e sees

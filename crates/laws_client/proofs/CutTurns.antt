@@ -449,7 +449,7 @@ text_cut : (mailing : Mailing) (a : PendingLiteral) (text : List ℕ) (mailbox :
 text_cut mailing a text mailbox =
     in_either true (is_over mailing.most a.size) (over mailing.most) _ (in_over true mailing.most)
     (in_either true (list_any (λ b. b == 0) text) (says (response_text texts.NulByte)) _ (refl, refl)
-    (in_either true (nat_le last_number mailing.number) (says (response_text texts.MailboxSpent)) (wanting (ex.Wait [] (ForVerdict mailbox (flags_for a.purpose) text))) (refl, refl) (passes_none, (refl, passes_none))))
+    (in_either true (nat_le last_number mailing.number) (says (response_text texts.MailboxSpent)) (wanting (ex.Wait [] (ForVerdict Client mailbox (flags_for a.purpose) text))) (refl, refl) (passes_none, (refl, passes_none))))
 
 rest_cut : (mailing : Mailing) (a : PendingLiteral) (empty : Bool) → SaysCut true (on_rest mailing a empty)
 rest_cut mailing a empty =
@@ -535,13 +535,13 @@ idle_cut (Some s) true now ((Starved a) ∷ more) = tt
 appended_end : (v uid : ℕ) → plain_end (reverse (appended_words v uid)) ≡ true
 appended_end v uid = ap plain_end (reverse-append (codes "OK [APPENDUID " ++ decimal v ++ codes " " ++ decimal uid) (codes "] APPEND completed"))
 
-verdict_cut : (selected : Option Selected) (mailbox : ℕ) (verdict : Verdict) → SaysCut true (on_verdict selected mailbox verdict)
+verdict_cut : (selected : Option Selected) (mailbox : ℕ) (verdict : Verdict) → SaysCut true (on_verdict selected origin mailbox verdict)
 verdict_cut selected mailbox (verdicts.Stored uid) = λ status. in_showing true selected (says (appended_words status.uidvalidity uid)) (appended_inner status.uidvalidity uid, appended_end status.uidvalidity uid)
 verdict_cut selected mailbox (verdicts.Refused why) = says_cut true (refused_text why)
 
 heard_cut : (sent : Option Sent) (now : Standing) (verdict : Verdict) (answers : List Answer) → IfSome sent (λ (s : Sent). IsWord s.tag) → TurnOne (turn_with sent now verdict answers)
 heard_cut None now verdict answers t = tt
-heard_cut (Some sent) now verdict answers t = plain_turn sent.tag t true (without_sent now) (on_verdict now.selected sent.append.mailbox verdict) answers (verdict_cut now.selected sent.append.mailbox verdict)
+heard_cut (Some sent) now verdict answers t = plain_turn sent.tag t true (without_sent now) (on_verdict now.selected sent.origin sent.append.mailbox verdict) answers (verdict_cut now.selected sent.origin sent.append.mailbox verdict)
 
 -- ---- a turn
 

@@ -41,9 +41,9 @@ text_fine : (tells : List ℕ → Bool) → Spares tells → (mailing : Mailing)
 text_fine tells spares mailing a text mailbox =
     either_fine tells (is_over mailing.most a.size) (over mailing.most) _ (says_fine tells spares (over mailing.most) (over_apart tells spares mailing.most))
     (either_fine tells (list_any (λ b. b == 0) text) (says (response_text texts.NulByte)) _ (says_fine tells spares (says (response_text texts.NulByte)) (refl, spares.no (behind 3 texts.NulByte)))
-    (either_fine tells (nat_le last_number mailing.number) (says (response_text texts.MailboxSpent)) (wanting (ex.Wait [] (ForVerdict mailbox (flags_for a.purpose) text)))
+    (either_fine tells (nat_le last_number mailing.number) (says (response_text texts.MailboxSpent)) (wanting (ex.Wait [] (ForVerdict Client mailbox (flags_for a.purpose) text)))
     (says_fine tells spares (says (response_text texts.MailboxSpent)) (refl, spares.no (behind 3 texts.MailboxSpent)))
-    (λ tag t now answers. fine_wanting tells spares tag t now (ex.Wait [] (ForVerdict mailbox (flags_for a.purpose) text)) (fine_wait tells spares tag t now (ForVerdict mailbox (flags_for a.purpose) text)) answers)))
+    (λ tag t now answers. fine_wanting tells spares tag t now (ex.Wait [] (ForVerdict Client mailbox (flags_for a.purpose) text)) (fine_wait tells spares tag t now (ForVerdict Client mailbox (flags_for a.purpose) text)) answers)))
 
 pub rest_fine : (tells : List ℕ → Bool) → Spares tells → (mailing : Mailing) (a : PendingLiteral) (empty : Bool) → EndsFine tells (on_rest mailing a empty)
 rest_fine tells spares mailing a empty =

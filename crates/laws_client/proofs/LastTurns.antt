@@ -166,7 +166,7 @@ shows_then v uid tag t (Some s) now (_ ∷ more) turn e = absurd (none-some turn
 
 -- the mailbox is counted first, for the house's UIDVALIDITY
 stored_says : (k : Config) (n mailbox uid : ℕ) (tag : List ℕ) → IsWord tag → (selected : Option Selected) (now : Standing) (w : World) (answers : List Answer) (turn : Turn) (v : World)
-    → played tag now (on_verdict selected mailbox (verdicts.Stored uid)) answers ≡ Some turn → Met (Calls k n) w turn.events v → SaysVerdict k.uidvalidity tag (verdicts.Stored uid) turn.bytes
+    → played tag now (on_verdict selected origin mailbox (verdicts.Stored uid)) answers ≡ Some turn → Met (Calls k n) w turn.events v → SaysVerdict k.uidvalidity tag (verdicts.Stored uid) turn.bytes
 stored_says k n mailbox uid tag t selected now w [] turn v e met = absurd (none-some turn e)
 stored_says k n mailbox uid tag t selected now w (Counted status ∷ more) turn v e met =
     let m = mapped (having (Count mailbox) (Counted status)) (played tag now (showing selected (says (appended_words status.uidvalidity uid))) more) turn e in
@@ -178,7 +178,7 @@ stored_says k n mailbox uid tag t selected now w (Refused fault ∷ []) turn v e
 stored_says k n mailbox uid tag t selected now w (_ ∷ more) turn v e met = absurd (none-some turn e)
 
 verdict_says : (k : Config) (n mailbox : ℕ) (verdict : Verdict) (tag : List ℕ) → IsWord tag → (selected : Option Selected) (now : Standing) (w : World) (answers : List Answer) (turn : Turn) (v : World)
-    → played tag now (on_verdict selected mailbox verdict) answers ≡ Some turn → Met (Calls k n) w turn.events v → SaysVerdict k.uidvalidity tag verdict turn.bytes
+    → played tag now (on_verdict selected origin mailbox verdict) answers ≡ Some turn → Met (Calls k n) w turn.events v → SaysVerdict k.uidvalidity tag verdict turn.bytes
 verdict_says k n mailbox (verdicts.Stored uid) tag t selected now w answers turn v e met = stored_says k n mailbox uid tag t selected now w answers turn v e met
 verdict_says k n mailbox (verdicts.Refused why) tag t selected now w answers turn v e met = (only_done tag (response_text (refused_text why)) Go now answers turn e).bytes
 

@@ -53,7 +53,7 @@ abbrev pub Kept : ℕ → Turn → Type 0
 Kept most turn = IsMailShort most turn.standing.mailing
 
 abbrev WaitFits : ℕ → Waiting → Type 0
-WaitFits most (ForVerdict mailbox flags text) = length text ≤ most
+WaitFits most (ForVerdict origin mailbox flags text) = length text ≤ most
 WaitFits most w = Unit {0}
 
 -- wherever a message is submitted it is no longer than that
@@ -96,7 +96,7 @@ waiting_keeps most tag now ForDone p k = k
 waiting_keeps most tag now (ForLiteral Asked purpose size) p k = record { takes = k.takes; begun = omega arith; sent = k.sent }
 waiting_keeps most tag now (ForLiteral Unasked purpose size) p k = record { takes = k.takes; begun = omega arith; sent = k.sent }
 waiting_keeps most tag now (ForLiteral Dropped purpose size) p k = record { takes = k.takes; begun = tt; sent = k.sent }
-waiting_keeps most tag now (ForVerdict mailbox flags text) p k = record { takes = k.takes; begun = k.begun; sent = p }
+waiting_keeps most tag now (ForVerdict origin mailbox flags text) p k = record { takes = k.takes; begun = k.begun; sent = p }
 waiting_keeps most tag now ForNothing p k = k
 
 -- memory is refused to who was to wait
@@ -266,7 +266,7 @@ fit_rest : (most : ℕ) (mailing : Mailing) (a : PendingLiteral) (empty : Bool) 
 fit_rest most mailing a empty takes short = kept a.text short
   where
     by : (text : List ℕ) (mailbox : ℕ) (x y z : Bool) → is_over mailing.most a.size ≡ x → length text + a.due ≤ a.size
-        → TextsFit most (if x then over mailing.most else if y then says (response_text texts.NulByte) else if z then says (response_text texts.MailboxSpent) else wanting (Wait [] (ForVerdict mailbox (flags_for a.purpose) text)))
+        → TextsFit most (if x then over mailing.most else if y then says (response_text texts.NulByte) else if z then says (response_text texts.MailboxSpent) else wanting (Wait [] (ForVerdict Client mailbox (flags_for a.purpose) text)))
     by text mailbox true y z e few = fit_over most mailing.most
     by text mailbox false true z e few = tt
     by text mailbox false false true e few = tt
@@ -288,7 +288,7 @@ fit_rest most mailing a empty takes short = kept a.text short
 fit_idle_line : (most : ℕ) (selected : Option Selected) (line : List ℕ) → TextsFit most (on_idle_line selected line)
 fit_idle_line most selected line = fit_if most (is_done line) (showing selected (completed commands.Idle)) (says (response_text texts.ExpectedDone)) (fit_showing most selected (completed commands.Idle) tt) tt
 
-fit_verdict : (most : ℕ) (selected : Option Selected) (mailbox : ℕ) (verdict : Verdict) → TextsFit most (on_verdict selected mailbox verdict)
+fit_verdict : (most : ℕ) (selected : Option Selected) (mailbox : ℕ) (verdict : Verdict) → TextsFit most (on_verdict selected origin mailbox verdict)
 fit_verdict most selected mailbox (verdicts.Stored uid) = λ status. fit_showing most selected _ tt
 fit_verdict most selected mailbox (verdicts.Refused why) = tt
 
@@ -322,7 +322,7 @@ none_begun most now k = record { takes = k.takes; begun = tt; sent = k.sent }
 heard_keeps : (most : ℕ) (sent : Option Sent) (now : Standing) (verdict : Verdict) (answers : List Answer) (turn : Turn) → IsMailShort most now.mailing → turn_with sent now verdict answers ≡ Some turn → Kept most turn
 heard_keeps most None now verdict answers turn k e = absurd (none-some turn e)
 heard_keeps most (Some sent) now verdict answers turn k e =
-    mail_stays most sent.tag (without_sent now) (on_verdict now.selected sent.append.mailbox verdict) answers turn (fit_verdict most now.selected sent.append.mailbox verdict) (record { takes = k.takes; begun = tt; sent = tt }) e
+    mail_stays most sent.tag (without_sent now) (on_verdict now.selected sent.origin sent.append.mailbox verdict) answers turn (fit_verdict most now.selected sent.origin sent.append.mailbox verdict) (record { takes = k.takes; begun = tt; sent = tt }) e
 
 pub line_mail : (most : ℕ) (now : Standing) (line : List ℕ) (answers : List Answer) (turn : Turn) → IsMailShort most now.mailing → turn_of now line answers ≡ Some turn → Kept most turn
 line_mail most now line answers turn k e =

@@ -271,7 +271,7 @@ rest_says : (tag : List ℕ) (p : Point) (mailing : Mailing) (a : PendingLiteral
 rest_says tag p mailing a empty t = kept a.text
   where
     text_says : (big nul spent : Bool) (text : List ℕ) (mailbox : ℕ)
-        → SaysFlags tag p (if big then over mailing.most else if nul then says (response_text texts.NulByte) else if spent then says (response_text texts.MailboxSpent) else wanting (Wait [] (ForVerdict mailbox (flags_for a.purpose) text)))
+        → SaysFlags tag p (if big then over mailing.most else if nul then says (response_text texts.NulByte) else if spent then says (response_text texts.MailboxSpent) else wanting (Wait [] (ForVerdict Client mailbox (flags_for a.purpose) text)))
     text_says true nul spent text mailbox = over_says tag p mailing.most t
     text_says false true spent text mailbox = last tag p texts.NulByte t
     text_says false false true text mailbox = last tag p texts.MailboxSpent t
@@ -290,7 +290,7 @@ rest_says tag p mailing a empty t = kept a.text
     kept None = last tag p texts.OutOfMemory t
     kept (Some text) = ended empty text
 
-verdict_says : (tag : List ℕ) (p : Point) (selected : Option Selected) (mailbox : ℕ) (verdict : Verdict) → IsTag tag → IsPrinted verdict → SaysFlags tag p (on_verdict selected mailbox verdict)
+verdict_says : (tag : List ℕ) (p : Point) (selected : Option Selected) (mailbox : ℕ) (verdict : Verdict) → IsTag tag → IsPrinted verdict → SaysFlags tag p (on_verdict selected origin mailbox verdict)
 verdict_says tag p selected mailbox (verdicts.Stored uid) t u = λ status r s.
     shows_then tag r selected (says (appended_words status.uidvalidity uid))
     (λ q. leaves q _ (tagged_tells_nothing tag (appended_words status.uidvalidity uid) t (stored_plain status.uidvalidity uid s.sees.fits.uidvalidity u)))
@@ -401,8 +401,8 @@ heard_follows : (sent : Option Sent) (now : Standing) (verdict : Verdict) (p : P
     → IfSome sent (λ s. IsTag s.tag) → IsPrinted verdict → turn_with sent now verdict answers ≡ Some turn → SeesAllMoments p turn.events q → LeadsFlags p turn.bytes q
 heard_follows None now verdict p answers turn q t u e sees = absurd (none-some turn e)
 heard_follows (Some sent) now verdict p answers turn q t u e sees =
-    turn_tells sent.tag (refusals sent.tag t) p (without_sent now) (on_verdict now.selected sent.append.mailbox verdict) answers turn q e
-    (verdict_says sent.tag p now.selected sent.append.mailbox verdict t u) sees
+    turn_tells sent.tag (refusals sent.tag t) p (without_sent now) (on_verdict now.selected sent.origin sent.append.mailbox verdict) answers turn q e
+    (verdict_says sent.tag p now.selected sent.origin sent.append.mailbox verdict t u) sees
 
 pub verdict_tells : (now : Standing) (verdict : Verdict) (p : Point) (answers : List Answer) (turn : Turn) (q : Point)
     → IfSome now.mailing.sent (λ sent. IsTag sent.tag) → IsPrinted verdict → turn_of_verdict now verdict answers ≡ Some turn → SeesAllMoments p turn.events q → LeadsFlags p turn.bytes q

@@ -98,7 +98,7 @@ given_up tag now fault turn e = told now (saying (refusal_text tag fault)) (λ s
 waiting_keeps : (tag : List ℕ) (now : Standing) (w : Waiting) → (waiting tag w now).selected ≡ now.selected
 waiting_keeps tag now ForDone = refl
 waiting_keeps tag now (ForLiteral coming purpose size) = refl
-waiting_keeps tag now (ForVerdict mailbox flags text) = refl
+waiting_keeps tag now (ForVerdict origin mailbox flags text) = refl
 waiting_keeps tag now ForNothing = refl
 
 -- memory is refused to who was to wait
@@ -251,7 +251,7 @@ in_rest mailing a empty =
     submits : (text : List ℕ) (mailbox : ℕ) → StaysIn (on_text mailing a text mailbox)
     submits text mailbox = by (is_over mailing.most a.size) (list_any (λ b. b == 0) text) (nat_le last_number mailing.number)
       where
-        by : (x y z : Bool) → StaysIn (if x then over mailing.most else if y then says (response_text texts.NulByte) else if z then says (response_text texts.MailboxSpent) else wanting (Wait [] (ForVerdict mailbox (flags_for a.purpose) text)))
+        by : (x y z : Bool) → StaysIn (if x then over mailing.most else if y then says (response_text texts.NulByte) else if z then says (response_text texts.MailboxSpent) else wanting (Wait [] (ForVerdict Client mailbox (flags_for a.purpose) text)))
         by true y z = in_over mailing.most
         by false true z = tt
         by false false true = tt
@@ -260,7 +260,7 @@ in_rest mailing a empty =
 pub in_idle_line : (selected : Option Selected) (line : List ℕ) → StaysIn (on_idle_line selected line)
 in_idle_line selected line = in_if (is_done line) (showing selected (completed commands.Idle)) (says (response_text texts.ExpectedDone)) (in_showing selected (completed commands.Idle) tt) tt
 
-in_verdict : (selected : Option Selected) (mailbox : ℕ) (verdict : Verdict) → StaysIn (on_verdict selected mailbox verdict)
+in_verdict : (selected : Option Selected) (mailbox : ℕ) (verdict : Verdict) → StaysIn (on_verdict selected origin mailbox verdict)
 in_verdict selected mailbox (verdicts.Stored uid) = λ status. in_showing selected _ tt
 in_verdict selected mailbox (verdicts.Refused why) = tt
 
@@ -427,7 +427,7 @@ line_sel now line answers turn client e k =
 
 pub verdict_sel : (sent : Option Sent) (now : Standing) (verdict : Verdict) (answers : List Answer) (turn : Turn) → turn_with sent now verdict answers ≡ Some turn → turn.standing.selected ≡ now.selected
 verdict_sel None now verdict answers turn e = absurd (none-some turn e)
-verdict_sel (Some sent) now verdict answers turn e = selected_stays sent.tag (without_sent now) (on_verdict now.selected sent.append.mailbox verdict) answers turn (in_verdict now.selected sent.append.mailbox verdict) e
+verdict_sel (Some sent) now verdict answers turn e = selected_stays sent.tag (without_sent now) (on_verdict now.selected sent.origin sent.append.mailbox verdict) answers turn (in_verdict now.selected sent.origin sent.append.mailbox verdict) e
 
 pub turn_sel : (now : Standing) (happening : Happening) (turn : Turn) (client : Option Client) → leads_to now happening ≡ Some turn → Known_selected client now → Known_selected (hears client (told_of now happening turn.bytes)) turn.standing
 turn_sel now (Line line answers) turn client e k = line_sel now line answers turn client e k

@@ -69,7 +69,7 @@ folders_wait : (folders : List Folder) (tag : List ℕ) (now : Standing) (w : Wa
 unfolding HasFolders
 folders_wait folders tag now ForDone k = k
 folders_wait folders tag now (ForLiteral coming purpose size) k = k
-folders_wait folders tag now (ForVerdict mailbox flags text) k = k
+folders_wait folders tag now (ForVerdict origin mailbox flags text) k = k
 folders_wait folders tag now ForNothing k = k
 
 folders_keep : (folders : List Folder) (tag : List ℕ) → Keeps (HasFolders folders) tag
@@ -208,12 +208,12 @@ coming tag purpose size = record { tag = tag; purpose = purpose; size = size; du
 
 -- it waits so for its literal
 waits_for_it : (A : Waiting → Type 0) (folders : List Folder) (sent bytes tag : List ℕ) (now next : Standing) → Mailed folders sent now → next.folders ≡ now.folders → (A ForDone → ⊥)
-    → ((mailbox : ℕ) (flags : Flags) (text : List ℕ) → A (ForVerdict mailbox flags text) → ⊥)
+    → ((mailbox : ℕ) (flags : Flags) (text : List ℕ) → A (ForVerdict origin mailbox flags text) → ⊥)
     → ((p : Purpose) (size : ℕ) → A (ForLiteral Asked p size) → IsBegunAs folders (sent ++ bytes) (coming tag p size)) → ((p : Purpose) (size : ℕ) → A (ForLiteral Unasked p size) → IsBegunAs folders (sent ++ bytes) (coming tag p size))
     → IsMail A tag (without_begun now).mailing next.mailing → Mailed folders (sent ++ bytes) next
 waits_for_it A folders sent bytes tag now next m same no_done no_verdict asked unasked (inl e) = same_mail folders sent bytes now next m same (ap (λ (x : Mailing). x.sent) e) (ap (λ (x : Mailing). x.begun) e)
 waits_for_it A folders sent bytes tag now next m same no_done no_verdict asked unasked (inr (ForDone, p, e)) = absurd (no_done p)
-waits_for_it A folders sent bytes tag now next m same no_done no_verdict asked unasked (inr (ForVerdict mailbox flags text, p, e)) = absurd (no_verdict mailbox flags text p)
+waits_for_it A folders sent bytes tag now next m same no_done no_verdict asked unasked (inr (ForVerdict origin mailbox flags text, p, e)) = absurd (no_verdict mailbox flags text p)
 waits_for_it A folders sent bytes tag now next m same no_done no_verdict asked unasked (inr (ForNothing, p, e)) = same_mail folders sent bytes now next m same (ap (λ (x : Mailing). x.sent) e) (ap (λ (x : Mailing). x.begun) e)
 waits_for_it A folders sent bytes tag now next m same no_done no_verdict asked unasked (inr (ForLiteral Dropped q size, p, e)) =
     begun_mail folders sent bytes now next (record { tag = tag; purpose = q; size = size; due = size; text = None }) m same (ap (λ (x : Mailing). x.sent) e) (ap (λ (x : Mailing). x.begun) e) (dropped folders (sent ++ bytes) _ refl)
@@ -335,7 +335,7 @@ rest_comes folders sent line a to with now next m same begun purpose due (inl e)
 rest_comes folders sent line a to with now next m same begun purpose due (inr (ForDone, p, e)) = absurd p
 rest_comes folders sent line a to with now next m same begun purpose due (inr (ForNothing, p, e)) = absurd p
 rest_comes folders sent line a to with now next m same begun purpose due (inr (ForLiteral coming q size, p, e)) = absurd p
-rest_comes folders sent line a to with now next m same begun purpose due (inr (ForVerdict mailbox flags text, p, e)) =
+rest_comes folders sent line a to with now next m same begun purpose due (inr (ForVerdict origin mailbox flags text, p, e)) =
     let h : IsBegunAs folders sent a = subst (λ (o : Option PendingLiteral). IfSome o (IsBegunAs folders sent)) begun m.begun in
     let b : MessageWith folders sent to with a text = subst (λ (q : Purpose). IsBegunFor q folders sent a text) purpose (h text p.2) in
     let empty : line ≡ [] = no_bytes line p.3 in record {
@@ -468,7 +468,7 @@ idle_folders now answers turn e = turned_folders now.selected (is_idling now) no
 
 verdict_folders : (s : Sent) (now : Standing) (verdict : Verdict) (answers : List Answer) (turn : Turn) → turn_with (Some s) now verdict answers ≡ Some turn → turn.standing.folders ≡ now.folders
 unfolding HasFolders
-verdict_folders s now verdict answers turn e = played_keeps (HasFolders now.folders) s.tag (folders_keep now.folders s.tag) (without_sent now) (on_verdict now.selected s.append.mailbox verdict) answers turn refl e
+verdict_folders s now verdict answers turn e = played_keeps (HasFolders now.folders) s.tag (folders_keep now.folders s.tag) (without_sent now) (on_verdict now.selected s.origin s.append.mailbox verdict) answers turn refl e
 
 pub mail_turn : (k : Config) (n : ℕ) (folders : List Folder) (sent bytes : List ℕ) (now : Standing) (w : World) (happening : Happening) (turn : Turn) (v : World) → Mailed folders sent now → ComesInTurn now happening → IsSentFor happening bytes
     → leads_to now happening ≡ Some turn → Met (Calls k n) w turn.events v → Mailed folders (sent ++ bytes) turn.standing
@@ -495,7 +495,7 @@ mail_turn k n folders sent bytes now w (Heard verdict answers) turn v m due is e
     by : (o : Option Sent) → turn_with o now verdict answers ≡ Some turn → Mailed folders (sent ++ bytes) turn.standing
     by None e = absurd (none-some turn e)
     by (Some s) e =
-        let mailing = verdict_mail s.tag (without_sent now) now.selected s.append.mailbox verdict answers turn e in record {
+        let mailing = verdict_mail s.tag (without_sent now) now.selected s.origin s.append.mailbox verdict answers turn e in record {
           same = verdict_folders s now verdict answers turn e ∙ m.same;
           begun = subst (λ (x : Mailing). IfSome x.begun (IsBegunAs folders (sent ++ bytes))) (sym mailing) tt;
           waits = subst (λ (x : Mailing). IfSome x.sent (IsSentAs folders (sent ++ bytes))) (sym mailing) tt;

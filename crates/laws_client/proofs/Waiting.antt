@@ -63,13 +63,13 @@ Drops A = (purpose : Purpose) (size : ℕ) → A (ForLiteral Unasked purpose siz
 abbrev pub waiting_mail : List ℕ → Waiting → Mailing → Mailing
 waiting_mail tag ForDone m = m
 waiting_mail tag (ForLiteral coming purpose size) m = record m { begun = Some (record { tag = tag; purpose = purpose; size = size; due = size; text = text_before coming }) }
-waiting_mail tag (ForVerdict mailbox flags text) m = record m { number = m.number + 1; sent = Some (record { tag = tag; append = record { message = m.number; mailbox = mailbox; text = text; flags = flags } }) }
+waiting_mail tag (ForVerdict origin mailbox flags text) m = record m { number = m.number + 1; sent = Some (record { tag = tag; append = record { message = m.number; mailbox = mailbox; text = text; flags = flags }; origin = origin }) }
 waiting_mail tag ForNothing m = m
 
 waiting_is : (tag : List ℕ) (w : Waiting) (now : Standing) → (waiting tag w now).mailing ≡ waiting_mail tag w now.mailing
 waiting_is tag ForDone now = refl
 waiting_is tag (ForLiteral coming purpose size) now = refl
-waiting_is tag (ForVerdict mailbox flags text) now = refl
+waiting_is tag (ForVerdict origin mailbox flags text) now = refl
 waiting_is tag ForNothing now = refl
 
 -- it is as before, or it waits so
@@ -117,8 +117,8 @@ unkept_mail A drops tag (ForLiteral Unasked purpose size) now (suc zero) p = lon
 unkept_mail A drops tag (ForLiteral Unasked purpose size) now (suc (suc n)) p = tt
 unkept_mail A drops tag (ForLiteral Dropped purpose size) now zero p = tt
 unkept_mail A drops tag (ForLiteral Dropped purpose size) now (suc n) p = tt
-unkept_mail A drops tag (ForVerdict mailbox flags text) now zero p = tt
-unkept_mail A drops tag (ForVerdict mailbox flags text) now (suc n) p = tt
+unkept_mail A drops tag (ForVerdict origin mailbox flags text) now zero p = tt
+unkept_mail A drops tag (ForVerdict origin mailbox flags text) now (suc n) p = tt
 unkept_mail A drops tag ForNothing now zero p = tt
 unkept_mail A drops tag ForNothing now (suc n) p = tt
 
@@ -396,7 +396,7 @@ done_mail tag m next (inl e) = e
 done_mail tag m next (inr (ForDone, p, e)) = e
 done_mail tag m next (inr (ForNothing, p, e)) = e
 done_mail tag m next (inr (ForLiteral coming purpose size, p, e)) = absurd p
-done_mail tag m next (inr (ForVerdict mailbox flags text, p, e)) = absurd p
+done_mail tag m next (inr (ForVerdict origin mailbox flags text, p, e)) = absurd p
 
 done_drops : Drops ForItsDone
 done_drops purpose size p = absurd p
@@ -471,16 +471,16 @@ idling_waits selected line = in_either ForItsDone (is_done line) (showing select
 pub idling_mail : (tag : List ℕ) (now : Standing) (selected : Option Selected) (line : List ℕ) (answers : List Answer) (turn : Turn) → played tag now (on_idle_line selected line) answers ≡ Some turn → turn.standing.mailing ≡ now.mailing
 idling_mail tag now selected line answers turn e = so_mail tag now (on_idle_line selected line) answers turn (idling_waits selected line) e
 
-verdict_waits : (selected : Option Selected) (mailbox : ℕ) (verdict : Verdict) → WaitsAs ForItsDone (on_verdict selected mailbox verdict)
+verdict_waits : (selected : Option Selected) (mailbox : ℕ) (verdict : Verdict) → WaitsAs ForItsDone (on_verdict selected origin mailbox verdict)
 verdict_waits selected mailbox (verdicts.Stored uid) = λ status. in_showing ForItsDone selected _ tt
 verdict_waits selected mailbox (verdicts.Refused why) = tt
 
-pub verdict_mail : (tag : List ℕ) (now : Standing) (selected : Option Selected) (mailbox : ℕ) (verdict : Verdict) (answers : List Answer) (turn : Turn) → played tag now (on_verdict selected mailbox verdict) answers ≡ Some turn → turn.standing.mailing ≡ now.mailing
-verdict_mail tag now selected mailbox verdict answers turn e = so_mail tag now (on_verdict selected mailbox verdict) answers turn (verdict_waits selected mailbox verdict) e
+pub verdict_mail : (tag : List ℕ) (now : Standing) (selected : Option Selected) (mailbox : ℕ) (verdict : Verdict) (answers : List Answer) (turn : Turn) → played tag now (on_verdict selected origin mailbox verdict) answers ≡ Some turn → turn.standing.mailing ≡ now.mailing
+verdict_mail tag now selected mailbox verdict answers turn e = so_mail tag now (on_verdict selected origin mailbox verdict) answers turn (verdict_waits selected mailbox verdict) e
 
 -- behind a literal it waits for the verdict on that message
 abbrev pub ForItsVerdict : PendingLiteral → Bool → Waiting → Type 0
-ForItsVerdict a empty (ForVerdict mailbox flags text) = (mailbox_for a.purpose ≡ Some mailbox) × (flags ≡ flags_for a.purpose) × (a.text ≡ Some text) × (empty ≡ true)
+ForItsVerdict a empty (ForVerdict origin mailbox flags text) = (mailbox_for a.purpose ≡ Some mailbox) × (flags ≡ flags_for a.purpose) × (a.text ≡ Some text) × (empty ≡ true)
 ForItsVerdict a empty w = ⊥
 
 verdict_drops : (a : PendingLiteral) (empty : Bool) → Drops (ForItsVerdict a empty)
@@ -495,7 +495,7 @@ text_waits mailing a empty text mailbox m t e =
     let A : Waiting → Type 0 = ForItsVerdict a empty in
     in_either A (is_over mailing.most a.size) (over mailing.most) _ (over_so A mailing.most)
     (in_either A (list_any (λ b. b == 0) text) (says (response_text texts.NulByte)) _ tt
-    (in_either A (nat_le last_number mailing.number) (says (response_text texts.MailboxSpent)) (wanting (ex.Wait [] (ForVerdict mailbox (flags_for a.purpose) text))) tt (m, refl, t, e)))
+    (in_either A (nat_le last_number mailing.number) (says (response_text texts.MailboxSpent)) (wanting (ex.Wait [] (ForVerdict Client mailbox (flags_for a.purpose) text))) tt (m, refl, t, e)))
 
 rest_waits : (mailing : Mailing) (a : PendingLiteral) (empty : Bool) → WaitsAs (ForItsVerdict a empty) (on_rest mailing a empty)
 rest_waits mailing a empty = by_text a.text refl

@@ -101,7 +101,7 @@ refused_ok tag t call now fault turn e ok =
     never turn.bytes (subst (Apart starts_ok) (sym (sym (ap (λ (x : Turn). x.bytes) (ap (the_turn turn) e)) ∙ only.bytes)) (refusal_apart starts_ok ok_spares tag t fault)) ok
 
 stored_current : (k : Config) (n mailbox uid : ℕ) (tag : List ℕ) → IsWord tag → (selected : Selected) (now : Standing) (w : World) (answers : List Answer) (turn : Turn) (v : World) → Kept k w
-    → played tag now (on_verdict (Some selected) mailbox (verdicts.Stored uid)) answers ≡ Some turn → Met (Calls k n) w turn.events v → SaysOk turn.bytes → IsCurrent v n
+    → played tag now (on_verdict (Some selected) origin mailbox (verdicts.Stored uid)) answers ≡ Some turn → Met (Calls k n) w turn.events v → SaysOk turn.bytes → IsCurrent v n
 stored_current k n mailbox uid tag t selected now w [] turn v K e met ok = absurd (none-some turn e)
 stored_current k n mailbox uid tag t selected now w (Counted status ∷ more) turn v K e met ok =
     let m = mapped (having (Count mailbox) (Counted status)) (played tag now (showing (Some selected) (says (appended_words status.uidvalidity uid))) more) turn e in
@@ -113,7 +113,7 @@ stored_current k n mailbox uid tag t selected now w (Refused fault ∷ []) turn 
 stored_current k n mailbox uid tag t selected now w (_ ∷ more) turn v K e met ok = absurd (none-some turn e)
 
 verdict_current : (k : Config) (n mailbox : ℕ) (verdict : Verdict) (tag : List ℕ) → IsWord tag → (selected : Selected) (now : Standing) (w : World) (answers : List Answer) (turn : Turn) (v : World) → Kept k w
-    → played tag now (on_verdict (Some selected) mailbox verdict) answers ≡ Some turn → Met (Calls k n) w turn.events v → SaysOk turn.bytes → IsCurrent v n
+    → played tag now (on_verdict (Some selected) origin mailbox verdict) answers ≡ Some turn → Met (Calls k n) w turn.events v → SaysOk turn.bytes → IsCurrent v n
 verdict_current k n mailbox (verdicts.Stored uid) tag t selected now w answers turn v K e met ok = stored_current k n mailbox uid tag t selected now w answers turn v K e met ok
 verdict_current k n mailbox (verdicts.Refused why) tag t selected now w answers turn v K e met ok =
     let d = only_done tag (response_text (refused_text why)) Go now answers turn e in
@@ -157,8 +157,8 @@ words_current k n now (Heard verdict answers) selected w turn v bytes K t there 
     by None is = absurd (none-some turn (subst (λ (o : Option Sent). turn_with o now verdict answers ≡ Some turn) is e))
     by (Some sent) is =
         let first : turn_with (Some sent) now verdict answers ≡ Some turn = subst (λ (o : Option Sent). turn_with o now verdict answers ≡ Some turn) is e in
-        let second : played sent.tag (without_sent now) (on_verdict (Some selected) sent.append.mailbox verdict) answers ≡ Some turn =
-        subst (λ (o : Option Selected). played sent.tag (without_sent now) (on_verdict o sent.append.mailbox verdict) answers ≡ Some turn) there first in
+        let second : played sent.tag (without_sent now) (on_verdict (Some selected) sent.origin sent.append.mailbox verdict) answers ≡ Some turn =
+        subst (λ (o : Option Selected). played sent.tag (without_sent now) (on_verdict o sent.origin sent.append.mailbox verdict) answers ≡ Some turn) there first in
         verdict_current k n sent.append.mailbox verdict sent.tag (subst (λ (o : Option Sent). IfSome o (λ (s : Sent). IsWord s.tag)) is t.2) selected (without_sent now) w answers turn v K second met ok
 
 -- ---- in a life
