@@ -3,6 +3,7 @@ use Rattle.std.specs.Prelude.{nat_lt, if◌then◌else◌}
 use Rattle.std.proofs.lemmas.Bool.Decides.{nat_tests}
 use Rattle.std.proofs.Common.{◌≡◌, ◌<◌, ◌≤◌, ◌+◌, arith, ℕ, Bool, true, false, Option, List, [], ◌∷◌, ◌++◌, None, Some, ap, sym, ◌∙◌, append-nil, length, refl, subst}
 use Rattle.imap_session.specs.declared.standing.After.TheVariants.{Go, Bye, Literal}
+use Rattle.imap_session.specs.declared.standing.Origin.{Origin}
 use Rattle.imap_session.specs.Exchange.{Argument, Asked, Coming, Dropped, Exchange, Unasked, continuing, Folder, Message, Purpose, ForLiteral, ForNothing, ForVerdict, Standing, Starved, Wait, Waiting, after_waiting, bye, most_in_place, played, tagged, text_before, waiting}
 use Rattle.change_ring.specs.declared.change.Flags.{Flags}
 use Rattle.imap_grammar.specs.declared.command.Append.{Append}
@@ -50,11 +51,11 @@ leads_wanting_waits tag bytes waits now next x before text e w same =
     subst (λ (n : Standing). Leads tag now x before text (after_waiting waits) n) (sym same)
     ([], bytes ++ [], ap (λ y. played tag now y []) e, w ∙ ap (λ t. before ++ t) (sym (append-nil bytes)))
 
-pub submitted_again : {s now : Standing} (mailbox : ℕ) (own flags : Flags) (t u tag : List ℕ) → own ≡ flags → t ≡ u → s ≡ now
-    → waiting tag (ForVerdict mailbox own t) s ≡ waiting tag (ForVerdict mailbox flags u) now
-submitted_again {s} {now} mailbox own flags t u tag same e f =
-    ap (λ (y : Flags). waiting tag (ForVerdict mailbox y t) s) same
-    ∙ ap (λ (y : List ℕ). waiting tag (ForVerdict mailbox flags y) s) e ∙ ap (λ (x : Standing). waiting tag (ForVerdict mailbox flags u) x) f
+pub submitted_again : {s now : Standing} (origin : Origin) (mailbox : ℕ) (own flags : Flags) (t u tag : List ℕ) → own ≡ flags → t ≡ u → s ≡ now
+    → waiting tag (ForVerdict origin mailbox own t) s ≡ waiting tag (ForVerdict origin mailbox flags u) now
+submitted_again {s} {now} origin mailbox own flags t u tag same e f =
+    ap (λ (y : Flags). waiting tag (ForVerdict origin mailbox y t) s) same
+    ∙ ap (λ (y : List ℕ). waiting tag (ForVerdict origin mailbox flags y) s) e ∙ ap (λ (x : Standing). waiting tag (ForVerdict origin mailbox flags u) x) f
 
 -- ---- the line of an APPEND
 

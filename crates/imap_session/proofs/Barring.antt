@@ -39,6 +39,10 @@ lacking_refuses verbs.Subscribe = refl
 lacking_refuses verbs.Unsubscribe = refl
 lacking_refuses verbs.Search = refl
 lacking_refuses verbs.UidSearch = refl
+lacking_refuses verbs.Copy = refl
+lacking_refuses verbs.UidCopy = refl
+lacking_refuses verbs.Move = refl
+lacking_refuses verbs.UidMove = refl
 lacking_refuses _ = tt
 
 unoffered_refuses : (profile : Profile) (command : Command) → Refuses (unoffered profile command)

@@ -9,7 +9,7 @@ use Rattle.imap_session.specs.declared.standing.After.TheVariants.{Go, Bye}
 use Rattle.imap_session.specs.declared.standing.Profile.{Profile}
 use Rattle.imap_session.specs.declared.standing.Selected.{Selected}
 use Rattle.imap_session.specs.Exchange as ex
-use Rattle.imap_session.specs.Exchange.{Call, Answer, Exchange, Folder, Mailing, Standing, Event, played, saying, closed, tagged, refusal_text, refusal_after}
+use Rattle.imap_session.specs.Exchange.{Call, Answer, Exchange, Folder, Mailing, Standing, Event, played, saying, closed, tagged, refusal_text, refusal_after, Counted, having}
 use Rattle.imap_session.specs.Commands.{notice, noticing, on_command, on_found, wrong_state}
 use Rattle.imap_session.specs.Store.{Met}
 use Rattle.imap_session.specs.Response.{Response}
@@ -19,6 +19,7 @@ use Rattle.imap_session.specs.declared.texts.ResponseText.TheVariants as texts
 use Rattle.imap_session.specs.Texts.{response_text}
 use Rattle.imap_grammar.specs.declared.command.Verb.TheVariants as verbs
 use Rattle.imap_session.specs.declared.texts.ResponseText.{ResponseText}
+use Rattle.mailbox.specs.declared.mailbox.Status.{Status}
 
 -- what is done where the selected mailbox stays
 pub moves_still : {S V : Type 0} (step : S → Call → Answer → S → Type 0) (sel : Option Selected) (x : Exchange) (y : V → Exchange) (old new : S) (before after : Response) (r : Result V MailFault)
@@ -143,6 +144,18 @@ plays_said step words now x old new before mid final p e =
     let led = p.leads [] (saying (tagged before.tag words) (closed now Go)) refl in
     ends step before.tag now now x old new before.text mid.text final p.events p.bytes (tagged before.tag words) Go led.0 led.1 p.met p.wrote.1
     (e ∙ ap (λ (t : List ℕ). mid.text ++ tagged t words) p.wrote.0)
+
+-- a mailbox was counted, and then the rest was played
+pub plays_counted : {S : Type 0} (step : S → Call → Answer → S → Type 0) (tag : List ℕ) (now next : Standing) (mailbox : ℕ) (f : Status → Exchange) (status : Status) (old mid new : S) (before after : List ℕ) (how : After)
+    → step old (ex.Count mailbox) (Counted status) mid → Plays step tag now next (f status) mid new before after how → Plays step tag now next (ex.Count mailbox f) old new before after how
+plays_counted step tag now next mailbox f status old mid new before after how h p = record {
+  answers = Counted status ∷ p.answers;
+  events = record { call = ex.Count mailbox; answer = Counted status } ∷ p.events;
+  bytes = p.bytes;
+  leads = ap (option_map (having (ex.Count mailbox) (Counted status))) p.leads;
+  met = (mid, h, p.met);
+  wrote = p.wrote;
+}
 
 -- a fault stopped it, and that was said
 pub plays_stopped : {S : Type 0} (step : S → Call → Answer → S → Type 0) (now : Standing) (x : Exchange) (fault : MailFault) (old new : S) (before mid : Response) (final : List ℕ) (how : After)

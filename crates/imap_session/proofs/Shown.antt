@@ -1,6 +1,6 @@
 -- Each command shows changes only where they belong.
 use Rattle.std.proofs.Common.{◌≡◌, inl, inr, ℕ, is_some, ◌++◌, append_assoc, Bool, true, false, codes, List, [], ◌∷◌, Option, Some, None, refl, if◌then◌else◌}
-use Rattle.std.specs.Prelude.{◌&&◌}
+use Rattle.std.specs.Prelude.{◌&&◌, length, nat_le}
 use Rattle.change_ring.specs.declared.change.Flags.{Flags}
 use Rattle.mailbox.specs.declared.clients.Row.{Row}
 use Rattle.cursor_set.specs.Lines.{position, flag_words, spaced}
@@ -22,12 +22,15 @@ use Rattle.imap_session.specs.declared.texts.ResponseText.{ResponseText}
 use Rattle.imap_session.proofs.Barring.{answering_has, refuses}
 use Rattle.std.specs.Prelude.{nat_lt}
 use Rattle.imap_grammar.specs.declared.command.Append.{Append}
-use Rattle.imap_session.specs.Exchange.{Exchange, Expunge, Feed, Folder, ForNothing, Standing, Wait, Write, bye, untagged}
-use Rattle.imap_session.specs.Commands.{answering, telling_recent, asking, coming, most_unasked, nowhere, is_over, number_named, over, wanting, wanting_for, on_command, on_idle_line, counting, folder_of, showing, completed, closing, entering, on_folder, on_chosen, messages_done, on_found, fetching, storing, fetched, if_writable, expunge_set, found_in, search_done, search_known, search_messages, searching, store_messages, fetch_messages, unlimited, wrong_state, says, notice, noticing}
+use Rattle.imap_session.specs.Exchange.{Exchange, Expunge, Feed, Folder, ForNothing, Standing, Wait, Write, bye, untagged, ForVerdict}
+use Rattle.imap_session.specs.Commands.{answering, telling_recent, asking, coming, most_unasked, nowhere, is_over, number_named, over, wanting, wanting_for, on_command, on_idle_line, counting, folder_of, showing, completed, closing, entering, on_folder, on_chosen, messages_done, on_found, fetching, storing, fetched, if_writable, expunge_set, found_in, search_done, search_known, search_messages, searching, store_messages, fetch_messages, unlimited, wrong_state, says, notice, noticing, copying, copy_of, copy_to, copy_messages, most_copied, last_number}
 use Rattle.imap_session.proofs.Appends.{asked_at, sent_at}
 use Rattle.imap_session.specs.Shows.{DoneShowsInOrder, IsFetchLine, IsNoOk, IsNotice, MaySay, ShowsBefore, ShowsInOrder, may_show}
 use Rattle.imap_session.specs.declared.texts.ResponseText.TheVariants as texts
 use Rattle.imap_session.specs.Texts.{response_text}
+use Rattle.imap_grammar.specs.declared.command.CopyMessages.{CopyMessages}
+use Rattle.imap_session.specs.declared.standing.Source.{Source}
+use Rattle.imap_session.specs.declared.standing.Origin.TheVariants.{Copied}
 
 no_must : (b : Bool) (o : Option Selected) → o ≡ None → (b && is_some o) ≡ true → ⊥
 no_must true None n e = cc
@@ -136,6 +139,20 @@ in_append now most a found =
     (in_either now (commands.Append a) (nat_lt most_unasked a.literal.size) (Wait (bye (response_text texts.LiteralTooBig)) ForNothing) (coming found a.flags a.literal.size)
     (inr (inr refl), refl) (inl refl, refl))
 
+in_copying : (now : Standing) (copy : CopyMessages) (source : Source) (mailbox : ℕ) (row : Row) → ShowsInOrder now (commands.Copy copy) (copying now.mailing source mailbox row)
+in_copying now copy source mailbox row =
+    in_either now (commands.Copy copy) (is_over (most_copied now.mailing.most) (length row.text)) (over (most_copied now.mailing.most)) _ (in_over now (commands.Copy copy) (most_copied now.mailing.most))
+    (in_either now (commands.Copy copy) (nat_le last_number now.mailing.number) (says (response_text texts.MailboxSpent)) (wanting (Wait [] (ForVerdict (Copied source) mailbox row.flags row.text)))
+    (λ must. refl) (refl, (refl, may_not_be (is_some now.selected))))
+
+in_copy : (now : Standing) (copy : CopyMessages) (mailbox : ℕ) (uids : List ℕ) → ShowsInOrder now (commands.Copy copy) (copy_of now.mailing copy mailbox uids)
+in_copy now copy mailbox [] = λ must. absurd (may_not false (is_some now.selected) refl must)
+in_copy now copy mailbox (uid ∷ []) = elim [
+  | None ↦ in_either now (commands.Copy copy) copy.by_uid (completed (commands.Copy copy)) (says (response_text texts.MessagesGone)) (λ must. absurd (may_not false (is_some now.selected) refl must)) (λ must. refl)
+  | Some row ↦ in_copying now copy _ mailbox row
+]
+in_copy now copy mailbox (uid ∷ other ∷ uids) = λ must. refl
+
 notice_shown : (now : Standing) (command : Command) (said : Option (List ℕ)) → ((bytes : List ℕ) → IsNotice said bytes → MaySay now command bytes) → may_show command ≡ false
     → ShowsInOrder now command (noticing said (completed command))
 notice_shown now command None says quiet = λ must. absurd (may_not (may_show command) (is_some now.selected) quiet must)
@@ -200,6 +217,12 @@ shown_in_order now (commands.Search search) =
           (λ found. (inr (found, refl), in_done now (commands.Search search) search.by_uid false refl)) uids [],
     )))
     (λ must. refl))
+shown_in_order now (commands.Copy copy) =
+    in_found now (commands.Copy copy) now.selected (copy_messages now copy)
+    (λ s. in_either now (commands.Copy copy) (copy.moves && s.read_only) (says (response_text texts.ReadOnly)) (wanting (on_found (copy_to now.mailing copy) nowhere (number_named copy.name now.folders)))
+    (λ must. refl)
+    (refl, in_named now (commands.Copy copy) (copy_to now.mailing copy)
+    (λ m view. in_chosen now (commands.Copy copy) (named_in copy.by_uid copy.set view) (copy_of now.mailing copy m) (in_copy now copy m)) (number_named copy.name now.folders)))
 shown_in_order now (commands.Append append) = in_append now now.mailing.most append (number_named append.name now.folders)
 shown_in_order now command = notice_shown now command (notice now.profile command) (λ bytes is. is) refl
 

@@ -1,6 +1,6 @@
 -- No last line but the one of a stored verdict tells a UID.
 use Rattle.std.proofs.Common.{◌≡◌, inl, inr, ℕ, ◌<◌, ◌^◌, arith, Bool, true, false, codes, List, [], ◌∷◌, ◌++◌, Option, Some, None, refl, ap, sym, ◌∙◌, subst, append_assoc, ◌==◌, if◌then◌else◌}
-use Rattle.std.specs.Prelude.{decimal, nat_le, nat_lt}
+use Rattle.std.specs.Prelude.{decimal, nat_le, nat_lt, length, ◌&&◌}
 use Rattle.std.specs.Char.{digit_value}
 use Rattle.std.specs.List.{AllByRecursion, list_any, slice_split}
 use Rattle.std.specs.Str.Parse.{AllDigits}
@@ -24,7 +24,7 @@ use Rattle.imap_grammar.specs.declared.command.Store.{Store}
 use Rattle.imap_grammar.specs.declared.command.Search.{Search}
 use Rattle.imap_grammar.specs.declared.view.Named.{Named}
 use Rattle.imap_grammar.specs.declared.command.Verb.TheVariants as verbs
-use Rattle.imap_grammar.specs.Verbs.{verb_of}
+use Rattle.imap_grammar.specs.Verbs.{verb_of, copy_verb}
 use Rattle.delivery_token.specs.declared.Verdict.{Verdict}
 use Rattle.delivery_token.specs.declared.Verdict.TheVariants.{Stored, Refused}
 use Rattle.imap_session.specs.declared.standing.Selected.{Selected}
@@ -32,13 +32,18 @@ use Rattle.imap_session.specs.declared.standing.Profile.{Profile}
 use Rattle.imap_session.specs.declared.standing.Profile.TheVariants.{Standard, Compatible}
 use Rattle.imap_session.proofs.Barring.{answering_has}
 use Rattle.imap_session.specs.Exchange.{PendingLiteral, Exchange, Expunge, Feed, Folder, ForNothing, ForVerdict, Mailing, Standing, Wait, Write, bye, kept_behind, kept_tag, refusal_text}
-use Rattle.imap_session.specs.Commands.{fault_tag, flags_for, mailbox_for, answering, arguments_text, subscribing, telling_recent, appended_words, asking, coming, closing, completed, counting, entering, expunge_set, fault_text, fetch_messages, fetching, folder_of, found_in, if_writable, is_over, last_number, long_rest_text, long_text, most_unasked, messages_done, nowhere, number_named, on_chosen, on_command, on_folder, on_found, on_idle_line, on_rest, on_text, on_verdict, over, refused_text, says, search_done, search_known, search_messages, searching, showing, store_messages, storing, turn_of_long_line, unlimited, wanting, wanting_for, wrong_state, entered_text}
-use Rattle.imap_session.specs.Telling.{LineTellsNoUid, RefusalTellsNoUid, TellsNoUid, VerdictTellsUid, WordsTellWhich, tells_uid}
+use Rattle.imap_session.specs.Commands.{fault_tag, flags_for, mailbox_for, answering, arguments_text, subscribing, telling_recent, appended_words, asking, coming, closing, completed, counting, entering, expunge_set, fault_text, fetch_messages, fetching, folder_of, found_in, if_writable, is_over, last_number, long_rest_text, long_text, most_unasked, messages_done, nowhere, number_named, on_chosen, on_command, on_folder, on_found, on_idle_line, on_rest, on_text, on_verdict, over, refused_text, says, search_done, search_known, search_messages, searching, showing, store_messages, storing, turn_of_long_line, unlimited, wanting, wanting_for, wrong_state, entered_text, copying, copy_of, copy_to, copy_messages, most_copied, copied_words, moving}
+use Rattle.imap_session.specs.Telling.{LineTellsNoUid, RefusalTellsNoUid, TellsNoUid, VerdictTellsUid, WordsTellWhich, tells_uid, StoredTellsUid}
 use Rattle.imap_session.proofs.Appends.{asked_at, sent_at}
 use Rattle.imap_session.specs.declared.texts.ResponseText.TheVariants as texts
 use Rattle.imap_session.specs.Texts.{response_text}
 use Rattle.imap_grammar.specs.declared.command.Verb.{Verb}
 use Rattle.imap_session.specs.declared.texts.ResponseText.{ResponseText}
+use Rattle.imap_grammar.specs.declared.command.CopyMessages.{CopyMessages}
+use Rattle.imap_session.specs.declared.standing.Source.{Source}
+use Rattle.imap_session.specs.declared.standing.Origin.{Origin}
+use Rattle.imap_session.specs.declared.standing.Origin.TheVariants.{Client, Copied}
+use Rattle.mailbox.specs.declared.clients.Row.{Row}
 
 -- ---- what an exchange is made of
 
@@ -129,6 +134,19 @@ append_tells_none most a found =
     (λ m. in_either (is_over most a.literal.size) (over most) (asking m a.flags a.literal.size) (over_tells_none most) tt) refl found)
     (in_either (nat_lt most_unasked a.literal.size) (Wait (bye (response_text texts.LiteralTooBig)) ForNothing) (coming found a.flags a.literal.size) tt tt)
 
+copying_tells_none : (mailing : Mailing) (source : Source) (mailbox : ℕ) (row : Row) → TellsNoUid (copying mailing source mailbox row)
+copying_tells_none mailing source mailbox row =
+    in_either (is_over (most_copied mailing.most) (length row.text)) (over (most_copied mailing.most)) _ (over_tells_none (most_copied mailing.most))
+    (in_either (nat_le last_number mailing.number) (says (response_text texts.MailboxSpent)) (wanting (Wait [] (ForVerdict (Copied source) mailbox row.flags row.text))) refl tt)
+
+copy_tells_none : (mailing : Mailing) (copy : CopyMessages) (mailbox : ℕ) (uids : List ℕ) → TellsNoUid (copy_of mailing copy mailbox uids)
+copy_tells_none mailing copy mailbox [] = row_tells_none (texts.Completed (verb_of (commands.Copy copy)))
+copy_tells_none mailing copy mailbox (uid ∷ []) = elim [
+  | None ↦ in_either copy.by_uid (completed (commands.Copy copy)) (says (response_text texts.MessagesGone)) (row_tells_none (texts.Completed (verb_of (commands.Copy copy)))) refl
+  | Some row ↦ copying_tells_none mailing _ mailbox row
+]
+copy_tells_none mailing copy mailbox (uid ∷ other ∷ uids) = refl
+
 pub command_tells_none : (now : Standing) (command : Command) → TellsNoUid (on_command now command)
 command_tells_none now commands.Noop = in_showing now.selected (completed commands.Noop) refl
 command_tells_none now commands.Idle = tt
@@ -160,6 +178,11 @@ command_tells_none now (commands.Search search) =
     (λ s. in_either search.known_charset (search_messages search) (says (response_text texts.BadCharset))
     (λ view. in_chosen (named_in true all_messages view) (λ uids. wanting (searching search (named_at view (last_uid uids)) view (search_done search) uids []))
     (λ uids. in_searching search (named_at view (last_uid uids)) view (search_done search) (λ found. in_done (commands.Search search) search.by_uid false (row_tells_none (texts.Completed (verb_of (commands.Search search))))) uids [])) refl) refl now.selected
+command_tells_none now (commands.Copy copy) =
+    in_found (copy_messages now copy) wrong_state
+    (λ s. in_either (copy.moves && s.read_only) (says (response_text texts.ReadOnly)) (wanting (on_found (copy_to now.mailing copy) nowhere (number_named copy.name now.folders))) refl
+    (in_found (copy_to now.mailing copy) nowhere (λ m view. in_chosen (named_in copy.by_uid copy.set view) (copy_of now.mailing copy m) (copy_tells_none now.mailing copy m)) refl (number_named copy.name now.folders)))
+    refl now.selected
 command_tells_none now (commands.Append append) = append_tells_none now.mailing.most append (number_named append.name now.folders)
 command_tells_none now _ = refl
 
@@ -176,7 +199,7 @@ text_tells_none : (mailing : Mailing) (a : PendingLiteral) (text : List ℕ) (ma
 text_tells_none mailing a text mailbox =
     in_either (is_over mailing.most a.size) (over mailing.most) _ (over_tells_none mailing.most)
     (in_either (list_any (λ b. b == 0) text) (says (response_text texts.NulByte)) _ refl
-    (in_either (nat_le last_number mailing.number) (says (response_text texts.MailboxSpent)) (wanting (Wait [] (ForVerdict mailbox (flags_for a.purpose) text))) refl tt))
+    (in_either (nat_le last_number mailing.number) (says (response_text texts.MailboxSpent)) (wanting (Wait [] (ForVerdict Client mailbox (flags_for a.purpose) text))) refl tt))
 
 pub rest_tells_none : (mailing : Mailing) (a : PendingLiteral) (empty : Bool) → TellsNoUid (on_rest mailing a empty)
 rest_tells_none mailing a empty =
@@ -243,6 +266,12 @@ words_tell_which v n w m v_fits n_fits w_fits m_fits same =
     let parts = both_same (decimal v) (decimal n) (decimal w) (decimal m) (sym (cut_again v n v_fits n_fits) ∙ ap (slice_split (λ b. b == 32)) inner ∙ cut_again w m w_fits m_fits) in
     (decimal_injective v w v_fits w_fits parts.0, decimal_injective n m n_fits m_fits parts.1)
 
-pub verdict_tells : (selected : Option Selected) (mailbox : ℕ) (verdict : Verdict) → VerdictTellsUid selected mailbox verdict (on_verdict selected mailbox verdict)
-verdict_tells selected mailbox (Stored uid) = (refl, λ status. refl)
-verdict_tells selected mailbox (Refused why) = row_tells_none (refused_text why)
+stored_tells : (selected : Option Selected) (origin : Origin) (mailbox uid : ℕ) → StoredTellsUid selected origin mailbox uid (on_verdict selected origin mailbox (Stored uid))
+stored_tells selected Client mailbox uid = (refl, λ status. refl)
+stored_tells selected (Copied source) mailbox uid = λ status.
+    in_either source.moves (moving source status.uidvalidity uid) (showing selected (says (copied_words status.uidvalidity source.uid uid)))
+    (λ flags. row_tells_none (texts.Completed (copy_verb source.by_uid true))) (in_showing selected (says (copied_words status.uidvalidity source.uid uid)) refl)
+
+pub verdict_tells : (selected : Option Selected) (origin : Origin) (mailbox : ℕ) (verdict : Verdict) → VerdictTellsUid selected origin mailbox verdict (on_verdict selected origin mailbox verdict)
+verdict_tells selected origin mailbox (Stored uid) = stored_tells selected origin mailbox uid
+verdict_tells selected origin mailbox (Refused why) = row_tells_none (refused_text why)

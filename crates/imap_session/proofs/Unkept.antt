@@ -24,7 +24,7 @@ unkept_by P none tag now told dropped ended (ForLiteral Unasked purpose size) (s
 unkept_by P none tag now told dropped ended (ForLiteral Unasked purpose size) (suc (suc n)) = none
 unkept_by P none tag now told dropped ended (ForLiteral Dropped purpose size) zero = none
 unkept_by P none tag now told dropped ended (ForLiteral Dropped purpose size) (suc n) = none
-unkept_by P none tag now told dropped ended (ForVerdict mailbox flags text) zero = none
-unkept_by P none tag now told dropped ended (ForVerdict mailbox flags text) (suc n) = none
+unkept_by P none tag now told dropped ended (ForVerdict origin mailbox flags text) zero = none
+unkept_by P none tag now told dropped ended (ForVerdict origin mailbox flags text) (suc n) = none
 unkept_by P none tag now told dropped ended ForNothing zero = none
 unkept_by P none tag now told dropped ended ForNothing (suc n) = none

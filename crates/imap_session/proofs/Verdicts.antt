@@ -10,11 +10,14 @@ use Rattle.delivery_token.specs.declared.Verdict.TheVariants.{Stored, Refused}
 use Rattle.delivery_token.specs.declared.Refusal.{Refusal}
 use Rattle.delivery_token.specs.declared.Refusal.TheVariants.{Full}
 use Rattle.imap_session.specs.declared.standing.Selected.{Selected}
-use Rattle.imap_session.specs.Exchange.{PendingLiteral, Exchange, ForVerdict, Mailing, Standing, Wait, tagged}
-use Rattle.imap_session.specs.Commands.{appended_words, flags_for, is_over, kept_text, mailbox_for, last_number, nowhere, on_found, on_rest, on_text, on_verdict, refused_text, says, showing, over, taking, wanting, with_bytes}
-use Rattle.imap_session.specs.Shows.{IsNoOk, RestShowsNone, ShowsBefore, VerdictShowsInOrder}
+use Rattle.imap_session.specs.Exchange.{PendingLiteral, Exchange, ForVerdict, Mailing, Standing, Wait, tagged, untagged}
+use Rattle.imap_session.specs.Commands.{appended_words, flags_for, is_over, kept_text, mailbox_for, last_number, nowhere, on_found, on_rest, on_text, on_verdict, refused_text, says, showing, over, taking, wanting, with_bytes, copied_words, copy_code, moving, told_stored}
+use Rattle.imap_session.specs.Shows.{IsNoOk, RestShowsNone, ShowsBefore, VerdictShowsInOrder, CopyShows, StoredShows}
 use Rattle.imap_session.specs.declared.texts.ResponseText.TheVariants as texts
 use Rattle.imap_session.specs.Texts.{response_text}
+use Rattle.imap_session.specs.declared.standing.Source.{Source}
+use Rattle.imap_session.specs.declared.standing.Origin.{Origin}
+use Rattle.imap_session.specs.declared.standing.Origin.TheVariants.{Client, Copied}
 
 pub ten_digits : (n : ℕ) → n < 2 ^ 32 → length (decimal n) ≤ 10
 ten_digits n l = length-decimal-le 10 n (omega arith) (omega (arith, l)) (omega (arith, l))
@@ -32,6 +35,35 @@ line_in_parts out tag validity number a b c d e f one two three four five six =
     (five ∙ ap (λ (t : List ℕ). t ++ decimal number) (four ∙ ap (λ (t : List ℕ). t ++ codes " ") (three ∙ ap (λ (t : List ℕ). t ++ decimal validity) (two ∙ ap (λ (t : List ℕ). t ++ codes " OK [APPENDUID ") one))))
     ∙ in_parts out tag (codes " ") (codes "OK [APPENDUID ") (decimal validity) (codes " ") (decimal number) (codes "] APPEND completed") (codes "\r\n")
 
+-- ---- the lines that tell where the copy of a message was stored
+
+code_parts : (out first validity gap number gap2 copy end : List ℕ)
+    → (((((((out ++ first) ++ validity) ++ gap) ++ number) ++ gap2) ++ copy) ++ end) ≡ out ++ ((((((first ++ validity) ++ gap) ++ number) ++ gap2) ++ copy) ++ end)
+code_parts out first validity gap number gap2 copy end = simp append_assoc refl
+
+pub code_in_parts : (out : List ℕ) (validity number copy : ℕ) (a b c d e f g : List ℕ) → a ≡ out ++ codes "OK [COPYUID " → b ≡ a ++ decimal validity → c ≡ b ++ codes " " → d ≡ c ++ decimal number → e ≡ d ++ codes " "
+    → f ≡ e ++ decimal copy → g ≡ f ++ codes "] " → g ≡ out ++ copy_code validity number copy
+code_in_parts out validity number copy a b c d e f g one two three four five six seven =
+    seven ∙ ap (λ (t : List ℕ). t ++ codes "] ")
+    (six ∙ ap (λ (t : List ℕ). t ++ decimal copy) (five ∙ ap (λ (t : List ℕ). t ++ codes " ") (four ∙ ap (λ (t : List ℕ). t ++ decimal number) (three ∙ ap (λ (t : List ℕ). t ++ codes " ")
+    (two ∙ ap (λ (t : List ℕ). t ++ decimal validity) one)))))
+    ∙ code_parts out (codes "OK [COPYUID ") (decimal validity) (codes " ") (decimal number) (codes " ") (decimal copy) (codes "] ")
+
+copied_parts : (out tag space code last end : List ℕ) → ((((out ++ tag) ++ space) ++ code) ++ (last ++ end)) ≡ out ++ (((tag ++ space) ++ (code ++ last)) ++ end)
+copied_parts out tag space code last end = simp append_assoc refl
+
+pub copied_in_parts : (out tag code : List ℕ) (a b c d : List ℕ) → a ≡ out ++ tag → b ≡ a ++ codes " " → c ≡ b ++ code → d ≡ c ++ codes "COPY completed\r\n" → d ≡ out ++ tagged tag (code ++ codes "COPY completed")
+copied_in_parts out tag code a b c d one two three four =
+    four ∙ ap (λ (t : List ℕ). t ++ codes "COPY completed\r\n") (three ∙ ap (λ (t : List ℕ). t ++ code) (two ∙ ap (λ (t : List ℕ). t ++ codes " ") one))
+    ∙ copied_parts out tag (codes " ") code (codes "COPY completed") (codes "\r\n")
+
+moved_parts : (out star code last end : List ℕ) → (((out ++ star) ++ code) ++ (last ++ end)) ≡ out ++ ((star ++ (code ++ last)) ++ end)
+moved_parts out star code last end = simp append_assoc refl
+
+pub moved_in_parts : (out code a b c : List ℕ) → a ≡ out ++ codes "* " → b ≡ a ++ code → c ≡ b ++ codes "Moved\r\n" → c ≡ out ++ untagged (code ++ codes "Moved")
+moved_in_parts out code a b c one two three =
+    three ∙ ap (λ (t : List ℕ). t ++ codes "Moved\r\n") (two ∙ ap (λ (t : List ℕ). t ++ code) one) ∙ moved_parts out (codes "* ") code (codes "Moved") (codes "\r\n")
+
 -- ---- what shows changes
 
 none_either : (b : Bool) (x y : Exchange) → RestShowsNone x → RestShowsNone y → RestShowsNone (if b then x else y)
@@ -46,7 +78,7 @@ text_none : (mailing : Mailing) (a : PendingLiteral) (text : List ℕ) (mailbox 
 text_none mailing a text mailbox =
     none_either (is_over mailing.most a.size) (over mailing.most) _ (over_none mailing.most)
     (none_either (list_any (λ b. b == 0) text) (says (response_text texts.NulByte)) _ refl
-    (none_either (nat_le last_number mailing.number) (says (response_text texts.MailboxSpent)) (wanting (Wait [] (ForVerdict mailbox (flags_for a.purpose) text))) refl (refl, (refl, refl))))
+    (none_either (nat_le last_number mailing.number) (says (response_text texts.MailboxSpent)) (wanting (Wait [] (ForVerdict Client mailbox (flags_for a.purpose) text))) refl (refl, (refl, refl))))
 
 named_none : (mailing : Mailing) (a : PendingLiteral) (text : List ℕ) (mailbox : Option ℕ) → RestShowsNone (on_found (on_text mailing a text) nowhere mailbox)
 named_none mailing a text None = refl
@@ -69,9 +101,18 @@ refused_says : (why : Refusal) → IsNoOk (response_text (refused_text why))
 refused_says Full = refl
 refused_says _ = refl
 
-pub verdict_shown : (selected : Option Selected) (mailbox : ℕ) (verdict : Verdict) → VerdictShowsInOrder selected verdict (on_verdict selected mailbox verdict)
-verdict_shown selected mailbox (Stored uid) = λ status. shown_before selected (appended_words status.uidvalidity uid)
-verdict_shown selected mailbox (Refused why) = refused_says why
+copy_shown : (selected : Option Selected) (source : Source) (moves : Bool) (uidvalidity uid : ℕ)
+    → CopyShows selected source moves uidvalidity uid (if moves then moving source uidvalidity uid else showing selected (says (copied_words uidvalidity source.uid uid)))
+copy_shown selected source true uidvalidity uid = (refl, λ flags. (refl, (refl, refl, refl)))
+copy_shown selected source false uidvalidity uid = shown_before selected (copied_words uidvalidity source.uid uid)
+
+stored_shown : (selected : Option Selected) (origin : Origin) (uidvalidity uid : ℕ) → StoredShows selected origin uidvalidity uid (told_stored selected origin uidvalidity uid)
+stored_shown selected Client uidvalidity uid = shown_before selected (appended_words uidvalidity uid)
+stored_shown selected (Copied source) uidvalidity uid = copy_shown selected source source.moves uidvalidity uid
+
+pub verdict_shown : (selected : Option Selected) (origin : Origin) (mailbox : ℕ) (verdict : Verdict) → VerdictShowsInOrder selected origin verdict (on_verdict selected origin mailbox verdict)
+verdict_shown selected origin mailbox (Stored uid) = λ status. stored_shown selected origin status.uidvalidity uid
+verdict_shown selected origin mailbox (Refused why) = refused_says why
 
 -- ---- bytes of a literal
 

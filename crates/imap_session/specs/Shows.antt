@@ -1,5 +1,5 @@
 -- Where a session may show what others did to the mailbox (RFC 9051, 5.2 and 7.5.1).
-use Rattle.std.specs.Prelude.{◌≡◌, ◌⊎◌, ◌&&◌, ℕ, Bool, true, false, codes, decimal, is_some, take, map, List, [], ◌++◌, Option, Some, None, if◌then◌else◌}
+use Rattle.std.specs.Prelude.{◌≡◌, ◌⊎◌, ◌&&◌, ℕ, Bool, true, false, codes, decimal, is_some, take, map, List, [], ◌++◌, Option, Some, None}
 use Rattle.imap_grammar.specs.Verbs.{copy_verb}
 use Rattle.std.specs.Str.{bytes_eq}
 use Rattle.change_ring.specs.declared.change.Flags.{Flags}
@@ -136,12 +136,13 @@ abbrev pub moved : Source → Exchange
 moved source = last_line (response_text (texts.Completed (copy_verb source.by_uid true)))
 
 -- changes are shown right before the tagged OK that tells where a message was stored, and of one that is moved also before it is removed
+abbrev pub CopyShows : Option Selected → Source → (moves : Bool) → (uidvalidity uid : ℕ) → Exchange → Type 0
+CopyShows selected source true uidvalidity uid = ShowsBefore (moved source) (λ bytes. bytes ≡ untagged (moved_words uidvalidity source.uid uid)) true true true
+CopyShows selected source false uidvalidity uid = ShowsBefore (last_line (copied_words uidvalidity source.uid uid)) (λ bytes. bytes ≡ []) true (is_some selected) false
+
 abbrev pub StoredShows : Option Selected → Origin → (uidvalidity uid : ℕ) → Exchange → Type 0
 StoredShows selected Client uidvalidity uid = ShowsBefore (last_line (appended_words uidvalidity uid)) (λ bytes. bytes ≡ []) true (is_some selected) false
-StoredShows selected (Copied source) uidvalidity uid =
-    if source.moves
-    then ShowsBefore (moved source) (λ bytes. bytes ≡ untagged (moved_words uidvalidity source.uid uid)) true true true
-    else ShowsBefore (last_line (copied_words uidvalidity source.uid uid)) (λ bytes. bytes ≡ []) true (is_some selected) false
+StoredShows selected (Copied source) uidvalidity uid = CopyShows selected source source.moves uidvalidity uid
 
 -- a mailbox is counted, and then changes are shown so, with its UIDVALIDITY
 abbrev pub CountsThenShows : Option Selected → Origin → ℕ → Exchange → Type 0

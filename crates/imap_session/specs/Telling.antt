@@ -43,9 +43,12 @@ TellsUid selected mailbox uid (Count counted next) = (counted ≡ mailbox) × ((
 TellsUid selected mailbox uid _ = ⊥
 
 -- The last line tells the UID under which a message was stored that the client appended, and none where it was refused. Of a message that was copied it tells none so.
+abbrev pub StoredTellsUid : Option Selected → Origin → (mailbox uid : ℕ) → Exchange → Type 0
+StoredTellsUid selected Client mailbox uid = TellsUid selected mailbox uid
+StoredTellsUid selected (Copied source) mailbox uid = TellsNoUid
+
 abbrev pub VerdictTellsUid : Option Selected → Origin → (mailbox : ℕ) → Verdict → Exchange → Type 0
-VerdictTellsUid selected Client mailbox (Stored uid) = TellsUid selected mailbox uid
-VerdictTellsUid selected (Copied source) mailbox (Stored uid) = TellsNoUid
+VerdictTellsUid selected origin mailbox (Stored uid) = StoredTellsUid selected origin mailbox uid
 VerdictTellsUid selected origin mailbox (Refused why) = TellsNoUid
 
 -- ---- lines that no exchange says

@@ -3,3 +3,4 @@ pub mod Response
 pub mod Seen
 pub mod Store
 pub mod Lines
+pub mod Copies

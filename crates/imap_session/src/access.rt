@@ -22,6 +22,7 @@ fn standard_lacks(verb: Verb) -> Option<ResponseText>
         Verb::Check | Verb::Lsub => Some(ResponseText::UnknownCommand),
         Verb::Subscribe | Verb::Unsubscribe => Some(ResponseText::NotOffered),
         Verb::Search | Verb::UidSearch => Some(ResponseText::NotOffered),
+        Verb::Copy | Verb::UidCopy | Verb::Move | Verb::UidMove => Some(ResponseText::NotOffered),
         _ => None,
     }
 }

@@ -6,7 +6,7 @@ use crate::mailing::{PendingLiteral, Purpose, Sent, begin_text, judge, refused_s
 use crate::response::{LAST, Response, put_last};
 use crate::say::{put_bye, put_continuing, put_tagged};
 use crate::session::Session;
-use crate::standing::{After, Append};
+use crate::standing::{After, Append, Origin};
 use crate::tag::Tag;
 use crate::texts::ResponseText;
 use delivery_token::Text;
@@ -102,7 +102,7 @@ impl Session {
     }
 
     // The number of the mailbox of this name, where there is one.
-    fn number_of(&self, alloc: Global, name: &Name<'_>) -> Result<Option<u8>, AllocError>
+    pub(crate) fn number_of(&self, alloc: Global, name: &Name<'_>) -> Result<Option<u8>, AllocError>
         ensures { IfOk result (λ number. number ≡ number_named name.now self.now.folders) }
     {
         let name = name.to_bytes(alloc)?;
@@ -309,6 +309,7 @@ impl Session {
                         text,
                         flags,
                     },
+                    origin: Origin::Client,
                 });
                 Ok(())
             }

@@ -6,7 +6,7 @@ use crate::response::{LAST, Response, put_last};
 use crate::session::Session;
 use crate::standing::After;
 use crate::store::Store;
-use crate::turn::{FIRST, append_of, is_idle, put_fault, put_first_line};
+use crate::turn::{FIRST, append_of, copy_of, is_idle, put_fault, put_first_line};
 use crate::unfinished::{argument_due, wants_response};
 use imap_grammar::{Command, ImapFault, read_line};
 use std::alloc::Global;
@@ -54,6 +54,10 @@ impl Session {
         if let Some(append) = append_of(command) {
             let response = Response::new(tag, LAST, out);
             return self.begin_append(alloc, append, response, out);
+        }
+        if let Some(copy) = copy_of(command) {
+            let response = Response::new(tag, LAST, out);
+            return self.begin_copy(alloc, copy, store, response, out);
         }
         if is_idle(command) {
             let response = Response::new(tag, LAST, out);

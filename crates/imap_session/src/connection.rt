@@ -123,7 +123,7 @@ impl ImapConnection {
         self.session.is_idling()
     }
 
-    /// The message that was submitted and waits for the verdict on it (RFC 9051, 6.3.12). Till that is heard no more bytes are taken.
+    /// The message that was submitted and waits for the verdict on it (RFC 9051, 6.3.12 and 6.4.7). Till that is heard no more bytes are taken.
     pub fn submission(&self) -> Option<&Append>
         ensures { option_map (λ a. a.now) result
             ≡ option_map (λ (s : Sent). s.append) self.now.session.mailing.sent }
@@ -157,7 +157,7 @@ impl ImapConnection {
     /// Answers the verdict on the message that was submitted. Bytes are taken again then.
     ///
     /// Errors, after which the connection, the store and `out` are as they were, and the same verdict is waited for: `Ended` exactly where the
-    /// session has ended; `NoMemory` where memory was refused, and `out` has no room for the tag's length and 56 bytes more.
+    /// session has ended; `NoMemory` where memory was refused, and `out` has no room for the tag's length and 104 bytes more.
     pub fn appended<S: Store>(
         &mut self,
         verdict: Verdict,

@@ -34,7 +34,7 @@ pub(crate) fn show_pending<S: Store>(
 }
 
 // Shows what is pending, removes messages, and shows that.
-fn remove_and_show<S: Store>(
+pub(crate) fn remove_and_show<S: Store>(
     uids: Option<&[u32]>,
     store: &mut S,
     response: &mut Response<'_>,

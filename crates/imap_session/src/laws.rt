@@ -14,6 +14,7 @@ ghost use Rattle.imap_session.specs.declared.texts.ResponseText.TheVariants as t
 ghost use Rattle.imap_session.specs.declared.texts.ServerText.{ServerText};
 ghost use Rattle.imap_session.specs.declared.standing.Profile.{Profile};
 ghost use Rattle.imap_session.specs.declared.standing.Selected.{Selected};
+ghost use Rattle.imap_session.specs.declared.standing.Origin.{Origin};
 ghost use Rattle.imap_session.specs.declared.texts.ResponseText.{ResponseText};
 
 /// Changes are shown right before the tagged OK of NOOP, CHECK, EXPUNGE, STATUS, LIST, LSUB, UID FETCH, UID STORE, UID SEARCH and UID EXPUNGE, and as EXPUNGE
@@ -46,14 +47,14 @@ pub fn parts_show_none()
         × PartShowsNone (given_up rest texts.OutOfMemory texts.ByeOutOfMemory) }
 {}
 
-/// The verdict on an appended message shows changes right before the tagged OK that tells its UID, where a mailbox is selected. A message that was
-/// refused has no tagged OK, and shows none.
+/// The verdict on a message that was appended or copied shows changes right before the tagged OK, where a mailbox is selected; of one that is moved also
+/// before it is removed. A message that was refused has no tagged OK, and shows none.
 pub fn verdicts_show_in_order()
-    ensures { (selected : Option Selected) (mailbox : ℕ) (verdict : Verdict) →
-        VerdictShowsInOrder selected verdict (on_verdict selected mailbox verdict) }
+    ensures { (selected : Option Selected) (origin : Origin) (mailbox : ℕ) (verdict : Verdict) →
+        VerdictShowsInOrder selected origin verdict (on_verdict selected origin mailbox verdict) }
 {}
 
-/// A tagged last line begins `OK [APPENDUID` where it answers a verdict that was `Stored`, and nowhere else: not where it ends a command or an IDLE,
+/// A tagged last line begins `OK [APPENDUID` where it answers a verdict that was `Stored`, on a message that was appended, and nowhere else: not where it ends a command or an IDLE,
 /// not behind a literal, not for a line that is too long or no command, and not where the message is refused or the store or memory refuses. It tells
 /// that verdict's UID, behind the UIDVALIDITY that the store told of the mailbox. So a client that reads such a line under the tag of its APPEND may
 /// conclude that its message was stored, under this UID (RFC 9051, 6.3.12; RFC 4315, 3).
@@ -62,9 +63,9 @@ pub fn only_a_stored_verdict_tells_a_uid()
     ensures words { (uidvalidity uid : ℕ) → tells_uid (appended_words uidvalidity uid) ≡ true }
     ensures numbers { WordsTellWhich }
 
-    // Where the verdict was `Stored`, the last line tells its UID, behind the UIDVALIDITY as the mailbox was counted; else none.
-    ensures verdicts { (selected : Option Selected) (mailbox : ℕ) (verdict : Verdict) →
-        VerdictTellsUid selected mailbox verdict (on_verdict selected mailbox verdict) }
+    // Where the verdict on an appended message was `Stored`, the last line tells its UID, behind the UIDVALIDITY as the mailbox was counted; else none.
+    ensures verdicts { (selected : Option Selected) (origin : Origin) (mailbox : ℕ) (verdict : Verdict) →
+        VerdictTellsUid selected origin mailbox verdict (on_verdict selected origin mailbox verdict) }
 
     // No last line of a command, of an IDLE, or behind a literal tells one.
     ensures commands { (now : Standing) (command : Command) → TellsNoUid (answering now command) }

@@ -4,10 +4,11 @@
 #![tactic(auto)]
 
 mod access;
-mod appended;
+
 mod appending;
 mod command_line;
 mod connection;
+mod copying;
 mod count;
 mod expunge;
 mod fetch;
@@ -31,6 +32,7 @@ mod turn;
 mod unfinished;
 mod user;
 mod users;
+mod verdict;
 
 pub use connection::{ImapConnection, Progress};
 pub use laws::{

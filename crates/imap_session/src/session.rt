@@ -1,11 +1,11 @@
 //! The session of one client, from its greeting to its end.
 //! What it answers to a line is told in specs/Commands.antt, and how one line is carried out in `turn`.
 
-use crate::appended::{STORED, tell_verdict};
+use crate::verdict::{STORED, tell_verdict};
 use crate::mailing::{Mailing, PendingLiteral, Sent, long_rest_text};
 use crate::response::{LAST, Response, put_last};
 use crate::say::{put_continuing, put_of_server, put_tagged, put_untagged};
-use crate::standing::{Admission, After, Append, Folder, Profile, Selected, SessionFault};
+use crate::standing::{Admission, After, Append, Folder, Origin, Profile, Selected, SessionFault};
 use crate::store::Store;
 use crate::tag::Tag;
 use crate::texts::{ResponseText, ServerText};
@@ -20,7 +20,7 @@ use std::marker::Model;
 /// At most so many changes are shown in a turn of a session that idles.
 const MOST_SHOWN_A_TURN: usize = 64;
 
-/// One client's session: its mailboxes by their names, the one that it selected, whether it idles, the message that its client appends, and
+/// One client's session: its mailboxes by their names, the one that it selected, whether it idles, the message that its client appends or copies, and
 /// whether it has ended.
 ///
 /// It holds no mailbox: the store that each call is handed does, and has entered the mailbox that is selected. Where the session has ended the
@@ -218,7 +218,7 @@ impl Session {
         After::Idle
     }
 
-    // Answers a command other than IDLE and APPEND, behind its first line.
+    // Answers a command other than IDLE, APPEND, COPY and MOVE, behind its first line.
     pub(crate) fn answer<S: Store>(
         &mut self,
         alloc: Global,
@@ -479,6 +479,7 @@ impl Session {
     // Answers the verdict on a message.
     fn answer_verdict<S: Store>(
         &mut self,
+        origin: Origin,
         mailbox: u8,
         verdict: Verdict,
         store: &mut S,
@@ -491,13 +492,21 @@ impl Session {
         requires unsent { self.old.mailing.sent ≡ None }
         requires long { length response.tag + STORED ≤ response.held }
         ensures plays { Plays S.step response.entry.tag self.old self.old
-            (on_verdict self.old.selected mailbox verdict) store.old store.new response.entry.text
+            (on_verdict self.old.selected origin mailbox verdict) store.old store.new response.entry.text
             out.new.items result }
         ensures standing { self.new ≡ (closed self.old result).standing }
         ensures mailing { self.new.mailing ≡ self.old.mailing }
         ensures sends { result ≡ may_send self.new }
     {
-        let after = tell_verdict(mailbox, verdict, self.selected, store, response, out);
+        let after = tell_verdict(
+            origin,
+            mailbox,
+            verdict,
+            self.selected,
+            store,
+            response,
+            out,
+        );
         self.ended = matches!(after, After::Bye);
         after
     }
@@ -536,7 +545,8 @@ impl Session {
         self.idling = None;
         self.mailing.begun = None;
         let response = Response::new(sent.tag.as_slice(), STORED, out);
-        Ok(self.answer_verdict(sent.append.mailbox, verdict, store, response, out))
+        let mailbox = sent.append.mailbox;
+        Ok(self.answer_verdict(sent.origin, mailbox, verdict, store, response, out))
     }
 
     /// For how many bytes there has to be room before the verdict on the message that was submitted is answered; 0 where none is waited for.
@@ -550,11 +560,12 @@ impl Session {
         }
     }
 
-    /// Answers the verdict on the message that was submitted (RFC 9051, 6.3.12): where it was stored, shows what is pending in the selected
-    /// mailbox and says under which UID (RFC 4315, 3); else says why it wasn't. The session then takes lines again.
+    /// Answers the verdict on the message that was submitted (RFC 9051, 6.3.12 and 6.4.7): where it was stored, shows what is pending in the selected
+    /// mailbox and says under which UID (RFC 4315, 3); else says why it wasn't. A message that is moved is removed then (RFC 6851, 3.3). The session then
+    /// takes lines again.
     ///
     /// Errors, after which the session, the store and `out` are as they were, and the same verdict is waited for: `Ended` exactly where the
-    /// session has ended; `NoMemory` where memory was refused, and `out` has no room for the tag's length and 56 bytes more.
+    /// session has ended; `NoMemory` where memory was refused, and `out` has no room for the tag's length and 104 bytes more.
     pub fn appended<S: Store>(
         &mut self,
         verdict: Verdict,

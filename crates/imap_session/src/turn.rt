@@ -1,12 +1,12 @@
 //! One command, carried out: the part that fits it, in the state that it wants, and what its last line says.
 //! What each part does is told in the modules of the commands.
 
-ghost use Rattle.std.specs.Prelude.{◌≡◌, ◌+◌, ◌≤◌, ◌++◌, length, true, false, List, ℕ, Option, None, IfSome, IfNone, vec_len};
+ghost use Rattle.std.specs.Prelude.{◌≡◌, ◌+◌, ◌≤◌, ◌++◌, ◌||◌, length, true, false, List, ℕ, Option, None, IfSome, IfNone, vec_len};
 ghost use Rattle.std.specs.Vec.{vec_capacity};
 ghost use Rattle.imap_grammar.specs.declared.command.Command.TheVariants as commands;
 ghost use Rattle.imap_session.specs.Commands.{completed, fault_text, on_idle_line, showing};
 ghost use Rattle.imap_session.specs.Exchange.{Mailing};
-ghost use Rattle.imap_session.specs.inner.Store.{Does, Moves, after_command, behind_first_line, ending, first_line, is_idle, is_open, last};
+ghost use Rattle.imap_session.specs.inner.Store.{Does, Moves, after_command, behind_first_line, ending, first_line, is_copy, is_idle, is_open, last};
 
 use crate::access::arguments_text;
 use crate::count::{count_mailbox, list_folders, list_subscribed, subscribe};
@@ -18,7 +18,7 @@ use crate::selected::{close, expunge, fetch, search_selected, store_flags, uid_e
 use crate::standing::{After, Folder, Profile, Selected};
 use crate::store::Store;
 use crate::texts::{ResponseText, ServerText};
-use imap_grammar::{Append, Command, ImapFault, Verb, is_done};
+use imap_grammar::{Append, Command, CopyMessages, ImapFault, Verb, is_done};
 use mailbox::MailFault;
 use std::alloc::Global;
 
@@ -62,10 +62,21 @@ pub(crate) fn is_idle(command: &Command<'_>) -> bool
 /// The message that is to be appended, where it is APPEND.
 pub(crate) fn append_of<'a, 'b>(command: &'b Command<'a>) -> Option<&'b Append<'a>>
     ensures some { IfSome result (λ a. command.now ≡ commands.Append a.now) }
-    ensures none { IfNone result (is_open command.now ≡ is_idle command.now) }
+    ensures none { IfNone result (is_open command.now ≡ (is_idle command.now || is_copy command.now)) }
 {
     match command {
         Command::Append(append) => Some(append),
+        _ => None,
+    }
+}
+
+/// What is to be copied, where it is COPY or MOVE.
+pub(crate) fn copy_of<'a, 'b>(command: &'b Command<'a>) -> Option<&'b CopyMessages<'a>>
+    ensures some { IfSome result (λ c. command.now ≡ commands.Copy c.now) }
+    ensures none { IfNone result (is_copy command.now ≡ false) }
+{
+    match command {
+        Command::Copy(copy) => Some(copy),
         _ => None,
     }
 }
@@ -133,7 +144,7 @@ pub(crate) fn put_first_line(profile: Profile, command: &Command<'_>, out: &mut 
     }
 }
 
-// Carries out a command other than IDLE and APPEND but for its first line and its last, and answers what that says.
+// Carries out a command other than IDLE, APPEND, COPY and MOVE but for its first line and its last, and answers what that says.
 pub(crate) fn carry_out<S: Store>(
     alloc: Global,
     profile: Profile,
@@ -168,6 +179,7 @@ pub(crate) fn carry_out<S: Store>(
         Command::Logout => Ok(ResponseText::Completed(Verb::Logout)),
         Command::Idle => unreachable!(),
         Command::Append(_) => unreachable!(),
+        Command::Copy(_) => unreachable!(),
         Command::Login { .. } => Ok(ResponseText::WrongState),
         Command::Authenticate(_) => Ok(ResponseText::WrongState),
         Command::StartTls => Ok(ResponseText::WrongState),

@@ -113,6 +113,10 @@ abbrev pub is_idle : Command → Bool
 is_idle commands.Idle = true
 is_idle _ = false
 
+abbrev pub is_copy : Command → Bool
+is_copy (commands.Copy copy) = true
+is_copy _ = false
+
 -- IDLE and APPEND, which have no last line yet where they are taken, and COPY and MOVE, which may have none yet
 abbrev pub is_open : Command → Bool
 is_open commands.Idle = true

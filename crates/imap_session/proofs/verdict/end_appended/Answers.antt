@@ -1,6 +1,6 @@
 use Rattle.std.proofs.Common.{ap, ◌∙◌, ◌++◌, List, ℕ}
 use Rattle.imap_session.proofs.Verdicts.{line_in_parts}
-use Rattle.imap_session.proofs.appended.end_appended.Goals as goal
+use Rattle.imap_session.proofs.verdict.end_appended.Goals as goal
 
 pub returns : goal.returns
 returns c =

@@ -4,7 +4,7 @@ use Rattle.imap_session.specs.Commands.{says}
 use Rattle.imap_session.specs.inner.Store.{Plays}
 use Rattle.imap_session.proofs.Ending.{plays_said}
 use Rattle.imap_session.proofs.Runs.{reaches_here}
-use Rattle.imap_session.proofs.appended.tell_verdict.Goals as goal
+use Rattle.imap_session.proofs.verdict.tell_verdict.Goals as goal
 use Rattle.imap_session.specs.declared.texts.ResponseText.{ResponseText}
 use Rattle.imap_session.specs.Texts.{response_text}
 

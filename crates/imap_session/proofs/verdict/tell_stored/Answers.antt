@@ -3,7 +3,7 @@ use Rattle.delivery_token.specs.declared.Verdict.TheVariants.{Stored}
 use Rattle.imap_session.specs.Exchange.{Exchange}
 use Rattle.imap_session.specs.Commands.{appended_words, on_verdict, says}
 use Rattle.imap_session.proofs.Ending.{plays_said, plays_stopped}
-use Rattle.imap_session.proofs.appended.tell_stored.Goals as goal
+use Rattle.imap_session.proofs.verdict.tell_stored.Goals as goal
 
 abbrev told : ℕ → ℕ → Exchange
 told uid uidvalidity = says (appended_words uidvalidity uid)

@@ -4,7 +4,7 @@ use Rattle.imap_session.specs.Exchange.{Exchange}
 use Rattle.imap_session.specs.Commands.{showing}
 use Rattle.mailbox.specs.declared.mailbox.Status.{Status}
 use Rattle.imap_session.proofs.Naming.{counts_then, refuses_count}
-use Rattle.imap_session.proofs.appended.count_and_show.Goals as goal
+use Rattle.imap_session.proofs.verdict.count_and_show.Goals as goal
 
 pub returns-in_err-status-clause-done : goal.returns-in_err-status-clause-done
 returns-in_err-status-clause-done g c next =
