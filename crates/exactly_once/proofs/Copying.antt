@@ -16,8 +16,10 @@ use Rattle.imap_session.specs.declared.texts.ResponseText.{ResponseText}
 use Rattle.imap_session.specs.declared.texts.ResponseText.TheVariants as texts
 use Rattle.imap_session.specs.Texts.{response_text}
 
--- The copy of this message, which the command named in its form, goes to the mailbox that it named, and isn't too long.
+-- The copy of this message, the one that the command named in its form, goes to the mailbox that it named, and isn't too long.
 pub record IsCopied (now : Standing) (copy : CopyMessages) (source : Source) (mailbox : ℕ) (row : Row) : Type 0 where
+  pub view : List ℕ
+  pub one : named_in copy.by_uid copy.set view ≡ Some (source.uid ∷ [])
   pub by_uid : copy.by_uid ≡ source.by_uid
   pub moves : copy.moves ≡ source.moves
   pub named : number_named copy.name now.folders ≡ Some mailbox
@@ -43,38 +45,43 @@ pub copies_so : (P : Exchange → Type 0) → Passes P → (now : Standing) (cop
     → P (on_command now (commands.Copy copy))
 copies_so P passes now copy waits = selected now.selected
   where
-    fitting : (source : Source) (mailbox : ℕ) (row : Row) → copy.by_uid ≡ source.by_uid → copy.moves ≡ source.moves → number_named copy.name now.folders ≡ Some mailbox → (big : Bool) → is_over (most_copied now.mailing.most) (length row.text) ≡ big
+    -- of this view, in this mailbox
+    fitting : (view : List ℕ) (uid mailbox : ℕ) (row : Row) → named_in copy.by_uid copy.set view ≡ Some (uid ∷ []) → number_named copy.name now.folders ≡ Some mailbox
+        → (big : Bool) → is_over (most_copied now.mailing.most) (length row.text) ≡ big
         → P (if big then over (most_copied now.mailing.most)
-        else if nat_le last_number now.mailing.number then says (response_text texts.MailboxSpent) else wanting (Wait [] (ForVerdict (Copied source) mailbox row.flags row.text)))
-    fitting source mailbox row by_uid moves named true big = in_over P passes (most_copied now.mailing.most)
-    fitting source mailbox row by_uid moves named false big =
+        else if nat_le last_number now.mailing.number then says (response_text texts.MailboxSpent)
+        else wanting (Wait [] (ForVerdict (Copied (record { uid = uid; by_uid = copy.by_uid; moves = copy.moves })) mailbox row.flags row.text)))
+    fitting view uid mailbox row one named true big = in_over P passes (most_copied now.mailing.most)
+    fitting view uid mailbox row one named false big =
         in_either P (nat_le last_number now.mailing.number) (says (response_text texts.MailboxSpent)) _ (passes.told texts.MailboxSpent)
-        (waits source mailbox row (record { by_uid = by_uid; moves = moves; named = named; fits = big }))
+        (waits (record { uid = uid; by_uid = copy.by_uid; moves = copy.moves }) mailbox row (record { view = view; one = one; by_uid = refl; moves = refl; named = named; fits = big }))
 
     gone : P (copy_gone copy)
-    gone = in_either P copy.by_uid (completed (commands.Copy copy)) (says (response_text texts.MessagesGone)) (passes.told (texts.Completed (verb_of (commands.Copy copy)))) (passes.told texts.MessagesGone)
+    gone =
+        in_either P copy.by_uid (completed (commands.Copy copy)) (says (response_text texts.MessagesGone)) (passes.told (texts.Completed (verb_of (commands.Copy copy))))
+        (passes.told texts.MessagesGone)
 
-    read : (uid mailbox : ℕ) → number_named copy.name now.folders ≡ Some mailbox → (row : Option Row)
+    read : (view : List ℕ) (uid mailbox : ℕ) → named_in copy.by_uid copy.set view ≡ Some (uid ∷ []) → number_named copy.name now.folders ≡ Some mailbox → (row : Option Row)
         → P (on_found (copying now.mailing (record { uid = uid; by_uid = copy.by_uid; moves = copy.moves }) mailbox) (copy_gone copy) row)
-    read uid mailbox named None = gone
-    read uid mailbox named (Some row) =
-        fitting (record { uid = uid; by_uid = copy.by_uid; moves = copy.moves }) mailbox row refl refl named (is_over (most_copied now.mailing.most) (length row.text)) refl
+    read view uid mailbox one named None = gone
+    read view uid mailbox one named (Some row) = fitting view uid mailbox row one named (is_over (most_copied now.mailing.most) (length row.text)) refl
 
-    of : (mailbox : ℕ) → number_named copy.name now.folders ≡ Some mailbox → (uids : List ℕ) → P (copy_of now.mailing copy mailbox uids)
-    of mailbox named [] = passes.told (texts.Completed (verb_of (commands.Copy copy)))
-    of mailbox named (uid ∷ []) = passes.found uid false (on_found (copying now.mailing (record { uid = uid; by_uid = copy.by_uid; moves = copy.moves }) mailbox) (copy_gone copy)) (read uid mailbox named)
-    of mailbox named (uid ∷ other ∷ uids) = passes.told texts.OneAtATime
-
-    chosen : (mailbox : ℕ) → number_named copy.name now.folders ≡ Some mailbox → (uids : Option (List ℕ)) → P (on_chosen uids (copy_of now.mailing copy mailbox))
-    chosen mailbox named None = passes.told texts.SequenceTooHigh
-    chosen mailbox named (Some uids) = of mailbox named uids
+    chosen : (view : List ℕ) (mailbox : ℕ) → number_named copy.name now.folders ≡ Some mailbox → (uids : Option (List ℕ)) → named_in copy.by_uid copy.set view ≡ uids
+        → P (on_chosen uids (copy_of now.mailing copy mailbox))
+    chosen view mailbox named None is = passes.told texts.SequenceTooHigh
+    chosen view mailbox named (Some []) is = passes.told (texts.Completed (verb_of (commands.Copy copy)))
+    chosen view mailbox named (Some (uid ∷ [])) is =
+        passes.found uid false (on_found (copying now.mailing (record { uid = uid; by_uid = copy.by_uid; moves = copy.moves }) mailbox) (copy_gone copy)) (read view uid mailbox is named)
+    chosen view mailbox named (Some (uid ∷ other ∷ uids)) is = passes.told texts.OneAtATime
 
     to : (found : Option ℕ) → number_named copy.name now.folders ≡ found → P (on_found (copy_to now.mailing copy) nowhere found)
     to None named = passes.told texts.TryCreate
     to (Some mailbox) named =
-        passes.looked copy.by_uid copy.set (λ view. on_chosen (named_in copy.by_uid copy.set view) (copy_of now.mailing copy mailbox)) (λ view. chosen mailbox named (named_in copy.by_uid copy.set view))
+        passes.looked copy.by_uid copy.set (λ view. on_chosen (named_in copy.by_uid copy.set view) (copy_of now.mailing copy mailbox))
+        (λ view. chosen view mailbox named (named_in copy.by_uid copy.set view) refl)
 
     selected : (s : Option Selected) → P (on_found (copy_messages now copy) wrong_state s)
     selected None = passes.told texts.WrongState
     selected (Some s) =
-        in_either P (copy.moves && s.read_only) (says (response_text texts.ReadOnly)) _ (passes.told texts.ReadOnly) (passes.wanted (on_found (copy_to now.mailing copy) nowhere (number_named copy.name now.folders)) (to (number_named copy.name now.folders) refl))
+        in_either P (copy.moves && s.read_only) (says (response_text texts.ReadOnly)) _ (passes.told texts.ReadOnly)
+        (passes.wanted (on_found (copy_to now.mailing copy) nowhere (number_named copy.name now.folders)) (to (number_named copy.name now.folders) refl))

@@ -212,6 +212,11 @@ in_append o folders a =
 in_subscribing : (folders : List Folder) (name : List ℕ) (command : Command) → StaysIn (subscribing folders name command)
 in_subscribing folders name command = in_found (λ (folder : Folder). completed command) (says (response_text texts.NoSuchMailbox)) (folder_of name folders) (λ folder. tt) tt
 
+in_copy : (now : Standing) (copy : CopyMessages) → StaysIn (on_command now (commands.Copy copy))
+in_copy now copy =
+    copies_so StaysIn (record { told = λ text. tt; wanted = λ x p. p; looked = λ by_uid set next p. p; found = λ uid mark next p. p }) now copy
+    (λ source mailbox row copied. tt)
+
 pub in_command : (now : Standing) (command : Command) → stays command ≡ true → StaysIn (on_command now command)
 in_command now commands.Noop e = in_showing now.selected (completed commands.Noop) tt
 in_command now (commands.Select name) e = absurd (false≢true e)
@@ -241,6 +246,7 @@ in_command now (commands.Store store) e = stay_writable now (store_messages stor
     (in_chosen store.by_uid store.set (λ view uids. storing store view (messages_done (commands.Store store) store.by_uid) uids false)
     (λ view uids. in_storing store view (messages_done (commands.Store store) store.by_uid) uids false (λ b. in_messages (commands.Store store) store.by_uid b)))
 in_command now (commands.Append append) e = in_append now.mailing.most now.folders append
+in_command now (commands.Copy copy) e = in_copy now copy
 in_command now _ e = tt
 
 pub in_rest : (mailing : Mailing) (a : PendingLiteral) (empty : Bool) → StaysIn (on_rest mailing a empty)
@@ -260,9 +266,14 @@ in_rest mailing a empty =
 pub in_idle_line : (selected : Option Selected) (line : List ℕ) → StaysIn (on_idle_line selected line)
 in_idle_line selected line = in_if (is_done line) (showing selected (completed commands.Idle)) (says (response_text texts.ExpectedDone)) (in_showing selected (completed commands.Idle) tt) tt
 
-in_verdict : (selected : Option Selected) (mailbox : ℕ) (verdict : Verdict) → StaysIn (on_verdict selected origin mailbox verdict)
-in_verdict selected mailbox (verdicts.Stored uid) = λ status. in_showing selected _ tt
-in_verdict selected mailbox (verdicts.Refused why) = tt
+in_stored : (selected : Option Selected) (origin : Origin) (uidvalidity uid : ℕ) → StaysIn (told_stored selected origin uidvalidity uid)
+in_stored selected Client uidvalidity uid = in_showing selected _ tt
+in_stored selected (Copied source) uidvalidity uid =
+    in_if source.moves (moving source uidvalidity uid) (showing selected (says (copied_words uidvalidity source.uid uid))) (λ flags. tt) (in_showing selected _ tt)
+
+in_verdict : (selected : Option Selected) (origin : Origin) (mailbox : ℕ) (verdict : Verdict) → StaysIn (on_verdict selected origin mailbox verdict)
+in_verdict selected origin mailbox (verdicts.Stored uid) = λ status. in_stored selected origin status.uidvalidity uid
+in_verdict selected origin mailbox (verdicts.Refused why) = tt
 
 -- ---- turns while it idles
 
