@@ -1,4 +1,4 @@
--- Parts of a command, one after the other: gaps, names, and the end of the line.
+-- Parts of a command, one after the other: gaps, names, sets, and the end of the line.
 use Rattle.std.proofs.Common.{◌≡◌, ℕ, Bool, false, cond, List, [], ◌++◌, refl, ap, sym, subst, ◌∙◌, append_assoc}
 use Rattle.std.specs.Prelude.{Some, None, ◌==◌}
 use Rattle.envelope.proofs.Begins.{gap_stops}
@@ -7,10 +7,13 @@ use Rattle.envelope.proofs.Tokens.{Stops}
 use Rattle.envelope.specs.Bytes.{is_space, is_not_space}
 use Rattle.envelope.specs.Grammar.{Spaces, Gap, Exactly, Joined}
 use Rattle.imap_grammar.specs.Bytes.{is_atom}
-use Rattle.imap_grammar.specs.Grammar.{Name, StringOf}
-use Rattle.imap_grammar.specs.Reading.{string_at, if_end}
+use Rattle.imap_grammar.specs.Grammar.{Name, StringOf, SetIs}
+use Rattle.imap_grammar.specs.Reading.{word_at, string_at, if_end}
 use Rattle.imap_grammar.specs.Front.{past_gap, is_blank}
-use Rattle.imap_grammar.proofs.Tokens.{excludes, not_true, stops_class, gap_again, string_again, string_starts}
+use Rattle.imap_grammar.specs.Sets.{set_at}
+use Rattle.imap_grammar.specs.declared.set.SeqRange.{SeqRange}
+use Rattle.imap_grammar.proofs.SetLaw.{set_again, set_bytes}
+use Rattle.imap_grammar.proofs.Tokens.{excludes, not_true, starts, stops_class, gap_again, string_again, string_starts, word_again}
 use Rattle.imap_grammar.proofs.Parens.{blank_again, blank_sound}
 
 -- ---- chains of rules
@@ -70,3 +73,14 @@ string_read class quote blank name P bytes q s = (
 pub name_read : (name : List ℕ) (P : List ℕ → Type 0) (bytes : List ℕ) → (q : Joined (Name name) P bytes) → Stops is_not_space q.back
     → (string_at is_atom bytes ≡ Some (name, q.back)) × Stops is_space bytes
 name_read = string_read is_atom refl refl
+
+-- ---- sets
+
+pub set_read : (s : List SeqRange) (P : List ℕ → Type 0) (bytes : List ℕ) → (q : Joined (SetIs s) P bytes) → Stops is_not_space q.back
+    → (word_at bytes ≡ (q.front, q.back)) × (set_at q.front ≡ Some s) × Stops is_space bytes
+set_read s P bytes q t =
+    let b = set_bytes s q.front q.first in (
+      ap word_at q.parts ∙ word_again q.front q.back b.1 t,
+      set_again s q.front q.first,
+      subst (Stops is_space) (sym q.parts) (starts is_not_space (λ x e. not_true (is_space x) e) q.front q.back b),
+    )

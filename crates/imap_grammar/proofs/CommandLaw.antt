@@ -17,10 +17,10 @@ use Rattle.envelope.specs.Reading.{◌>>=◌}
 use Rattle.imap_grammar.specs.Bytes.{is_atom, is_pattern}
 use Rattle.imap_grammar.specs.Grammar.{GivenDate, GivenFlags, LiteralIs, Name, StringOf, SetIs, ItemsAre, StatusItemIs, Separated, Parenthesized, FlagsAre, operation_word, flags_of, ChangeIs, ArgumentsOf, CapabilityNames, IdParameters}
 use Rattle.imap_grammar.specs.Items.{status_item_of}
-use Rattle.imap_grammar.specs.Reading.{word_at, string_at, if_end, in_parentheses, name_alone, fetch_items_at, status_items_in, flags_at, operation_of, change_with, fetch_at, store_at, set_alone, pair_at, status_at, search_at, command_at}
+use Rattle.imap_grammar.specs.Reading.{word_at, string_at, if_end, in_parentheses, name_alone, fetch_items_at, status_items_in, flags_at, operation_of, change_with, fetch_at, store_at, set_alone, pair_at, status_at, search_at, copy_at, command_at}
 use Rattle.imap_grammar.specs.Front.{past_gap}
 use Rattle.imap_grammar.specs.Sets.{set_at}
-use Rattle.imap_grammar.specs.Verbs.{alone, verb_of}
+use Rattle.imap_grammar.specs.Verbs.{alone, copy_verb, verb_of}
 use Rattle.imap_grammar.specs.declared.arguments.Operation.{Operation}
 use Rattle.imap_grammar.specs.declared.arguments.Operation.TheVariants as operations
 use Rattle.imap_grammar.specs.declared.set.SeqRange.{SeqRange}
@@ -30,18 +30,20 @@ use Rattle.imap_grammar.specs.declared.command.Verb.{Verb}
 use Rattle.imap_grammar.specs.declared.command.Verb.TheVariants as verbs
 use Rattle.imap_grammar.specs.declared.command.Fetch.{Fetch}
 use Rattle.imap_grammar.specs.declared.command.Store.{Store}
+use Rattle.imap_grammar.specs.declared.command.CopyMessages.{CopyMessages}
 use Rattle.imap_grammar.specs.declared.command.Command.{Command}
 use Rattle.imap_grammar.specs.declared.command.Command.TheVariants as say
 use Rattle.imap_grammar.proofs.AppendLaw.{AppendIs, append_again, append_sound}
+use Rattle.imap_grammar.proofs.CopyLaw.{copy_again, copy_regroup, copy_sound, copy_ungroup}
 use Rattle.imap_grammar.proofs.IdLaw.{id_again, id_sound}
 use Rattle.imap_grammar.proofs.NamedWords.{enable_again, enable_sound, authenticate_again, authenticate_regroup, authenticate_sound, authenticate_ungroup}
 use Rattle.imap_grammar.proofs.ChosenLaw.{SearchIs, search_again, search_sound, search_regroup, search_ungroup}
 use Rattle.imap_grammar.specs.declared.command.Search.{Search}
 use Rattle.imap_grammar.specs.declared.command.Append.{Append}
-use Rattle.imap_grammar.proofs.Chains.{regroup, ungroup, behind, inside, past, gap_first, end_again, end_sound, nothing_again, name_read, string_read}
+use Rattle.imap_grammar.proofs.Chains.{regroup, ungroup, behind, inside, past, gap_first, end_again, end_sound, nothing_again, name_read, set_read, string_read}
 use Rattle.imap_grammar.proofs.Keywords.{word_length, word_clean, map_take, same_sound}
 use Rattle.imap_grammar.proofs.Tokens.{not_true, starts, many_joined, spaced_first, blank_first, gap_again, gap_sound, word_again, word_parts, string_sound}
-use Rattle.imap_grammar.proofs.SetLaw.{set_again, set_sound, set_bytes}
+use Rattle.imap_grammar.proofs.SetLaw.{set_sound}
 use Rattle.imap_grammar.proofs.ItemLaw.{status_again, status_sound, status_bare, status_open}
 use Rattle.imap_grammar.proofs.ListLaw.{listed_again, listed_sound, items_again, items_sound, items_starts, flags_again, flags_sound, flags_starts}
 
@@ -201,15 +203,6 @@ status_spelled c rest e =
     )
 
 -- ---- sets
-
-set_read : (s : List SeqRange) (P : List ℕ → Type 0) (bytes : List ℕ) → (q : Joined (SetIs s) P bytes) → Stops is_not_space q.back
-    → (word_at bytes ≡ (q.front, q.back)) × (set_at q.front ≡ Some s) × Stops is_space bytes
-set_read s P bytes q t =
-    let b = set_bytes s q.front q.first in (
-      ap word_at q.parts ∙ word_again q.front q.back b.1 t,
-      set_again s q.front q.first,
-      subst (Stops is_space) (sym q.parts) (starts is_not_space (λ x e. not_true (is_space x) e) q.front q.back b),
-    )
 
 expunge_ends : List ℕ × List ℕ → Option Command
 expunge_ends word = set_at word.0 >>= (λ set. if_end (say.UidExpunge set) word.1)
@@ -497,6 +490,12 @@ store_verb : (by_uid : Bool) (rest : List ℕ) → command_at (cond by_uid verbs
 store_verb true rest = refl
 store_verb false rest = refl
 
+copy_verb_reads : (by_uid moves : Bool) (rest : List ℕ) → command_at (copy_verb by_uid moves) rest ≡ copy_at by_uid moves rest
+copy_verb_reads true true rest = refl
+copy_verb_reads true false rest = refl
+copy_verb_reads false true rest = refl
+copy_verb_reads false false rest = refl
+
 store_regroup : (set : List SeqRange) (silent : Bool) (change : FlagOp) (rest : List ℕ) → Joined (Joined Gap (Joined (SetIs set) (Joined Gap (ChangeIs silent change)))) Spaces rest → StoreIs set silent change rest
 unfolding StoreIs silent_word
 store_regroup set silent change rest q =
@@ -536,6 +535,7 @@ command_again (say.Fetch f) rest q =
     ∙ fetch_again f.by_uid f.set f.items rest
     (behind Gap _ _ (λ l p. behind (SetIs f.set) _ _ (λ l p. regroup Gap (ItemsAre f.items) Spaces l p) l (regroup _ _ Spaces l p)) rest (regroup _ _ Spaces rest q))
 command_again (say.Store s) rest q = store_verb s.by_uid rest ∙ store_again s.by_uid s.set s.silent s.change rest (store_regroup s.set s.silent s.change rest q)
+command_again (say.Copy m) rest q = copy_verb_reads m.by_uid m.moves rest ∙ copy_again m rest (copy_regroup m rest q)
 command_again (say.Append a) rest q = append_again a rest (append_regroup a rest q)
 command_again (say.Search s) rest q = search_verb s.by_uid rest ∙ search_again s rest (search_regroup s rest q)
 command_again (say.Lsub reference pattern) rest q = pair_again is_pattern refl refl say.Lsub reference pattern rest (pair_regroup is_pattern reference pattern rest q)
@@ -570,6 +570,12 @@ fetch_fits v f x rest e h q =
 
 store_fits : (v : Verb) (s : Store) (x : Command) (rest : List ℕ) → verb_of (say.Store s) ≡ v → Some (say.Store s) ≡ Some x → StoreIs s.set s.silent s.change rest → Fits v x rest
 store_fits v s x rest e h q = subst (λ y. Fits v y rest) (inside (say.Store s) x h) (record { verb = e; is = store_ungroup s.set s.silent s.change rest q })
+
+copy_fits : (by_uid moves : Bool) (c : Command) (rest : List ℕ) → copy_at by_uid moves rest ≡ Some c → Fits (copy_verb by_uid moves) c rest
+copy_fits by_uid moves c rest e =
+    let k = copy_sound by_uid moves c rest e in
+    let m : CopyMessages = record { by_uid = by_uid; moves = moves; set = k.0; name = k.1 } in
+    subst (λ y. Fits (copy_verb by_uid moves) y rest) k.2 (record { verb = refl; is = copy_ungroup m rest k.3 })
 
 search_fits : (v : Verb) (s : Search) (x : Command) (rest : List ℕ) → verb_of (say.Search s) ≡ v → say.Search s ≡ x → SearchIs s rest → Fits v x rest
 search_fits v s x rest e h q = subst (λ y. Fits v y rest) h (record { verb = e; is = search_ungroup s rest q })
@@ -653,6 +659,10 @@ command_sound verbs.Fetch c rest s e = let k = fetch_sound false c rest e in let
 command_sound verbs.UidFetch c rest s e = let k = fetch_sound true c rest e in let f : Fetch = record { by_uid = true; set = k.0; items = k.1 } in fetch_fits verbs.UidFetch f c rest refl k.2 k.3
 command_sound verbs.Store c rest s e = let k = store_sound false c rest e in let f : Store = record { by_uid = false; set = k.0; silent = k.1; change = k.2 } in store_fits verbs.Store f c rest refl k.3 k.4
 command_sound verbs.UidStore c rest s e = let k = store_sound true c rest e in let f : Store = record { by_uid = true; set = k.0; silent = k.1; change = k.2 } in store_fits verbs.UidStore f c rest refl k.3 k.4
+command_sound verbs.Copy c rest s e = copy_fits false false c rest e
+command_sound verbs.UidCopy c rest s e = copy_fits true false c rest e
+command_sound verbs.Move c rest s e = copy_fits false true c rest e
+command_sound verbs.UidMove c rest s e = copy_fits true true c rest e
 command_sound verbs.Append c rest s e =
     let k = append_sound c rest e in
     subst (λ y. Fits verbs.Append y rest) k.1 (record { verb = refl; is = append_ungroup k.0 rest k.2 })

@@ -25,6 +25,7 @@ pub mod ListLaw
 pub mod Chains
 pub mod AppendLaw
 pub mod NamedWords
+pub mod CopyLaw
 pub mod IdLaw
 pub mod LiteralLaw
 pub mod CommandLaw

@@ -11,7 +11,7 @@ use Rattle.imap_grammar.specs.Bytes.{is_tag}
 use Rattle.imap_grammar.specs.Grammar.{TagIs, VerbIs, ArgumentsOf, Line, BeginsWith, IsFault, Reads}
 use Rattle.imap_grammar.specs.Items.{is_word_of}
 use Rattle.imap_grammar.specs.Reading.{word_at, verb_at, command_at, of_command, of_verb, read}
-use Rattle.imap_grammar.specs.Verbs.{is_left_out, verb_of}
+use Rattle.imap_grammar.specs.Verbs.{copy_verb, is_left_out, verb_of}
 use Rattle.imap_grammar.specs.declared.command.Verb.{Verb}
 use Rattle.imap_grammar.specs.declared.command.Verb.TheVariants as verbs
 use Rattle.imap_grammar.specs.declared.command.Command.{Command}
@@ -75,6 +75,7 @@ arguments_first (say.Status name items) l q = gap_first _ l q
 arguments_first (say.UidExpunge set) l q = gap_first _ l q
 arguments_first (say.Fetch f) l q = gap_first _ l q
 arguments_first (say.Store s) l q = gap_first _ l q
+arguments_first (say.Copy m) l q = gap_first _ l q
 arguments_first (say.Append a) l q = gap_first _ l q
 arguments_first (say.Lsub reference pattern) l q = gap_first _ l q
 arguments_first (say.Subscribe name) l q = gap_first _ l q
@@ -92,6 +93,12 @@ kept_store : (by_uid : Bool) → is_left_out (cond by_uid verbs.UidStore verbs.S
 kept_store true = refl
 kept_store false = refl
 
+kept_copy : (by_uid moves : Bool) → is_left_out (copy_verb by_uid moves) ≡ false
+kept_copy true true = refl
+kept_copy true false = refl
+kept_copy false true = refl
+kept_copy false false = refl
+
 kept_search : (by_uid : Bool) → is_left_out (cond by_uid verbs.UidSearch verbs.Search) ≡ false
 kept_search true = refl
 kept_search false = refl
@@ -99,6 +106,7 @@ kept_search false = refl
 kept : (c : Command) → is_left_out (verb_of c) ≡ false
 kept (say.Fetch f) = kept_fetch f.by_uid
 kept (say.Store s) = kept_store s.by_uid
+kept (say.Copy m) = kept_copy m.by_uid m.moves
 kept (say.Search s) = kept_search s.by_uid
 kept _ = refl
 

@@ -324,6 +324,7 @@ ArgumentsOf (say.Status name items) = Gap ⨾ Name name ⨾ Gap ⨾ Parenthesize
 ArgumentsOf (say.UidExpunge set) = Gap ⨾ SetIs set
 ArgumentsOf (say.Fetch fetch) = Gap ⨾ SetIs fetch.set ⨾ Gap ⨾ ItemsAre fetch.items
 ArgumentsOf (say.Store store) = Gap ⨾ SetIs store.set ⨾ Gap ⨾ ChangeIs store.silent store.change
+ArgumentsOf (say.Copy copy) = Gap ⨾ SetIs copy.set ⨾ Gap ⨾ Name copy.name
 ArgumentsOf (say.Append append) = Gap ⨾ Name append.name ⨾ Gap ⨾ GivenFlags append.flags ⨾ GivenDate ⨾ LiteralIs append.literal
 ArgumentsOf (say.Search search) = Gap ⨾ CharsetIs search.known_charset ⨾ KeysOf (KeyIs most_levels) search.keys
 ArgumentsOf (say.Lsub reference pattern) = Gap ⨾ Name reference ⨾ Gap ⨾ Pattern pattern

@@ -146,6 +146,14 @@ store_at by_uid bytes = do
   flags ← flags_at last
   Some (say.Store (record { by_uid = by_uid; set = set; silent = operation.1; change = change_with operation.0 flags }))
 
+abbrev pub copy_at : (by_uid moves : Bool) → List ℕ → Option Command
+copy_at by_uid moves bytes = do
+  start ← past_gap bytes
+  set ← set_at (word_at start).0
+  rest ← past_gap (word_at start).1
+  name ← string_at is_atom rest
+  if_end (say.Copy (record { by_uid = by_uid; moves = moves; set = set; name = name.0 })) name.1
+
 abbrev pub set_alone : List ℕ → Option Command
 set_alone bytes = do
   start ← past_gap bytes
@@ -328,6 +336,10 @@ command_at verbs.Store rest = store_at false rest
 command_at verbs.UidFetch rest = fetch_at true rest
 command_at verbs.UidStore rest = store_at true rest
 command_at verbs.UidExpunge rest = set_alone rest
+command_at verbs.Copy rest = copy_at false false rest
+command_at verbs.UidCopy rest = copy_at true false rest
+command_at verbs.Move rest = copy_at false true rest
+command_at verbs.UidMove rest = copy_at true true rest
 command_at verbs.Append rest = append_at rest
 command_at verbs.Lsub rest = pair_at is_pattern say.Lsub rest
 command_at verbs.Subscribe rest = name_alone say.Subscribe rest

@@ -59,23 +59,19 @@ abbrev pub is_left_out : Verb → Bool
 is_left_out Create = true
 is_left_out Delete = true
 is_left_out Rename = true
-is_left_out Copy = true
-is_left_out Move = true
-is_left_out UidCopy = true
-is_left_out UidMove = true
 is_left_out _ = false
 
 -- the verbs of one word that are offered
 abbrev pub offered : List Verb
 offered =
     Capability ∷ Noop ∷ Logout ∷ Namespace ∷ Idle ∷ Login ∷ Authenticate ∷ StartTls ∷ Select ∷ Examine
-    ∷ ListNames ∷ Status ∷ Close ∷ Unselect ∷ Expunge ∷ Fetch ∷ Store ∷ Append ∷ Check ∷ Lsub ∷ Subscribe ∷ Unsubscribe ∷ Search
-    ∷ Enable ∷ Id ∷ []
+    ∷ ListNames ∷ Status ∷ Close ∷ Unselect ∷ Expunge ∷ Fetch ∷ Store ∷ Copy ∷ Move ∷ Append ∷ Check ∷ Lsub ∷ Subscribe ∷ Unsubscribe
+    ∷ Search ∷ Enable ∷ Id ∷ []
 
 -- those of one word that aren't
 abbrev pub left_out : List Verb
 left_out =
-    Create ∷ Delete ∷ Rename ∷ Copy ∷ Move ∷ []
+    Create ∷ Delete ∷ Rename ∷ []
 
 -- those of UID and a second word
 abbrev pub behind_uid : List Verb
@@ -93,6 +89,13 @@ alone Unselect = Some say.Unselect
 alone Expunge = Some say.Expunge
 alone Check = Some say.Check
 alone _ = None
+
+-- the verb of COPY or MOVE, by UID or not
+abbrev pub copy_verb : (by_uid moves : Bool) → Verb
+copy_verb false false = Copy
+copy_verb true false = UidCopy
+copy_verb false true = Move
+copy_verb true true = UidMove
 
 -- the verb of a command
 abbrev pub verb_of : Command → Verb
@@ -114,6 +117,7 @@ verb_of say.Expunge = Expunge
 verb_of (say.UidExpunge set) = UidExpunge
 verb_of (say.Fetch fetch) = if fetch.by_uid then UidFetch else Fetch
 verb_of (say.Store store) = if store.by_uid then UidStore else Store
+verb_of (say.Copy copy) = copy_verb copy.by_uid copy.moves
 verb_of (say.Append append) = Append
 verb_of say.Check = Check
 verb_of (say.Lsub reference pattern) = Lsub

@@ -6,12 +6,14 @@ ghost use Rattle.std.specs.List.{list_all};
 ghost use Rattle.std.specs.Option.{option_copied, option_map};
 ghost use Rattle.envelope.specs.Reading.{first_is, some_len};
 ghost use Rattle.imap_grammar.specs.Grammar.{is_known_charset};
-ghost use Rattle.imap_grammar.specs.Reading.{is_of, in_parentheses, items_in_parentheses, fetch_items_at, flags_at, operation_of, change_with, name_alone, pair_at, status_at, fetch_at, store_at, set_alone, if_end, parens_at, flag_list_at, given_flags_at, past_quoted, past_date, literal_end, literal_at, append_at, charset_named, charset_at, search_at, word_if, initial_at, authenticate_at, enable_at, past_string, past_value, past_field, past_all_fields, past_list, past_parameters, id_at};
+ghost use Rattle.imap_grammar.specs.Reading.{is_of, in_parentheses, items_in_parentheses, fetch_items_at, flags_at, operation_of, change_with, name_alone, pair_at, status_at, fetch_at, store_at, copy_at, set_alone, if_end, parens_at, flag_list_at, given_flags_at, past_quoted, past_date, literal_end, literal_at, append_at, charset_named, charset_at, search_at, word_if, initial_at, authenticate_at, enable_at, past_string, past_value, past_field, past_all_fields, past_list, past_parameters, id_at};
 ghost use Rattle.imap_grammar.specs.Bytes.{is_atom, is_pattern, is_digit};
 ghost use Rattle.imap_grammar.specs.declared.command.Command.TheVariants as say;
 
 use crate::bytes::{Class, is_blank, is_tight, past_gap, run_len, word_at};
-use crate::command::{Append, Authenticate, Command, Fetch, Literal, Search, Store, Word};
+use crate::command::{
+    Append, Authenticate, Command, CopyMessages, Fetch, Literal, Search, Store, Word,
+};
 use crate::cut::cut_at;
 use crate::item_words::{item_word_at, outside_len};
 use crate::items::{FetchItems, StatusItems};
@@ -246,6 +248,26 @@ pub fn store(by_uid: bool, bytes: &[u8]) -> Option<Command<'_>>
         silent,
         change: change_with(operation, flags),
     }))
+}
+
+/// What follows COPY or MOVE, or one of them behind UID.
+pub fn copy(by_uid: bool, moves: bool, bytes: &[u8]) -> Option<Command<'_>>
+    ensures { result ≡ copy_at by_uid moves bytes.now }
+{
+    let start = past_gap(bytes)?;
+    let (word, rest) = word_at(start);
+    let set = SeqSet::of(word)?;
+    let rest = past_gap(rest)?;
+    let (name, rest) = string_at(Class::Atom, rest)?;
+    if_end(
+        Command::Copy(CopyMessages {
+            by_uid,
+            moves,
+            set,
+            name,
+        }),
+        rest,
+    )
 }
 
 /// What follows UID EXPUNGE.

@@ -3,7 +3,7 @@
 
 ghost use Rattle.std.specs.Prelude.{◌≡◌};
 ghost use Rattle.imap_grammar.specs.Reading.{verb_among};
-ghost use Rattle.imap_grammar.specs.Verbs.{alone, behind_uid, is_left_out, left_out, offered};
+ghost use Rattle.imap_grammar.specs.Verbs.{alone, behind_uid, copy_verb, is_left_out, left_out, offered};
 
 use crate::items::{FetchItems, StatusItems};
 use crate::keys::SearchKeys;
@@ -175,6 +175,31 @@ impl<'a> Store<'a> {
     }
 }
 
+/// COPY and MOVE, and their forms by UID (RFC 9051, 6.4.7 to 6.4.9).
+#[derive(Drop)]
+pub struct CopyMessages<'a> {
+    /// The set names UIDs.
+    pub by_uid: bool,
+    /// The messages are removed from the selected mailbox, once their copies are stored.
+    pub moves: bool,
+    /// Which messages: by their positions, unless `by_uid`.
+    pub set: SeqSet<'a>,
+    /// The mailbox that they go to.
+    pub name: Name<'a>,
+}
+
+/// The verb of COPY or MOVE, by UID or not.
+pub fn copy_verb(by_uid: bool, moves: bool) -> Verb
+    ensures { result ≡ copy_verb by_uid moves }
+{
+    match (by_uid, moves) {
+        (false, false) => Verb::Copy,
+        (true, false) => Verb::UidCopy,
+        (false, true) => Verb::Move,
+        (true, true) => Verb::UidMove,
+    }
+}
+
 /// Bytes that the client sends behind the line, as the line announces them (RFC 9051, 4.3).
 #[derive(Clone, Copy, Debug, PartialEq, Eq)]
 pub struct Literal {
@@ -252,6 +277,7 @@ pub enum Command<'a> {
     UidExpunge(SeqSet<'a>),
     Fetch(Fetch<'a>),
     Store(Store<'a>),
+    Copy(CopyMessages<'a>),
     Append(Append<'a>),
     /// RFC 3501, 6.4.1.
     Check,
@@ -296,6 +322,7 @@ impl<'a> Command<'a> {
             Command::UidExpunge(_) => Verb::UidExpunge,
             Command::Fetch(fetch) => fetch.verb(),
             Command::Store(store) => store.verb(),
+            Command::Copy(copy) => copy_verb(copy.by_uid, copy.moves),
             Command::Append(_) => Verb::Append,
             Command::Check => Verb::Check,
             Command::Lsub { .. } => Verb::Lsub,
@@ -359,6 +386,10 @@ pub(crate) fn offered(word: &[u8]) -> Option<Verb>
         Some(Verb::Fetch)
     } else if word.eq_ignore_ascii_case(b"STORE") {
         Some(Verb::Store)
+    } else if word.eq_ignore_ascii_case(b"COPY") {
+        Some(Verb::Copy)
+    } else if word.eq_ignore_ascii_case(b"MOVE") {
+        Some(Verb::Move)
     } else if word.eq_ignore_ascii_case(b"APPEND") {
         Some(Verb::Append)
     } else if word.eq_ignore_ascii_case(b"CHECK") {
@@ -390,10 +421,6 @@ pub(crate) fn left_out(word: &[u8]) -> Option<Verb>
         Some(Verb::Delete)
     } else if word.eq_ignore_ascii_case(b"RENAME") {
         Some(Verb::Rename)
-    } else if word.eq_ignore_ascii_case(b"COPY") {
-        Some(Verb::Copy)
-    } else if word.eq_ignore_ascii_case(b"MOVE") {
-        Some(Verb::Move)
     } else {
         None
     }
@@ -424,16 +451,7 @@ pub(crate) fn behind_uid(word: &[u8]) -> Option<Verb>
 pub(crate) fn is_left_out(verb: Verb) -> bool
     ensures { result ≡ is_left_out verb }
 {
-    matches!(
-        verb,
-        Verb::Create
-            | Verb::Delete
-            | Verb::Rename
-            | Verb::Copy
-            | Verb::Move
-            | Verb::UidCopy
-            | Verb::UidMove
-    )
+    matches!(verb, Verb::Create | Verb::Delete | Verb::Rename)
 }
 
 /// The command that a verb is with nothing after it.

@@ -27,7 +27,8 @@ mod view;
 mod words;
 
 pub use command::{
-    Append, Authenticate, Command, Fetch, ImapFault, Literal, Search, Store, Tag, Verb, Word,
+    Append, Authenticate, Command, CopyMessages, Fetch, ImapFault, Literal, Search, Store, Tag,
+    Verb, Word, copy_verb,
 };
 pub use cut::cut_at;
 pub use dates::Day;

@@ -9,8 +9,8 @@ ghost use Rattle.imap_grammar.specs.declared.command.ImapFault.{ImapFault};
 ghost use Rattle.imap_grammar.specs.Reading.{verb_alone, alone_at, second_at, verb_at, command_at, read, is_done};
 
 use crate::arguments::{
-    append, authenticate, enable, examine, fetch, id, if_end, list, login, lsub, search, select,
-    status, store, subscribe, uid_expunge, unsubscribe,
+    append, authenticate, copy, enable, examine, fetch, id, if_end, list, login, lsub, search,
+    select, status, store, subscribe, uid_expunge, unsubscribe,
 };
 use crate::bytes::{Class, is_blank, word_at};
 use crate::command::{
@@ -76,6 +76,10 @@ fn command_at(verb: Verb, rest: &[u8]) -> Option<Command<'_>>
         Verb::UidFetch => fetch(true, rest),
         Verb::UidStore => store(true, rest),
         Verb::UidExpunge => uid_expunge(rest),
+        Verb::Copy => copy(false, false, rest),
+        Verb::UidCopy => copy(true, false, rest),
+        Verb::Move => copy(false, true, rest),
+        Verb::UidMove => copy(true, true, rest),
         Verb::Append => append(rest),
         Verb::Lsub => lsub(rest),
         Verb::Subscribe => subscribe(rest),

@@ -425,9 +425,9 @@ control_in_verb : read (codes "a1 NOOP" ++ 1 ∷ []) ≡ Err (Unknown (codes "a1
 unfolding read
 control_in_verb = refl
 
-copy : read (codes "a1 COPY 1 INBOX") ≡ Err (LeftOut (codes "a1"))
+rename : read (codes "a1 RENAME a b") ≡ Err (LeftOut (codes "a1"))
 unfolding read
-copy = refl
+rename = refl
 
 idle_more : read (codes "a1 IDLE x") ≡ Err (Arguments (codes "a1") verbs.Idle)
 unfolding read
@@ -472,6 +472,93 @@ append_just_the_most = refl
 store_seen : read (codes "a STORE 1 +flags (\\seen $x)") ≡ Ok (codes "a", say.Store (record { by_uid = false; set = range (Number 1) (Number 1) ∷ []; silent = false; change = Insert (flags false false false true false) }))
 unfolding read
 store_seen = refl
+
+-- ---- COPY and MOVE
+
+-- RFC 9051, 6.4.7
+copy_some : read (codes "A COPY 2:4 MEETING") ≡ Ok (codes "A", say.Copy (record { by_uid = false; moves = false; set = range (Number 2) (Number 4) ∷ []; name = codes "MEETING" }))
+unfolding read
+copy_some = refl
+
+uid_copy_quoted : read (codes "a uid copy 5 \"Sent Items\"") ≡ Ok (codes "a", say.Copy (record { by_uid = true; moves = false; set = range (Number 5) (Number 5) ∷ []; name = codes "Sent Items" }))
+unfolding read
+uid_copy_quoted = refl
+
+move_one : read (codes "a MOVE 1 Work") ≡ Ok (codes "a", say.Copy (record { by_uid = false; moves = true; set = range (Number 1) (Number 1) ∷ []; name = codes "Work" }))
+unfolding read
+move_one = refl
+
+uid_move_some : read (codes "a UID MOVE 42:69 foo") ≡ Ok (codes "a", say.Copy (record { by_uid = true; moves = true; set = range (Number 42) (Number 69) ∷ []; name = codes "foo" }))
+unfolding read
+uid_move_some = refl
+
+copy_parts : read (codes "a  Copy  1,3:*  INBOX/x  ") ≡ Ok (codes "a", say.Copy (record { by_uid = false; moves = false; set = range (Number 1) (Number 1) ∷ range (Number 3) Star ∷ []; name = codes "INBOX/x" }))
+unfolding read
+copy_parts = refl
+
+move_escaped : read (codes "a move * \"a \\\"b\\\\\"") ≡ Ok (codes "a", say.Copy (record { by_uid = false; moves = true; set = range Star Star ∷ []; name = codes "a \"b\\" }))
+unfolding read
+move_escaped = refl
+
+copy_empty_name : read (codes "a COPY 1 \"\"") ≡ Ok (codes "a", say.Copy (record { by_uid = false; moves = false; set = range (Number 1) (Number 1) ∷ []; name = codes "" }))
+unfolding read
+copy_empty_name = refl
+
+copy_alone : read (codes "a COPY") ≡ Err (Arguments (codes "a") verbs.Copy)
+unfolding read
+copy_alone = refl
+
+copy_no_set : read (codes "a COPY MEETING") ≡ Err (Arguments (codes "a") verbs.Copy)
+unfolding read
+copy_no_set = refl
+
+copy_no_name : read (codes "a COPY 2:4") ≡ Err (Arguments (codes "a") verbs.Copy)
+unfolding read
+copy_no_name = refl
+
+copy_blank_name : read (codes "a COPY 2:4 ") ≡ Err (Arguments (codes "a") verbs.Copy)
+unfolding read
+copy_blank_name = refl
+
+copy_zero : read (codes "a COPY 0 x") ≡ Err (Arguments (codes "a") verbs.Copy)
+unfolding read
+copy_zero = refl
+
+copy_more : read (codes "a COPY 1 x y") ≡ Err (Arguments (codes "a") verbs.Copy)
+unfolding read
+copy_more = refl
+
+copy_turned : read (codes "a COPY x 1") ≡ Err (Arguments (codes "a") verbs.Copy)
+unfolding read
+copy_turned = refl
+
+copy_bare_brace : read (codes "a COPY 1 {3}") ≡ Err (Arguments (codes "a") verbs.Copy)
+unfolding read
+copy_bare_brace = refl
+
+uid_copy_no_name : read (codes "a UID COPY 5") ≡ Err (Arguments (codes "a") verbs.UidCopy)
+unfolding read
+uid_copy_no_name = refl
+
+uid_copy_zero : read (codes "a UID COPY 1:0 x") ≡ Err (Arguments (codes "a") verbs.UidCopy)
+unfolding read
+uid_copy_zero = refl
+
+move_no_name : read (codes "a MOVE 1") ≡ Err (Arguments (codes "a") verbs.Move)
+unfolding read
+move_no_name = refl
+
+move_more : read (codes "a MOVE 1 \"x\" ()") ≡ Err (Arguments (codes "a") verbs.Move)
+unfolding read
+move_more = refl
+
+uid_move_no_set : read (codes "a UID MOVE foo") ≡ Err (Arguments (codes "a") verbs.UidMove)
+unfolding read
+uid_move_no_set = refl
+
+uid_move_joined : read (codes "a UID MOVE 42:69\"foo\"") ≡ Err (Arguments (codes "a") verbs.UidMove)
+unfolding read
+uid_move_joined = refl
 
 -- ---- what sets name
 
