@@ -1,5 +1,5 @@
 -- What a session tells of the messages that its client appended, over a whole record.
-use Rattle.std.proofs.Common.{◌≡◌, inl, inr, ℕ, true, false, List, [], ◌∷◌, ◌++◌, Contains, refl, sym, ◌∙◌, subst, Option, Some, None}
+use Rattle.std.proofs.Common.{◌≡◌, inl, inr, ℕ, true, false, List, [], ◌∷◌, ◌++◌, Contains, refl, sym, ◌∙◌, subst, Option, Some, None, ap, Bool, ◌⊎◌}
 use Rattle.std.specs.Prelude.{filter_map}
 use Rattle.std.proofs.lemmas.Bool.{false≢true}
 use Rattle.delivery_token.specs.declared.CopyKey.{CopyKey}
@@ -11,16 +11,16 @@ use Rattle.world.specs.World.{Config, Event, IsWorld, Steps, World}
 use Rattle.world.specs.Law.{StandsOnce, pairs}
 use Rattle.world.proofs.Always.{always}
 use Rattle.world.proofs.Base.{Every, Rising, rising_pair}
-use Rattle.imap_session.specs.Commands.{appended_words}
+use Rattle.imap_session.specs.Commands.{appended_words, copied_words}
 use Rattle.imap_session.specs.Telling.{tells_uid}
 use Rattle.imap_session.specs.Exchange as calls
-use Rattle.imap_session.specs.Exchange.{Event as Happened, Sent}
+use Rattle.imap_session.specs.Exchange.{Event as Happened, Sent, refusal_text}
 use Rattle.exactly_once.proofs.Grown.{heard_stays_heard}
 use Rattle.laws_client.proofs.Talked.{met_hears}
 use Rattle.imap_session.specs.Folders.{folders_of}
 use Rattle.house.specs.Scene.{LeavesMailbox, empty_scene}
 use Rattle.house.specs.Setup.{Setup, session_seat}
-use Rattle.laws_client.specs.Appends.{AppendsWereTold, TellsOfAppends, AnswersNoted, AppendsAreTold, AreAnswered, Author, EndsWith, IsAnswered, SaysVerdict, TellsKept, TellsOfNone, as_it_is, author_at, copy_under}
+use Rattle.laws_client.specs.Appends.{AppendsWereTold, TellsOfAppends, AnswersNoted, AppendsAreTold, AreAnswered, Author, EndsWith, IsAnswered, SaysVerdict, TellsKept, TellsOfNone, as_it_is, author_at, copy_under, CameBy, SaysCopied, last_line}
 use Rattle.laws_client.specs.Clients.{Told, bytes_in}
 use Rattle.laws_client.specs.ClientRecords.{sent_by_then, shown_by_then}
 use Rattle.laws_client.proofs.Answered.{Came, AreNoted, InTurn, IsNoted, KnownAt, still_noted}
@@ -32,6 +32,14 @@ use Rattle.laws_client.proofs.LastWords.{uid_spares}
 use Rattle.laws_client.proofs.Out.{copy_of, fate_met, fate_step}
 use Rattle.laws_client.proofs.Recording.{Arrival, Finished, came_as}
 use Rattle.laws_client.proofs.Stored.{stored_copy}
+use Rattle.imap_session.specs.declared.standing.Origin.{Origin}
+use Rattle.imap_session.specs.declared.standing.Origin.TheVariants.{Client, Copied}
+use Rattle.imap_session.specs.declared.standing.Source.{Source}
+use Rattle.imap_session.specs.Texts.{response_text}
+use Rattle.imap_session.proofs.Telling.{row_tells_none}
+use Rattle.imap_session.specs.declared.texts.ResponseText.TheVariants as texts
+use Rattle.imap_grammar.specs.Verbs.{copy_verb}
+use Rattle.mailbox.specs.declared.clients.MailFault.{MailFault}
 
 -- ---- each answer
 
@@ -82,15 +90,33 @@ untold bytes tag words none ends tells = false≢true (sym (none tag words ends)
 
 -- what was said to a verdict tells a UID where that is stored
 said_kept : (k : Setup) (w : World) (author : Author) (bytes tag words : List ℕ) (noted : Noted) → AnswersNoted k w author bytes noted → EndsWith tag words bytes → tells_uid words ≡ true → TellsKept k w author tag words noted
-said_kept k w author bytes tag words noted h ends tells = by noted.verdict refl h.says
+said_kept k w author bytes tag words noted h ends tells = by h.message.origin refl h.came noted.verdict refl h.says
   where
-    by : (verdict : Verdict) → noted.verdict ≡ verdict → SaysVerdict k.config.uidvalidity h.message.tag verdict bytes → TellsKept k w author tag words noted
-    by (verdicts.Refused why) e s =
+    -- an answer that ends so tells no UID
+    ends_otherwise : (other : List ℕ) → EndsWith h.message.tag other bytes → tells_uid other ≡ false → ⊥
+    ends_otherwise other s none =
+        false≢true (sym none ∙ ap tells_uid (sym (words_of_tags tag h.message.tag words other ends.chosen h.chosen (sym ends.last ∙ s.last))) ∙ tells)
+
+    copied : (source : Source) (moves : Bool) (uid : ℕ) → SaysCopied moves k.config.uidvalidity uid source h.message.tag bytes → ⊥
+    copied source false uid s = ends_otherwise (copied_words k.config.uidvalidity source.uid uid) s refl
+    copied source true uid s = moved s.ends
+      where
+        moved : EndsWith h.message.tag (response_text (texts.Completed (copy_verb source.by_uid true))) bytes ⊎ ((fault : MailFault) × (last_line bytes ≡ last_line (refusal_text h.message.tag fault))) → ⊥
+        moved (inl done) = ends_otherwise (response_text (texts.Completed (copy_verb source.by_uid true))) done (row_tells_none (texts.Completed (copy_verb source.by_uid true)))
+        moved (inr (fault, e)) =
+            false≢true (sym (apart_tells_none tells_uid (refusal_text h.message.tag fault) (refusal_apart tells_uid uid_spares h.message.tag h.chosen fault) tag words
+            (record { chosen = ends.chosen; last = sym e ∙ ends.last })) ∙ tells)
+
+    by : (origin : Origin) → h.message.origin ≡ origin → CameBy origin author.folders author.sent h.message → (verdict : Verdict) → noted.verdict ≡ verdict
+        → SaysVerdict k.config.uidvalidity origin h.message.tag verdict bytes → TellsKept k w author tag words noted
+    by origin is came (verdicts.Refused why) e s =
         absurd (untold bytes tag words (subst TellsOfNone (sym s) (apart_tells_none tells_uid _ (no_apart tells_uid uid_spares h.message.tag h.chosen why))) ends tells)
-    by (verdicts.Stored uid) e (inl s) = record {
+    by (Copied source) is came (verdicts.Stored uid) e (inl s) = absurd (copied source source.moves uid s)
+    by Client is came (verdicts.Stored uid) e (inl s) = record {
       message = h.message;
       number = h.number;
-      came = h.came;
+      origin = is;
+      came = came;
       under = tags_of_words tag h.message.tag words (appended_words k.config.uidvalidity uid) ends.chosen h.chosen (sym ends.last ∙ s.last);
       uid = uid;
       words = words_of_tags tag h.message.tag words (appended_words k.config.uidvalidity uid) ends.chosen h.chosen (sym ends.last ∙ s.last);
@@ -102,7 +128,7 @@ said_kept k w author bytes tag words noted h ends tells = by noted.verdict refl 
       mailbox = (h.stored uid e).0;
       copy = (h.stored uid e).1;
     }
-    by (verdicts.Stored uid) e (inr (fault, s)) =
+    by origin is came (verdicts.Stored uid) e (inr (fault, s)) =
         absurd (untold bytes tag words (subst TellsOfNone (sym s) (apart_tells_none tells_uid _ (refusal_apart tells_uid uid_spares h.message.tag h.chosen fault))) ends tells)
 
 -- an answer that tells a UID was said to a verdict

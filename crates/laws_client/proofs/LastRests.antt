@@ -1,20 +1,24 @@
 -- How an answer ends that is said behind a literal, or to a line that is too long, or where a message is refused.
-use Rattle.std.proofs.Common.{◌≡◌, inl, ℕ, Bool, true, false, List, [], refl, Option, Some, None, sym, subst, codes}
+use Rattle.std.proofs.Common.{◌≡◌, inl, ℕ, Bool, true, false, List, [], refl, Option, Some, None, sym, subst, codes, inr, ◌∷◌}
 use Rattle.std.specs.Prelude.{IfSome, nat_le, ◌==◌, if◌then◌else◌}
 use Rattle.std.specs.List.{list_any}
 use Rattle.delivery_token.specs.declared.Refusal.{Refusal}
 use Rattle.delivery_token.specs.declared.Refusal.TheVariants as refusals
 use Rattle.imap_session.specs.Exchange as ex
-use Rattle.imap_session.specs.Exchange.{Asked, ForLiteral, bye, Answer, PendingLiteral, Exchange, ForVerdict, Mailing, Standing, played, Argument, Response, continuing, ForNothing, Unasked}
+use Rattle.imap_session.specs.Exchange.{Asked, ForLiteral, bye, Answer, PendingLiteral, Exchange, ForVerdict, Mailing, Standing, played, Argument, Response, continuing, ForNothing, Unasked, Looked, Found, Refused, Call, Turn, having}
 use Rattle.imap_session.specs.Commands.{is_over, last_number, long_rest_text, long_text, nowhere, on_found, on_rest, on_text, over, refused_text, says, turn_of_long_line, wanting, flags_for, mailbox_for}
 use Rattle.laws_client.proofs.IdleTags.{AreTagsOf}
-use Rattle.laws_client.proofs.LastLines.{bye_apart, plus_apart, untagged_apart, Apart, IsWord, SaysApart, Spares, TurnFine, fine, fine_wait, fine_wanting, played_apart, star_apart, tagged_apart}
+use Rattle.laws_client.proofs.LastLines.{bye_apart, plus_apart, untagged_apart, Apart, IsWord, SaysApart, Spares, TurnFine, fine, fine_wait, fine_wanting, played_apart, star_apart, tagged_apart, refused_apart}
 use Rattle.imap_session.specs.declared.texts.ResponseText.{ResponseText}
 use Rattle.imap_session.specs.declared.texts.ResponseText.TheVariants as texts
 use Rattle.imap_session.specs.Texts.{response_text}
 use Rattle.laws_client.proofs.TextRows.{behind}
 use Rattle.std.proofs.lemmas.Bool.{false≢true}
 use Rattle.imap_session.proofs.Parts.{IsPart, tells_part, ends_part, asks_part, comes_part, challenge_part, is_told}
+use Rattle.imap_session.specs.declared.standing.Origin.TheVariants.{Client}
+use Rattle.std.specs.Option.{option_map}
+use Rattle.mailbox.specs.declared.clients.Row.{Row}
+use Rattle.imap_grammar.specs.declared.set.SeqRange.{SeqRange}
 
 -- an exchange that ends so, whatever its tag
 abbrev pub EndsFine : (List ℕ → Bool) → Exchange → Type 0
@@ -30,6 +34,26 @@ either_fine tells false x y p q = q
 found_fine : {A : Type 0} (tells : List ℕ → Bool) (next : A → Exchange) (gone : Exchange) → ((a : A) → EndsFine tells (next a)) → EndsFine tells gone → (found : Option A) → EndsFine tells (on_found next gone found)
 found_fine tells next gone p q None = q
 found_fine tells next gone p q (Some a) = p a
+
+-- a call that was answered
+having_fine : (tells : List ℕ → Bool) (call : Call) (answer : Answer) (o : Option Turn) → TurnFine tells o → TurnFine tells (option_map (having call answer) o)
+having_fine tells call answer None p = tt
+having_fine tells call answer (Some turn) p = p
+
+-- a set is looked up, and a message is read
+pub look_fine : (tells : List ℕ → Bool) → Spares tells → (by_uid : Bool) (set : List SeqRange) (next : List ℕ → Exchange) → ((view : List ℕ) → EndsFine tells (next view))
+    → EndsFine tells (ex.Look by_uid set next)
+look_fine tells spares by_uid set next p tag t now [] = tt
+look_fine tells spares by_uid set next p tag t now (Looked view ∷ more) = having_fine tells (ex.Look by_uid set) (Looked view) (played tag now (next view) more) (p view tag t now more)
+look_fine tells spares by_uid set next p tag t now (Refused fault ∷ []) = inr (refused_apart tells spares tag t now fault)
+look_fine tells spares by_uid set next p tag t now (_ ∷ more) = tt
+
+pub row_fine : (tells : List ℕ → Bool) → Spares tells → (uid : ℕ) (mark : Bool) (next : Option Row → Exchange) → ((row : Option Row) → EndsFine tells (next row))
+    → EndsFine tells (ex.Read uid mark next)
+row_fine tells spares uid mark next p tag t now [] = tt
+row_fine tells spares uid mark next p tag t now (Found row ∷ more) = having_fine tells (ex.Read uid mark) (Found row) (played tag now (next row) more) (p row tag t now more)
+row_fine tells spares uid mark next p tag t now (Refused fault ∷ []) = inr (refused_apart tells spares tag t now fault)
+row_fine tells spares uid mark next p tag t now (_ ∷ more) = tt
 
 over_apart : (tells : List ℕ → Bool) → Spares tells → (most : Option ℕ) → SaysApart tells (over most)
 over_apart tells spares None = (refl, spares.no (behind 3 texts.NotOffered))

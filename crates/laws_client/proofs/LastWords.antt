@@ -20,8 +20,8 @@ use Rattle.imap_session.specs.Telling.{tells_uid}
 use Rattle.exactly_once.proofs.Whole.{IsWhole, bye_whole, ends, fetched_whole, flags_whole, list_whole, opening_whole, found_whole}
 use Rattle.laws_client.proofs.IdleTags.{AreTagsOf}
 use Rattle.laws_client.proofs.Tags.{TaggedOf, read_tagged_so}
-use Rattle.laws_client.proofs.LastRests.{EndsFine, either_fine, part_fine, rest_fine, says_fine}
-use Rattle.laws_client.proofs.LastLines.{Apart, IsWord, SaysApart, Spares, TurnFine, bye_apart, fine_wait, plus_apart, star_apart, tagged_apart}
+use Rattle.laws_client.proofs.LastRests.{EndsFine, either_fine, part_fine, rest_fine, says_fine, look_fine, row_fine}
+use Rattle.laws_client.proofs.LastLines.{Apart, IsWord, SaysApart, Spares, TurnFine, bye_apart, fine_wait, plus_apart, star_apart, tagged_apart, fine_wanting}
 use Rattle.imap_session.specs.declared.texts.ResponseText.TheVariants as texts
 use Rattle.imap_session.specs.Texts.{response_text}
 use Rattle.imap_session.proofs.Telling.{row_tells_none}
@@ -35,6 +35,9 @@ use Rattle.imap_grammar.specs.declared.command.Search.{Search}
 use Rattle.imap_grammar.specs.declared.view.Named.{Named}
 use Rattle.imap_grammar.specs.Keys.{all_messages}
 use Rattle.laws_client.proofs.WholeLines.{turn_has, text_has}
+use Rattle.imap_session.specs.declared.standing.Origin.TheVariants.{Copied}
+use Rattle.imap_grammar.specs.declared.command.CopyMessages.{CopyMessages}
+use Rattle.exactly_once.proofs.Copying.{copies_so}
 
 pub uid_spares : Spares tells_uid
 uid_spares = record { no = λ rest. refl; bad = λ rest. refl }
@@ -123,6 +126,17 @@ append_fine most folders a =
     (either_fine tells_uid (nat_lt most_unasked a.literal.size) _ _ (says_fine tells_uid uid_spares (ex.Wait (bye (response_text texts.LiteralTooBig)) ex.ForNothing) (bye_apart tells_uid texts.LiteralTooBig, tt))
     (λ tag t now answers. fine_wait tells_uid uid_spares tag t now (ex.ForLiteral ex.Unasked (ex.Message (number_named a.name folders) a.flags) a.literal.size) answers))
 
+copy_fine : (now : Standing) (copy : CopyMessages) → EndsFine tells_uid (on_command now (commands.Copy copy))
+copy_fine now copy =
+    copies_so (EndsFine tells_uid) (record {
+      told = λ text. says_fine tells_uid uid_spares (says (response_text text)) (says_apart text);
+      wanted = λ x p tag t now answers. fine_wanting tells_uid uid_spares tag t now x (p tag t now) answers;
+      looked = look_fine tells_uid uid_spares;
+      found = row_fine tells_uid uid_spares;
+    }) now copy
+    (λ source mailbox row copied tag t now answers. let waits = ForVerdict (Copied source) mailbox row.flags row.text in
+    fine_wanting tells_uid uid_spares tag t now (ex.Wait [] waits) (fine_wait tells_uid uid_spares tag t now waits) answers)
+
 notice_apart : (said : Option (List ℕ)) (x : Exchange) → SaysApart tells_uid x → SaysApart tells_uid (noticing said x)
 notice_apart None x p = p
 notice_apart (Some words) x p = (ends (codes "* ") words, p)
@@ -171,6 +185,7 @@ command_apart now (commands.Search search) =
     (λ view. in_chosen (named_in true all_messages view) (λ uids. wanting (searching search (named_at view (last_uid uids)) view (search_done search) uids []))
     (λ uids. (inl refl, in_searching search (named_at view (last_uid uids)) view uids []))) (refl, refl)) (refl, refl) now.selected)
 command_apart now (commands.Append append) = append_fine now.mailing.most now.folders append
+command_apart now (commands.Copy copy) = copy_fine now copy
 command_apart now command = says_fine tells_uid uid_spares (on_command now command) (notice_apart (notice now.profile command) (completed command) (refl, refl))
 
 -- ---- lines

@@ -27,7 +27,7 @@ use Rattle.imap_session.specs.declared.standing.After.TheVariants as afters
 use Rattle.imap_session.specs.declared.standing.Selected.{Selected}
 use Rattle.imap_session.specs.Exchange.{Answer, Entered, Looked, Found, Counted, Altered, Expunged, Fed, Left, Refused, Starved, Exchange, ForDone, ForLiteral, ForVerdict, ForNothing, Done, Wait, Write, Put, Enter, Look, Read, Count, Alter, Expunge, Feed, Leave, Folder, Mailing, Standing, Turn, PendingLiteral, Sent, Waiting, closed, having, played, refusal_after, refusal_text, refused, saying, tagged, waiting, unkept, Asked, Dropped, Unasked, bye}
 use Rattle.imap_session.proofs.Unkept.{unkept_by}
-use Rattle.imap_session.specs.Commands.{appending, closing, completed, counting, entering, expunge_set, fault_text, fetch_messages, fetched, fetching, folder_of, idle_turn_in, if_writable, in_writable, is_over, kept_text, last_number, messages_done, most_unasked, nowhere, number_named, on_chosen, on_command, on_folder, on_found, on_idle_line, on_read, on_rest, on_set, on_text, on_verdict, only_says, over, says, selecting, showing, store_messages, stored, storing, taking, turn_of, turn_of_long_line, turn_of_verdict, turn_with, unlimited, wanting, wanting_for, with_bytes, without_begun, without_sent, wrong_state, asking, coming, entered_text, logged_in, subscribing, telling_recent, found_in, search_done, search_known, search_messages, searching, on_text_line, flags_for, mailbox_for}
+use Rattle.imap_session.specs.Commands.{appending, closing, completed, counting, entering, expunge_set, fault_text, fetch_messages, fetched, fetching, folder_of, idle_turn_in, if_writable, in_writable, is_over, kept_text, last_number, messages_done, most_unasked, nowhere, number_named, on_chosen, on_command, on_folder, on_found, on_idle_line, on_read, on_rest, on_set, on_text, on_verdict, only_says, over, says, selecting, showing, store_messages, stored, storing, taking, turn_of, turn_of_long_line, turn_of_verdict, turn_with, unlimited, wanting, wanting_for, with_bytes, without_begun, without_sent, wrong_state, asking, coming, entered_text, logged_in, subscribing, telling_recent, found_in, search_done, search_known, search_messages, searching, on_text_line, flags_for, mailbox_for, told_stored, moving, copied_words, most_copied, most_return_path}
 use Rattle.delivery_token.specs.declared.Verdict.{Verdict}
 use Rattle.delivery_token.specs.declared.Verdict.TheVariants as verdicts
 use Rattle.laws_client.proofs.Turns.{the_turn}
@@ -42,6 +42,10 @@ use Rattle.imap_grammar.specs.declared.view.Named.{Named}
 use Rattle.imap_grammar.specs.Keys.{all_messages}
 use Rattle.imap_session.proofs.Parts.{text_line_has, IsPart, tells_part, ends_part, asks_part, comes_part, challenge_part}
 use Rattle.laws_client.proofs.WholeLines.{turn_has}
+use Rattle.imap_session.specs.declared.standing.Origin.{Origin}
+use Rattle.imap_session.specs.declared.standing.Origin.TheVariants.{Client, Copied}
+use Rattle.imap_grammar.specs.declared.command.CopyMessages.{CopyMessages}
+use Rattle.exactly_once.proofs.Copying.{copies_so}
 
 -- What it has of messages: of one that is announced no more than was, and of one that was submitted no more than it takes, and the line of a return path.
 pub record IsMailShort (most : ℕ) (m : Mailing) : Type 0 where
