@@ -112,9 +112,9 @@ long_line_apart tells spares now k = long_apart tells spares now.mailing.begun n
 
 -- ---- a message that was refused
 
-refused_apart : (tells : List ℕ → Bool) → Spares tells → (why : Refusal) → SaysApart tells (says (response_text (refused_text why)))
-refused_apart tells spares refusals.Full = (refl, spares.no (behind 3 texts.ShardFull))
-refused_apart tells spares why = (refl, spares.no (behind 3 (refused_text why)))
+reason_apart : (tells : List ℕ → Bool) → Spares tells → (why : Refusal) → SaysApart tells (says (response_text (refused_text why)))
+reason_apart tells spares refusals.Full = (refl, spares.no (behind 3 texts.ShardFull))
+reason_apart tells spares why = (refl, spares.no (behind 3 (refused_text why)))
 
 pub no_apart : (tells : List ℕ → Bool) → Spares tells → (tag : List ℕ) → IsWord tag → (why : Refusal) → Apart tells (ex.tagged tag (response_text (refused_text why)))
-no_apart tells spares tag t why = let w = refused_apart tells spares why in tagged_apart tells tag (response_text (refused_text why)) t w.0 w.1
+no_apart tells spares tag t why = let w = reason_apart tells spares why in tagged_apart tells tag (response_text (refused_text why)) t w.0 w.1

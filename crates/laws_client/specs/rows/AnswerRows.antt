@@ -10,6 +10,7 @@ use Rattle.imap_session.specs.Telling.{tells_uid}
 use Rattle.laws_client.specs.Appends.{EndsWith, IsSentAs, IsSpelled, as_it_stands, last_line, with_literal, with_response}
 use Rattle.laws_client.specs.Clients.{Answer, Words}
 use Rattle.laws_client.specs.Cuts.{amid, between, cut_between, cuts, is_ended}
+use Rattle.imap_session.specs.declared.standing.Origin.TheVariants.{Client}
 
 -- ---- the last line
 
@@ -37,7 +38,7 @@ not_of_a_fetch = refl
 -- ---- which message was sent
 
 abbrev a_message : (mailbox : ℕ) → (text : List ℕ) → Sent
-a_message mailbox text = record { tag = codes "a1"; append = record { message = 0; mailbox = mailbox; flags = record { answered = false; flagged = false; deleted = false; seen = true; draft = false }; text = text } }
+a_message mailbox text = record { tag = codes "a1"; append = record { message = 0; mailbox = mailbox; flags = record { answered = false; flagged = false; deleted = false; seen = true; draft = false }; text = text }; origin = Client }
 
 -- a client that may first have said something else, and goes on behind
 sent_so : IsSentAs (record { name = codes "INBOX"; mailbox = 4 } ∷ []) (codes "a0 NOOP\r\na1 APPEND INBOX (\\Seen) {3}\r\nx\r\n\r\na2 LOGOUT\r\n") (a_message 4 (codes "x\r\n"))
