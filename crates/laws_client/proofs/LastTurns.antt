@@ -46,7 +46,7 @@ use Rattle.imap_session.specs.declared.standing.Source.{Source}
 use Rattle.imap_grammar.specs.Verbs.{copy_verb}
 use Rattle.laws_client.proofs.CopyWords.{copied_plain}
 use Rattle.mailbox.specs.declared.clients.MailFault.{MailFault}
-use Rattle.laws_client.proofs.Moves.{EndsSo, Moves, is_done, is_refused, moves_so}
+use Rattle.laws_client.proofs.Moves.{EndsSo, Moves, move_done, move_refused, moves_so}
 use Rattle.laws_client.proofs.Decimals.{decimal_inner}
 use Rattle.laws_client.proofs.TextRows.{row_inner}
 
@@ -173,10 +173,10 @@ moves_says v uid source tag t now answers turn e = by (moves_so v uid source tag
     done = response_text (texts.Completed (copy_verb source.by_uid true))
 
     ends_so : (more : Turn) → turn.bytes ≡ first ++ more.bytes → EndsSo tag done more → EndsWith tag done turn.bytes ⊎ ((fault : MailFault) × (last_line turn.bytes ≡ last_line (refusal_text tag fault)))
-    ends_so more bytes (is_done front whole is fed) =
+    ends_so more bytes (move_done front whole is fed) =
         let all : turn.bytes ≡ (first ++ front) ++ tagged tag done = bytes ∙ ap (λ (b : List ℕ). first ++ b) is ∙ sym (append_assoc first front (tagged tag done)) in
         inl (subst (EndsWith tag done) (sym all) (ends_tagged (first ++ front) tag done (whole_append first front first_whole whole) t (row_inner (texts.Completed (copy_verb source.by_uid true)))))
-    ends_so more bytes (is_refused front whole fault is) =
+    ends_so more bytes (move_refused front whole fault is) =
         let all : turn.bytes ≡ (first ++ front) ++ refusal_text tag fault = bytes ∙ ap (λ (b : List ℕ). first ++ b) is ∙ sym (append_assoc first front (refusal_text tag fault)) in
         inr (fault, ap last_line all ∙ last_behind (first ++ front) tag fault (whole_append first front first_whole whole) t)
 

@@ -19,16 +19,16 @@ use Rattle.laws_client.proofs.RecordEntering.{mapped, only_done, only_refused}
 
 -- these words are the last, and the last call was for all that is pending, and was answered; or the store refused
 pub data EndsSo (tag words : List ℕ) (turn : Turn) : Type 0 where
-  is_done : (front : List ℕ) → IsWhole front → turn.bytes ≡ front ++ tagged tag words → LastFed (false ≡ true) turn.events → EndsSo tag words turn
-  is_refused : (front : List ℕ) → IsWhole front → (fault : MailFault) → turn.bytes ≡ front ++ refusal_text tag fault → EndsSo tag words turn
+  move_done : (front : List ℕ) → IsWhole front → turn.bytes ≡ front ++ tagged tag words → LastFed (false ≡ true) turn.events → EndsSo tag words turn
+  move_refused : (front : List ℕ) → IsWhole front → (fault : MailFault) → turn.bytes ≡ front ++ refusal_text tag fault → EndsSo tag words turn
 
 -- with whole lines before it, and with a call
 behind_lines : (tag words text : List ℕ) (more turn : Turn) → IsWhole text → turn.bytes ≡ text ++ more.bytes → (LastFed (false ≡ true) more.events → LastFed (false ≡ true) turn.events)
     → EndsSo tag words more → EndsSo tag words turn
-behind_lines tag words text more turn whole bytes fed (is_done front w is f) =
-    is_done (text ++ front) (whole_append text front whole w) (bytes ∙ ap (λ (b : List ℕ). text ++ b) is ∙ sym (append_assoc text front (tagged tag words))) (fed f)
-behind_lines tag words text more turn whole bytes fed (is_refused front w fault is) =
-    is_refused (text ++ front) (whole_append text front whole w) fault (bytes ∙ ap (λ (b : List ℕ). text ++ b) is ∙ sym (append_assoc text front (refusal_text tag fault)))
+behind_lines tag words text more turn whole bytes fed (move_done front w is f) =
+    move_done (text ++ front) (whole_append text front whole w) (bytes ∙ ap (λ (b : List ℕ). text ++ b) is ∙ sym (append_assoc text front (tagged tag words))) (fed f)
+behind_lines tag words text more turn whole bytes fed (move_refused front w fault is) =
+    move_refused (text ++ front) (whole_append text front whole w) fault (bytes ∙ ap (λ (b : List ℕ). text ++ b) is ∙ sym (append_assoc text front (refusal_text tag fault)))
 
 behind_call : (event : Happened) (events all : List Happened) → all ≡ event ∷ events → LastFed (false ≡ true) events → LastFed (false ≡ true) all
 behind_call event events all e f = subst (λ (es : List Happened). LastFed (false ≡ true) es) (sym e) (last_weaker (false ≡ true) (FedAll event) events (λ h. absurd (false≢true h)) f)
@@ -37,7 +37,7 @@ behind_call event events all e f = subst (λ (es : List Happened). LastFed (fals
 was_refused : (tag words : List ℕ) (now : Standing) (call : Call) (fault : MailFault) (turn : Turn) → Some (having call (Refused fault) (refused tag now fault)) ≡ Some turn → EndsSo tag words turn
 was_refused tag words now call fault turn e =
     let m = mapped (having call (Refused fault)) (Some (refused tag now fault)) turn e in
-    is_refused [] (inl refl) fault (ap (λ (x : Turn). x.bytes) (sym m.makes) ∙ (only_refused tag now fault m.more m.is).bytes)
+    move_refused [] (inl refl) fault (ap (λ (x : Turn). x.bytes) (sym m.makes) ∙ (only_refused tag now fault m.more m.is).bytes)
 
 feed_ends : (tag words : List ℕ) (how : After) (now : Standing) (answers : List Answer) (turn : Turn) → played tag now (Feed unlimited (Done words how)) answers ≡ Some turn → EndsSo tag words turn
 feed_ends tag words how now [] turn e = absurd (none-some turn e)
@@ -45,7 +45,7 @@ feed_ends tag words how now (Fed view changes ∷ more) turn e =
     let m = mapped (λ (x : Turn). having (Feed unlimited) (Fed view changes) (saying (lines view changes) x)) (played tag now (Done words how) more) turn e in
     let d = only_done tag words how now more m.more m.is in
     let events : turn.events ≡ feed_event unlimited view changes ∷ [] = ap (λ (x : Turn). x.events) (sym m.makes) ∙ ap (λ (es : List Happened). feed_event unlimited view changes ∷ es) d.events in
-    is_done (lines view changes) (lines_whole view changes) (ap (λ (x : Turn). x.bytes) (sym m.makes) ∙ ap (λ (b : List ℕ). lines view changes ++ b) d.bytes)
+    move_done (lines view changes) (lines_whole view changes) (ap (λ (x : Turn). x.bytes) (sym m.makes) ∙ ap (λ (b : List ℕ). lines view changes ++ b) d.bytes)
     (subst (λ (es : List Happened). LastFed (false ≡ true) es) (sym events) (view, changes, refl))
 feed_ends tag words how now (Refused fault ∷ []) turn e = was_refused tag words now (Feed unlimited) fault turn e
 feed_ends tag words how now (_ ∷ more) turn e = absurd (none-some turn e)

@@ -1,5 +1,5 @@
 -- After an OK that came to no command, so to DONE or to the verdict on a message, what the session counts is what is there, where it has selected a mailbox.
-use Rattle.std.proofs.Common.{◌≡◌, ◌⊎◌, inl, inr, ℕ, Bool, true, false, List, [], ◌∷◌, ◌++◌, length, refl, sym, ap, ◌∙◌, subst, Option, Some, None}
+use Rattle.std.proofs.Common.{◌≡◌, ◌⊎◌, inl, inr, ℕ, Bool, true, false, List, [], ◌∷◌, ◌++◌, length, refl, sym, ap, ◌∙◌, subst, Option, Some, None, append_assoc}
 use Rattle.std.specs.Prelude.{codes, IfSome, ◌==◌, if◌then◌else◌}
 use Rattle.std.proofs.lemmas.Bool.{false≢true}
 use Rattle.std.proofs.lemmas.Option.{none-some}
@@ -12,7 +12,7 @@ use Rattle.imap_grammar.specs.Reading.{is_done}
 use Rattle.imap_grammar.specs.declared.command.Command.TheVariants as commands
 use Rattle.imap_session.specs.declared.standing.After.TheVariants.{Go}
 use Rattle.imap_session.specs.declared.standing.Selected.{Selected}
-use Rattle.imap_session.specs.Exchange.{Answer, PendingLiteral, Counted, Refused, Count, Done, Feed, Sent, Standing, Turn, having, is_idling, played, refusal_text, refused, untagged}
+use Rattle.imap_session.specs.Exchange.{Answer, Event as Happened, PendingLiteral, Counted, Refused, Count, Done, Feed, Sent, Standing, Turn, having, is_idling, played, refusal_text, refused, untagged}
 use Rattle.imap_session.specs.Commands.{appended_words, completed, on_idle_line, on_verdict, refused_text, says, showing, turn_of, turn_with, unlimited, without_begun, without_sent, told_stored, moving, copied_words, moved_words}
 use Rattle.imap_session.specs.Store.{Met}
 use Rattle.laws_client.specs.Beliefs.{IsRight}
@@ -49,7 +49,7 @@ use Rattle.imap_session.specs.declared.standing.Origin.TheVariants.{Client, Copi
 use Rattle.imap_session.specs.declared.standing.Source.{Source}
 use Rattle.imap_grammar.specs.Verbs.{copy_verb}
 use Rattle.exactly_once.proofs.Whole.{ends, whole_append}
-use Rattle.laws_client.proofs.Moves.{EndsSo, Moves, is_done, is_refused, moves_so}
+use Rattle.laws_client.proofs.Moves.{EndsSo, Moves, move_done, move_refused, moves_so}
 
 -- ---- words that say OK
 
@@ -115,9 +115,9 @@ moves_current k n uidvalidity uid source tag t now w answers turn v K e met ok =
     first = untagged (moved_words uidvalidity source.uid uid)
 
     ended : (more : Turn) → turn.bytes ≡ first ++ more.bytes → more.events ≡ turn.events → EndsSo tag (response_text (texts.Completed (copy_verb source.by_uid true))) more → IsCurrent v n
-    ended more bytes events (is_done front whole is fed) =
+    ended more bytes events (move_done front whole is fed) =
         last_current k n w turn.events v (false ≡ true) K (λ h. absurd (false≢true h)) (subst (λ (es : List Happened). LastFed (false ≡ true) es) events fed) met
-    ended more bytes events (is_refused front whole fault is) =
+    ended more bytes events (move_refused front whole fault is) =
         absurd (never turn.bytes (subst (Apart starts_ok) (sym (bytes ∙ ap (λ (b : List ℕ). first ++ b) is ∙ sym (append_assoc first front (refusal_text tag fault))))
         (behind_lines starts_ok (first ++ front) (refusal_text tag fault) (whole_append first front (ends (codes "* ") (moved_words uidvalidity source.uid uid)) whole) (refusal_apart starts_ok ok_spares tag t fault))) ok)
 
