@@ -197,7 +197,7 @@ impl Session {
         ensures sends { result ≡ may_send self.new }
     {
         let message = self.mailing.number;
-        if let Some(text) = refused_copy(self.mailing.most, message, row.text.len()) {
+        if let Some(text) = refused_copy(self.mailing.most, message, row.text.as_slice().len()) {
             response.end(text, out);
             return After::Go;
         }
