@@ -56,7 +56,7 @@ use Rattle.imap_grammar.specs.Keys.{all_messages}
 use Rattle.imap_session.proofs.Parts.{IsPart, tells_part, ends_part, asks_part, comes_part, challenge_part}
 use Rattle.laws_client.proofs.WholeLines.{unfinished_asks, turn_has, text_has}
 use Rattle.imap_session.specs.declared.standing.Origin.{Origin}
-use Rattle.imap_session.specs.declared.standing.Origin.TheVariants.{Client, Copied}
+use Rattle.imap_session.specs.declared.standing.Origin.TheVariants as origins
 use Rattle.imap_grammar.specs.declared.command.CopyMessages.{CopyMessages}
 use Rattle.exactly_once.proofs.Copying.{copies_so}
 
@@ -271,8 +271,8 @@ pub in_idle_line : (selected : Option Selected) (line : List ℕ) → StaysIn (o
 in_idle_line selected line = in_if (is_done line) (showing selected (completed commands.Idle)) (says (response_text texts.ExpectedDone)) (in_showing selected (completed commands.Idle) tt) tt
 
 in_stored : (selected : Option Selected) (origin : Origin) (uidvalidity uid : ℕ) → StaysIn (told_stored selected origin uidvalidity uid)
-in_stored selected Client uidvalidity uid = in_showing selected _ tt
-in_stored selected (Copied source) uidvalidity uid =
+in_stored selected origins.Client uidvalidity uid = in_showing selected _ tt
+in_stored selected (origins.Copied source) uidvalidity uid =
     in_if source.moves (moving source uidvalidity uid) (showing selected (says (copied_words uidvalidity source.uid uid))) (λ flags. tt) (in_showing selected _ tt)
 
 in_verdict : (selected : Option Selected) (origin : Origin) (mailbox : ℕ) (verdict : Verdict) → StaysIn (on_verdict selected origin mailbox verdict)
