@@ -30,8 +30,7 @@ use Rattle.laws_client.proofs.IdleTags.{AreTagsOf}
 use Rattle.laws_client.proofs.LinesRead.{flags_inner, flags_part}
 use Rattle.laws_client.proofs.Turns.{the_turn}
 use Rattle.laws_client.proofs.Untold.{inner_both, plain_inner}
-use Rattle.imap_session.specs.Telling.{tells_uid}
-use Rattle.laws_client.specs.Appends.{EndsWith, SaysVerdict, TellsOfNone, SaysCopied, SaysMoved, last_line}
+use Rattle.laws_client.specs.Appends.{EndsWith, SaysVerdict, TellsOfNone, SaysCopied, SaysMoved, last_line, tells_stored}
 use Rattle.laws_client.proofs.RecordEntering.{mapped, only_done, only_refused}
 use Rattle.laws_client.proofs.LastLines.{Apart, IsWord, TurnFine, apart_tells_none, behind_lines, bye_apart, ends_tagged, silence_tells_none, untagged_apart, last_is, refusal_apart}
 use Rattle.laws_client.proofs.LastRests.{long_line_apart}
@@ -113,12 +112,12 @@ idle_fine tells (Some s) true now ((Starved a) ∷ more) = tt
 
 -- ---- what tells no UID
 
-tells_none : (bytes : List ℕ) → IsFine tells_uid bytes → TellsOfNone bytes
-tells_none bytes (inl e) = silence_tells_none tells_uid bytes e
-tells_none bytes (inr p) = apart_tells_none tells_uid bytes p
+tells_none : (bytes : List ℕ) → IsFine tells_stored bytes → TellsOfNone bytes
+tells_none bytes (inl e) = silence_tells_none tells_stored bytes e
+tells_none bytes (inr p) = apart_tells_none tells_stored bytes p
 
-some_tells_none : (o : Option Turn) (turn : Turn) → TurnFine tells_uid o → o ≡ Some turn → TellsOfNone turn.bytes
-some_tells_none o turn p e = tells_none turn.bytes (subst (TurnFine tells_uid) e p)
+some_tells_none : (o : Option Turn) (turn : Turn) → TurnFine tells_stored o → o ≡ Some turn → TellsOfNone turn.bytes
+some_tells_none o turn p e = tells_none turn.bytes (subst (TurnFine tells_stored) e p)
 
 -- ---- the OK
 
@@ -155,7 +154,7 @@ shows_then tag words t inner (Some s) now (_ ∷ more) turn e = absurd (none-som
 -- behind whole lines the last line is the same
 last_behind : (lines tag : List ℕ) (fault : MailFault) → IsWhole lines → IsWord tag → last_line (lines ++ refusal_text tag fault) ≡ last_line (refusal_text tag fault)
 last_behind lines tag fault whole t =
-    let p : Apart tells_uid (refusal_text tag fault) = refusal_apart tells_uid uid_spares tag t fault in
+    let p : Apart tells_stored (refusal_text tag fault) = refusal_apart tells_stored uid_spares tag t fault in
     ap (λ (x : List ℕ). last_line (lines ++ x)) p.is ∙ ap last_line (sym (append_assoc lines p.front (p.last ++ crlf)))
     ∙ last_is (lines ++ p.front) p.last (whole_append lines p.front whole p.whole) p.inner ∙ sym (ap last_line p.is ∙ last_is p.front p.last p.whole p.inner)
 
@@ -230,7 +229,7 @@ heard_tells k n (Some sent) now verdict w answers turn v t e met = verdict_says 
 
 pub turn_tells : (k : Config) (n : ℕ) (now : Standing) (happening : Happening) (w : World) (turn : Turn) (v : World) → AreTagsOf IsWord now → leads_to now happening ≡ Some turn → Met (Calls k n) w turn.events v → TurnTells k.uidvalidity now happening turn.bytes
 turn_tells k n now (Line line answers) w turn v t e met = some_tells_none (turn_of now line answers) turn (line_fine now line answers t) e
-turn_tells k n now LongLine w turn v t e met = subst (λ (x : Turn). TellsOfNone x.bytes) (ap (the_turn turn) e) (apart_tells_none tells_uid _ (long_line_apart tells_uid uid_spares now t))
-turn_tells k n now (Turned answers) w turn v t e met = some_tells_none (idle_turn_in now.selected (is_idling now) now answers) turn (idle_fine tells_uid now.selected (is_idling now) now answers) e
-turn_tells k n now (Literal kept bytes) w turn v t e met = subst (λ (x : Turn). TellsOfNone x.bytes) (ap (the_turn turn) e) (silence_tells_none tells_uid [] refl)
+turn_tells k n now LongLine w turn v t e met = subst (λ (x : Turn). TellsOfNone x.bytes) (ap (the_turn turn) e) (apart_tells_none tells_stored _ (long_line_apart tells_stored uid_spares now t))
+turn_tells k n now (Turned answers) w turn v t e met = some_tells_none (idle_turn_in now.selected (is_idling now) now answers) turn (idle_fine tells_stored now.selected (is_idling now) now answers) e
+turn_tells k n now (Literal kept bytes) w turn v t e met = subst (λ (x : Turn). TellsOfNone x.bytes) (ap (the_turn turn) e) (silence_tells_none tells_stored [] refl)
 turn_tells k n now (Heard verdict answers) w turn v t e met = heard_tells k n now.mailing.sent now verdict w answers turn v t.2 e met

@@ -1,5 +1,5 @@
 -- What the answers to a client tell of the messages that it appended or had copied (RFC 9051, 6.3.12 and 6.4.7; RFC 4315, 3; RFC 6851).
-use Rattle.std.specs.Prelude.{◌≡◌, ◌⊎◌, ◌==◌, ℕ, false, true, codes, drop, length, reverse, take, List, [], ◌∷◌, ◌++◌, AllPairs, Contains, filter_map, Ok, Option, Some, None, if◌then◌else◌, Bool}
+use Rattle.std.specs.Prelude.{◌≡◌, ◌⊎◌, ◌==◌, ℕ, false, true, codes, drop, length, reverse, take, List, [], ◌∷◌, ◌++◌, AllPairs, Contains, filter_map, Ok, Option, Some, None, if◌then◌else◌, Bool, ◌||◌}
 use Rattle.delivery_token.specs.Keys.{Below}
 use Rattle.delivery_token.specs.declared.CopyKey.{CopyKey}
 use Rattle.delivery_token.specs.declared.Job.{Job}
@@ -36,6 +36,7 @@ use Rattle.imap_session.specs.declared.standing.Origin.{Origin}
 use Rattle.imap_session.specs.declared.standing.Origin.TheVariants.{Client, Copied}
 use Rattle.imap_session.specs.declared.standing.Source.{Source}
 use Rattle.imap_session.specs.declared.texts.ResponseText.TheVariants as texts
+use Rattle.std.specs.Str.{bytes_eq}
 
 -- ---- how an answer ends
 
@@ -53,9 +54,17 @@ pub record EndsWith (tag words bytes : List ℕ) : Type 0 where
   pub chosen : is_word_of is_tag tag ≡ true
   pub last : last_line bytes ≡ tag ++ codes " " ++ words
 
+-- the words behind the tag begin as those that tell the UID of a message that was copied, and of its copy
+abbrev pub tells_copy : List ℕ → Bool
+tells_copy words = bytes_eq (take 12 words) (codes "OK [COPYUID ")
+
+-- they tell under which UID a message was stored
+abbrev pub tells_stored : List ℕ → Bool
+tells_stored words = tells_uid words || tells_copy words
+
 -- it doesn't end in a line that tells a UID, whatever the tag
 abbrev pub TellsOfNone : List ℕ → Type 0
-TellsOfNone bytes = (tag words : List ℕ) → EndsWith tag words bytes → tells_uid words ≡ false
+TellsOfNone bytes = (tag words : List ℕ) → EndsWith tag words bytes → tells_stored words ≡ false
 
 -- ---- which message it was
 
@@ -194,6 +203,26 @@ pub record TellsKept (k : Setup) (w : World) (author : Author) (tag said : List 
   pub mailbox : noted.mailbox ≡ message.append.mailbox
   pub copy : Contains (w.box noted.mailbox).accepted (copy_under noted.key message, uid)
 
+-- These words, under this tag, are the OK for one copy of this session: of a message that its client had copied by a COPY under that tag. They tell the house's UIDVALIDITY, that message's UID,
+-- and the UID under which the copy stands, once, as its seat has heard: in the mailbox that was named.
+pub record TellsCopied (k : Setup) (w : World) (author : Author) (tag said : List ℕ) (noted : Noted) : Type 0 where
+  pub message : Sent
+  pub source : Source
+  pub number : noted.key.message ≡ message.append.message
+  pub origin : message.origin ≡ Copied source
+  pub stays : source.moves ≡ false
+  pub came : IsCopyOf author.folders author.sent message source
+  pub under : tag ≡ message.tag
+  pub uid : ℕ
+  pub words : said ≡ copied_words k.config.uidvalidity source.uid uid
+  pub seat : noted.key.seat ≡ session_seat k author.place
+  pub own : noted.key.serial ≡ author.serial
+  pub heard : Contains (w.heard noted.key.seat) noted
+  pub stored : noted.verdict ≡ Stored uid
+  pub once : StandsOnce (pairs (w.box noted.mailbox).accepted) noted.key uid
+  pub mailbox : noted.mailbox ≡ message.append.mailbox
+  pub copy : Contains (w.box noted.mailbox).accepted (copy_under noted.key message, uid)
+
 -- the session with this serial at a place, behind a record
 abbrev pub author_at : Setup → List Entry → (place serial : ℕ) → Author
 author_at k entries place serial = record { place = place; serial = serial; folders = folders_of k.directory (user_by_then place [] entries); sent = sent_by_then place [] entries }
@@ -208,7 +237,10 @@ pub record TellsOfAppends (k : Setup) (w : World) (author : Author) (told : List
   -- So where an answer ends with `OK [APPENDUID ` behind any tag, that is for one copy of this session, which stands so;
   pub kept : (before after : List Told) (one : Told) (tag words : List ℕ) → told ≡ before ++ one ∷ after → EndsWith tag words (bytes_in one) → tells_uid words ≡ true
       → (noted : Noted) × TellsKept k w author tag words noted
-  -- and two such answers are for two copies, of which the first was appended first.
+  -- where it ends with `OK [COPYUID `, that is for one copy of a message that its client had copied, which stands so;
+  pub copied : (before after : List Told) (one : Told) (tag words : List ℕ) → told ≡ before ++ one ∷ after → EndsWith tag words (bytes_in one) → tells_copy words ≡ true
+      → (noted : Noted) × TellsCopied k w author tag words noted
+  -- and two answers of the first kind are for two copies, of which the first was appended first.
   pub apart : (before mid after : List Told) (one two : Told) (tag words other_tag other_words : List ℕ) → told ≡ before ++ one ∷ (mid ++ two ∷ after) → EndsWith tag words (bytes_in one) → tells_uid words ≡ true
       → EndsWith other_tag other_words (bytes_in two) → tells_uid other_words ≡ true
       → (a : Noted) × (b : Noted) × TellsKept k w author tag words a × TellsKept k w author other_tag other_words b × Below a.key b.key
