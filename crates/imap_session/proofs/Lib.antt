@@ -24,3 +24,4 @@ pub mod TextLaws
 pub mod Barring
 pub mod Parts
 pub mod PlainLaws
+pub mod Copies

@@ -22,6 +22,7 @@ use Rattle.imap_session.proofs.Appends.{less_true, not_less}
 use Rattle.imap_session.specs.Response.{Response}
 use Rattle.imap_session.specs.inner.Store.{Does, Plays, Reaches, after_result, is_idle, last, last_words}
 use Rattle.imap_grammar.specs.declared.command.Append.{Append}
+use Rattle.imap_grammar.specs.declared.command.CopyMessages.{CopyMessages}
 use Rattle.imap_session.specs.inner.Appends.{Leads}
 use Rattle.imap_session.specs.inner.Seen.{pending_of}
 use Rattle.imap_session.specs.declared.mailing.PendingLiteral as begun
@@ -174,6 +175,20 @@ answers_append step now next line tag command a s before after how h taken is p 
   played = taken_turn now line tag command p.0 h taken ∙ ap (λ c. played tag now (on_command now c) p.0) is ∙ p.2;
   met = refl;
   wrote = p.3;
+}
+
+-- ---- COPY and MOVE
+
+pub answers_copy : {S : Type 0} (step : S → Call → Answer → S → Type 0) (now next : Standing) (line tag : List ℕ) (command : Command) (copy : CopyMessages) (old new : S) (before after : List ℕ) (how : After)
+    → read line ≡ Ok (tag, command) → IsTaken now command → command ≡ commands.Copy copy → Had (played tag now (on_command now (commands.Copy copy))) step old new before after how next
+    → AnswersText step now line old new before after how next
+answers_copy step now next line tag command copy old new before after how h taken is p = record {
+  answers = p.answers;
+  events = p.events;
+  bytes = p.bytes;
+  played = taken_turn now line tag command p.answers h taken ∙ ap (λ c. played tag now (on_command now c) p.answers) is ∙ p.played;
+  met = p.met;
+  wrote = p.wrote;
 }
 
 -- ---- the rest of a line behind a literal

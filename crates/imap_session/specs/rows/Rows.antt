@@ -14,6 +14,7 @@ use Rattle.imap_session.specs.Exchange.{Answer, Entered, Looked, Found, Counted,
 use Rattle.imap_grammar.specs.declared.command.Command.TheVariants as commands
 use Rattle.imap_session.specs.Exchange.{Count, Exchange, Done, Folder, Leave, Write}
 use Rattle.imap_session.specs.Shows.{RestShowsNone, ShowsInOrder, VerdictShowsInOrder}
+use Rattle.imap_session.specs.declared.standing.Origin.TheVariants.{Client, Copied}
 use Rattle.imap_session.specs.Telling.{TellsNoUid, VerdictTellsUid}
 use Rattle.imap_session.specs.declared.standing.After.TheVariants.{Go}
 use Rattle.imap_session.specs.declared.standing.After.TheVariants as afters
@@ -500,7 +501,7 @@ unfolding read digits
 too_big_without_memory = refl
 
 abbrev sent_one : Standing
-sent_one = record awake { mailing = record (nothing_sent (Some 10)) { number = 1; sent = Some (record { tag = codes "a1"; append = record { message = 0; mailbox = 0; text = codes "x"; flags = (flags false false false false false) } }) } }
+sent_one = record awake { mailing = record (nothing_sent (Some 10)) { number = 1; sent = Some (record { tag = codes "a1"; append = record { message = 0; mailbox = 0; text = codes "x"; flags = (flags false false false false false) }; origin = Client }) } }
 
 -- the OK isn't said before its mailbox is counted, nor without a verdict
 uncounted : turn_of_verdict sent_one (verdicts.Stored 1) [] ≡ None
@@ -518,7 +519,7 @@ told_before : RestShowsNone (Done (codes "OK [APPENDUID 7 1] APPEND completed") 
 told_before p = differ p
 
 -- an OK for a message that was refused
-told_of_refused : VerdictShowsInOrder None (verdicts.Refused Full) (Done (codes "OK [APPENDUID 7 1] APPEND completed") Go) → ⊥
+told_of_refused : VerdictShowsInOrder None Client (verdicts.Refused Full) (Done (codes "OK [APPENDUID 7 1] APPEND completed") Go) → ⊥
 told_of_refused p = differ p
 
 -- ---- who tells a UID
@@ -531,14 +532,14 @@ tells_at_the_end : TellsNoUid (Count 0 (λ status. Write (codes "* 1 EXISTS\r\n"
 tells_at_the_end p = differ (p (record { messages = 1; uidnext = 2; uidvalidity = 7; unseen = 1; deleted = 0; size = 5 }))
 
 -- a message that was refused
-tells_of_refused : VerdictTellsUid None 0 (verdicts.Refused Full) (Done one_of_seven Go) → ⊥
+tells_of_refused : VerdictTellsUid None Client 0 (verdicts.Refused Full) (Done one_of_seven Go) → ⊥
 tells_of_refused p = differ p
 
 -- a UIDVALIDITY that no mailbox was counted for, and one of another mailbox
-tells_uncounted : VerdictTellsUid None 0 (verdicts.Stored 1) (Done one_of_seven Go) → ⊥
+tells_uncounted : VerdictTellsUid None Client 0 (verdicts.Stored 1) (Done one_of_seven Go) → ⊥
 tells_uncounted p = p
 
-tells_of_another : VerdictTellsUid None 0 (verdicts.Stored 1) (Count 1 (λ status. Done (appended_words status.uidvalidity 1) Go)) → ⊥
+tells_of_another : VerdictTellsUid None Client 0 (verdicts.Stored 1) (Count 1 (λ status. Done (appended_words status.uidvalidity 1) Go)) → ⊥
 tells_of_another p = cc
 
 -- ---- the standard profile lacks what the compatible one has
@@ -605,3 +606,78 @@ in_the_old_way : written inside
     ≡ Some (codes "a1 OK SUBSCRIBE completed\r\na2 NO [NONEXISTENT] No such mailbox\r\na3 OK UNSUBSCRIBE completed\r\n* LSUB () \"/\" INBOX\r\n* LSUB () \"/\" Work\r\na4 OK LSUB completed\r\n* STATUS Work (RECENT 0 UNSEEN 1)\r\na5 OK STATUS completed\r\n* FLAGS (\\Answered \\Flagged \\Deleted \\Seen \\Draft)\r\n* 2 EXISTS\r\n* OK [UIDVALIDITY 7] UIDs valid\r\n* OK [UIDNEXT 3] Predicted next UID\r\n* OK [PERMANENTFLAGS (\\Answered \\Flagged \\Deleted \\Seen \\Draft)] Flags kept\r\n* LIST () \"/\" INBOX\r\n* 0 RECENT\r\na6 OK [READ-WRITE] SELECT completed\r\n* 1 EXPUNGE\r\na7 OK CHECK completed\r\n")
 unfolding read digits
 in_the_old_way = refl
+
+-- ---- COPY and MOVE (RFC 9051, 6.4.7 and 6.4.8; RFC 4315, 3; RFC 6851, 4.3)
+
+abbrev at_inbox : Standing
+at_inbox = record inside { selected = Some (record { mailbox = 0; read_only = false }) }
+
+abbrev at_examined : Standing
+at_examined = record inside { selected = Some (record { mailbox = 0; read_only = true }) }
+
+abbrev flagged_message : Answer
+flagged_message = Found (Some (record { uid = 5; flags = (flags false true false false false); newly_seen = false; text = codes "hello" }))
+
+-- the copy's UID stands behind that of the message, and the UIDVALIDITY of the copy's mailbox before both
+copied : written at_inbox (Line (codes "a1 COPY 2 Work") (Looked (3 ∷ 5 ∷ []) ∷ flagged_message ∷ []) ∷ Heard (verdicts.Stored 9) (counted 7 ∷ Fed (3 ∷ 5 ∷ []) (Add 6 ∷ []) ∷ []) ∷ [])
+    ≡ Some (codes "* 3 EXISTS\r\na1 OK [COPYUID 7 5 9] COPY completed\r\n")
+unfolding read digits counted
+copied = refl
+
+-- with its text and its flags
+copy_submitted : submitted (led at_inbox (Line (codes "a1 UID COPY 5 \"Work\"") (Looked (3 ∷ 5 ∷ []) ∷ flagged_message ∷ []) ∷ []))
+    ≡ Some (record { message = 0; mailbox = 1; text = codes "hello"; flags = (flags false true false false false) })
+unfolding read digits
+copy_submitted = refl
+
+-- the message that is moved gets \Deleted behind that, and is removed
+moved_away : written at_inbox
+    (Line (codes "a1 UID MOVE 5 Work") (Looked (3 ∷ 5 ∷ []) ∷ flagged_message ∷ [])
+    ∷ Heard (verdicts.Stored 9) (counted 7 ∷ Altered (Some (flags false true true false false)) ∷ Expunged (3 ∷ 5 ∷ []) (SetFlags 5 (flags false true true false false) ∷ []) 1 ∷ Fed (3 ∷ 5 ∷ []) (Gone 5 ∷ []) ∷ []) ∷ [])
+    ≡ Some (codes "* OK [COPYUID 7 5 9] Moved\r\n* 2 FETCH (UID 5 FLAGS (\\Flagged \\Deleted))\r\n* 2 EXPUNGE\r\na1 OK UID MOVE completed\r\n")
+unfolding read digits counted
+moved_away = refl
+
+-- where the copy is refused the message stays
+move_refused : written at_inbox (Line (codes "a1 MOVE 2 Work") (Looked (3 ∷ 5 ∷ []) ∷ flagged_message ∷ []) ∷ Heard (verdicts.Refused MailboxFull) [] ∷ []) ≡ Some (codes "a1 NO Mailbox full\r\n")
+unfolding read digits
+move_refused = refl
+
+-- what is refused, in its order: the state, a mailbox that isn't changed, the name, the set, several messages, one that is gone, one that is too big
+copies_refused : written inside (Line (codes "a1 COPY 1 Work") [] ∷ Line (codes "a2 MOVE 1 Nope") [] ∷ []) ≡ Some (codes "a1 BAD Wrong state\r\na2 BAD Wrong state\r\n")
+unfolding read digits
+copies_refused = refl
+
+moves_refused : written at_examined (Line (codes "a1 UID MOVE 1 Nope") [] ∷ Line (codes "a2 COPY 1 Nope") [] ∷ []) ≡ Some (codes "a1 NO Mailbox is read-only\r\na2 NO [TRYCREATE] No such mailbox\r\n")
+unfolding read digits
+moves_refused = refl
+
+sets_refused : written at_inbox
+    (Line (codes "a1 COPY 3 Work") (Looked (3 ∷ 5 ∷ []) ∷ []) ∷ Line (codes "a2 UID COPY 1:* Work") (Looked (3 ∷ 5 ∷ []) ∷ []) ∷ Line (codes "a3 UID MOVE 4 Work") (Looked (3 ∷ 5 ∷ []) ∷ [])
+    ∷ Line (codes "a4 COPY 1 Work") (Looked (3 ∷ 5 ∷ []) ∷ Found None ∷ []) ∷ Line (codes "a5 UID COPY 3 Work") (Looked (3 ∷ 5 ∷ []) ∷ Found None ∷ []) ∷ [])
+    ≡ Some (codes "a1 BAD Sequence number too high\r\na2 NO [LIMIT] One message at a time\r\na3 OK UID MOVE completed\r\na4 NO [EXPUNGEISSUED] Some messages are gone\r\na5 OK UID COPY completed\r\n")
+unfolding read digits
+sets_refused = refl
+
+copies_starved : written at_inbox (Line (codes "a1 COPY 2 Work") (Starved 0 ∷ []) ∷ Line (codes "a2 COPY 2 Work") (Looked (3 ∷ 5 ∷ []) ∷ flagged_message ∷ Starved 0 ∷ []) ∷ [])
+    ≡ Some (codes "a1 NO Out of memory\r\na2 NO Out of memory\r\n")
+unfolding read digits
+copies_starved = refl
+
+-- a session that takes no messages
+copies_nowhere : written (record at_inbox { mailing = nothing_sent None }) (Line (codes "a1 COPY 2 Work") (Looked (3 ∷ 5 ∷ []) ∷ flagged_message ∷ []) ∷ []) ≡ Some (codes "a1 NO [CANNOT] Not offered here\r\n")
+unfolding read digits
+copies_nowhere = refl
+
+-- nor are they there in the standard profile
+copies_lacking : written in_inbox (Line (codes "a1 COPY 1 Work") [] ∷ Line (codes "a2 UID MOVE") [] ∷ []) ≡ Some (codes "a1 NO [CANNOT] Not offered here\r\na2 NO [CANNOT] Not offered here\r\n")
+unfolding read digits
+copies_lacking = refl
+
+-- the OK of a COPY isn't said before its mailbox is counted, and a message isn't removed before that
+copy_uncounted : VerdictShowsInOrder None (Copied (record { uid = 5; by_uid = false; moves = false })) (verdicts.Stored 9) (Done (codes "OK [COPYUID 7 5 9] COPY completed") Go) → ⊥
+copy_uncounted p = p
+
+moved_unshown : VerdictShowsInOrder (Some (record { mailbox = 0; read_only = false })) (Copied (record { uid = 5; by_uid = false; moves = true })) (verdicts.Stored 9)
+    (Count 1 (λ status. Done (codes "OK MOVE completed") Go)) → ⊥
+moved_unshown p = differ (p (record { messages = 1; uidnext = 2; uidvalidity = 7; unseen = 1; deleted = 0; size = 5 }) refl)

@@ -1,19 +1,17 @@
-use Rattle.std.proofs.Common.{ℕ}
 use Rattle.delivery_token.specs.declared.Verdict.TheVariants.{Stored}
+use Rattle.mailbox.specs.declared.mailbox.Status.{Status}
 use Rattle.imap_session.specs.Exchange.{Exchange}
-use Rattle.imap_session.specs.Commands.{appended_words, on_verdict, says}
-use Rattle.imap_session.proofs.Ending.{plays_said, plays_stopped}
+use Rattle.imap_session.specs.Commands.{on_verdict, told_stored}
+use Rattle.imap_session.proofs.Ending.{plays_counted, plays_stopped}
+use Rattle.imap_session.proofs.Runs.{stops_count}
 use Rattle.imap_session.proofs.verdict.tell_stored.Goals as goal
-
-abbrev told : ℕ → ℕ → Exchange
-told uid uidvalidity = says (appended_words uidvalidity uid)
 
 pub returns-in-Ok-clause-plays : goal.returns-in-Ok-clause-plays
 returns-in-Ok-clause-plays g c now =
-    plays_said g.S.Store.step (appended_words c.in-Ok.uidvalidity c.args.uid) now (on_verdict c.args.selected c.args.mailbox (Stored c.args.uid)) _ _ c.args.response _ _
-    (c.in-Ok.ensures.done (told c.args.uid) c.args.response.tag now) c.end_appended.ensures
+    let next : Status → Exchange = λ status. told_stored c.args.selected c.args.origin status.uidvalidity c.args.uid in
+    plays_counted g.S.Store.step c.args.response.tag now now c.args.mailbox next c.in-Ok.status _ _ _ _ _ _ c.in-Ok.ensures.event (c.tell_uid.ensures.plays now)
 
 pub returns-in-Err-clause-plays : goal.returns-in-Err-clause-plays
 returns-in-Err-clause-plays g c now =
-    plays_stopped g.S.Store.step now (on_verdict c.args.selected c.args.mailbox (Stored c.args.uid)) c.in-Err.fault _ _ c.args.response _ _ c.conclude.result
-    (c.in-Err.ensures.done (told c.args.uid) c.args.response.tag now) c.conclude.ensures.text c.conclude.ensures.after
+    plays_stopped g.S.Store.step now (on_verdict c.args.selected c.args.origin c.args.mailbox (Stored c.args.uid)) c.in-Err.fault _ _ c.args.response _ _ c.conclude.result
+    (stops_count g.S.Store.step c.args.response.tag now c.args.mailbox _ _ _ _ _ c.in-Err.ensures.event) c.conclude.ensures.text c.conclude.ensures.after

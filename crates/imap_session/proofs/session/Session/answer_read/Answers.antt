@@ -3,10 +3,13 @@ use Rattle.imap_grammar.specs.Reading.{read}
 use Rattle.imap_session.specs.declared.standing.Profile.{Profile}
 use Rattle.imap_session.specs.inner.Appends.{Leads}
 use Rattle.imap_session.specs.Response.{Response}
-use Rattle.imap_session.specs.Commands.{appending, barred_at, logs_in_as, wants_response}
+use Rattle.imap_grammar.specs.declared.command.Command.TheVariants as commands
+use Rattle.imap_session.specs.Commands.{appending, barred_at, logs_in_as, on_command, wants_response}
+use Rattle.imap_session.specs.Exchange.{played}
+use Rattle.imap_session.specs.inner.Lines.{Had}
 use Rattle.imap_session.specs.inner.Store.{first_line}
 use Rattle.imap_session.proofs.Ending.{plays_first_line}
-use Rattle.imap_session.proofs.Lines.{IsTaken, answers_append, answers_barred, answers_challenge, answers_command, answers_idle, answers_login, is_taken}
+use Rattle.imap_session.proofs.Lines.{IsTaken, answers_append, answers_barred, answers_challenge, answers_command, answers_copy, answers_idle, answers_login, is_taken}
 use Rattle.std.specs.Option.{option_copied}
 use Rattle.imap_session.proofs.session.Session.answer_read.Goals as goal
 
@@ -70,3 +73,16 @@ returns-in-Some-append_of-clause-answered g c read_so =
     let P : List ℕ → Type 0 = λ before. Leads response.tag now (appending now.mailing.most now.folders c.in-Some-append_of.append.now) before c.begin_append.new.out.items c.begin_append.result c.begin_append.new.self in
     answers_append g.S.Store.step now c.begin_append.new.self c.args.line.now response.tag c.args.command.now c.in-Some-append_of.append.now c.args.store.now c.args.out.now.items c.begin_append.new.out.items c.begin_append.result
     found taken c.in-Some-append_of.ensures.some (subst P kept c.begin_append.ensures.leads)
+
+pub returns-in-Some-copy_of-clause-answered : goal.returns-in-Some-copy_of-clause-answered
+returns-in-Some-copy_of-clause-answered g c read_so =
+    let now = c.args.self.now in
+    let response : Response = c.new-response-in-Some-copy_of.result in
+    let tag : response.tag ≡ c.args.tag.now = ap (λ (r : Response). r.tag) c.new-response-in-Some-copy_of.ensures in
+    let kept : response.text ≡ c.args.out.now.items = ap (λ (r : Response). r.text) c.new-response-in-Some-copy_of.ensures in
+    let found : read c.args.line.now ≡ Ok (response.tag, c.args.command.now) = read_so ∙ ap (λ t. Ok (t, c.args.command.now)) (sym tag) in
+    let taken : IsTaken now c.args.command.now = is_taken now c.args.command.now _ _ _ _ _ _ _ c.awaited.ensures c.wants_response.ensures c.if-wants_response.false c.awaited-2.ensures c.logs_in_as.ensures c.if-logs_in_as.false c.awaited-3.ensures c.profile.ensures c.barred_at.ensures c.in_default.is in
+    let copy = c.in-Some-copy_of.copy.now in
+    let P : List ℕ → Type 0 = λ before. Had (played response.tag now (on_command now (commands.Copy copy))) g.S.Store.step c.args.store.now c.begin_copy.new.store before c.begin_copy.new.out.items c.begin_copy.result c.begin_copy.new.self in
+    answers_copy g.S.Store.step now c.begin_copy.new.self c.args.line.now response.tag c.args.command.now copy c.args.store.now c.begin_copy.new.store c.args.out.now.items c.begin_copy.new.out.items c.begin_copy.result
+    found taken c.in-Some-copy_of.ensures.some (subst P kept c.begin_copy.ensures.had)

@@ -1,0 +1,29 @@
+use Rattle.std.proofs.Common.{◌≡◌, ◌∙◌, ap, sym, Option, Some, None}
+use Rattle.std.proofs.lemmas.Result.{err_from_is_err_and}
+use Rattle.imap_session.specs.declared.copying.Found.{Found}
+use Rattle.imap_session.specs.declared.standing.Selected.{Selected}
+use Rattle.imap_session.specs.Exchange.{Exchange, Standing}
+use Rattle.imap_session.specs.Commands.{copy_messages, copy_to, nowhere, on_found, says, wanting, wrong_state}
+use Rattle.imap_session.specs.Texts.{response_text}
+use Rattle.imap_session.specs.declared.texts.ResponseText.TheVariants as texts
+use Rattle.imap_session.specs.inner.Copies.{found_next}
+use Rattle.imap_session.proofs.Copies.{copy_found, copy_missing, copy_refused, copy_starved}
+use Rattle.imap_session.proofs.session.Session.find_copy.Goals as goal
+
+pub returns-in-Some : goal.returns-in-Some
+returns-in-Some g c response =
+    copy_refused g.S.Store.step c.args.self.now c.args.copy.now c.selected.result c.in-Some.text c.args.store.now response c.selected.ensures (c.in-Some.ensures.refused c.args.self.now)
+
+pub returns-in_err-number_of : goal.returns-in_err-number_of
+returns-in_err-number_of g c response =
+    let p = err_from_is_err_and c.from_residual.result c.from_residual.ensures.1 in
+    rw (p.1, p.2) (copy_starved g.S.Store.step c.args.self.now c.args.copy.now c.selected.result c.args.store.now response c.selected.ensures (c.in_default.ensures.taken c.args.self.now))
+
+pub returns-in_default : goal.returns-in_default
+returns-in_default g c response =
+    copy_missing g.S.Store.step c.args.self.now c.args.copy.now c.selected.result c.args.store.now response c.selected.ensures (c.in_default.ensures.taken c.args.self.now) (sym c.in_ok-number_of.ensures)
+
+pub returns : goal.returns
+returns g c response =
+    copy_found g.S.Store.step c.args.self.now c.args.copy.now c.selected.result c.in-Some.mailbox _ _ response c.find_message.result c.selected.ensures (c.in_default.ensures.taken c.args.self.now) (sym c.in_ok-number_of.ensures)
+    (c.find_message.ensures response c.args.self.now.mailing)
