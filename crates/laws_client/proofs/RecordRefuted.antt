@@ -32,7 +32,7 @@ use Rattle.laws_client.specs.Views.{IsOfOthers, NamesTheSame}
 use Rattle.imap_session.specs.declared.standing.Profile.{Profile}
 use Rattle.imap_session.specs.declared.standing.Profile.TheVariants.{Standard, Compatible}
 use Rattle.imap_session.specs.declared.standing.Origin.{Origin}
-use Rattle.imap_session.specs.declared.standing.Origin.TheVariants.{Client}
+use Rattle.imap_session.specs.declared.standing.Origin.TheVariants as origins
 
 abbrev the_list : Messages → List Known
 the_list None = []
@@ -81,7 +81,7 @@ two_copies uid before now a b differ one two same = differ (same.alone a one ∙
 -- ---- the OK of an APPEND
 
 -- it tells the UID of another copy
-another_copys : (v uid other : ℕ) (tag bytes : List ℕ) → v < 2 ^ 64 → uid < 2 ^ 64 → other < 2 ^ 64 → uid ≢ other → IsWord tag → SaysVerdict v Client tag (Stored uid) bytes → EndsWith tag (appended_words v other) bytes → ⊥
+another_copys : (v uid other : ℕ) (tag bytes : List ℕ) → v < 2 ^ 64 → uid < 2 ^ 64 → other < 2 ^ 64 → uid ≢ other → IsWord tag → SaysVerdict v origins.Client tag (Stored uid) bytes → EndsWith tag (appended_words v other) bytes → ⊥
 another_copys v uid other tag bytes h k l differ word (inl s) said =
     differ (words_tell_which v uid v other h k h l (words_of_tags tag tag (appended_words v uid) (appended_words v other) word word (sym s.last ∙ said.last))).1
 another_copys v uid other tag bytes h k l differ word (inr (fault, s)) said =

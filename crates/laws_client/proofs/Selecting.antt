@@ -261,7 +261,7 @@ in_rest mailing a empty =
     submits : (text : List ℕ) (mailbox : ℕ) → StaysIn (on_text mailing a text mailbox)
     submits text mailbox = by (is_over mailing.most a.size) (list_any (λ b. b == 0) text) (nat_le last_number mailing.number)
       where
-        by : (x y z : Bool) → StaysIn (if x then over mailing.most else if y then says (response_text texts.NulByte) else if z then says (response_text texts.MailboxSpent) else wanting (Wait [] (ForVerdict Client mailbox (flags_for a.purpose) text)))
+        by : (x y z : Bool) → StaysIn (if x then over mailing.most else if y then says (response_text texts.NulByte) else if z then says (response_text texts.MailboxSpent) else wanting (Wait [] (ForVerdict origins.Client mailbox (flags_for a.purpose) text)))
         by true y z = in_over mailing.most
         by false true z = tt
         by false false true = tt

@@ -45,7 +45,7 @@ use Rattle.imap_grammar.specs.declared.command.Verb.TheVariants as verbs
 use Rattle.laws_client.specs.Commands.{whole_line}
 use Rattle.laws_client.proofs.WholeLines.{turn_has}
 use Rattle.imap_session.specs.declared.standing.Origin.{Origin}
-use Rattle.imap_session.specs.declared.standing.Origin.TheVariants.{Client, Copied}
+use Rattle.imap_session.specs.declared.standing.Origin.TheVariants as origins
 use Rattle.imap_session.specs.declared.standing.Source.{Source}
 use Rattle.imap_grammar.specs.Verbs.{copy_verb}
 use Rattle.exactly_once.proofs.Whole.{ends, whole_append}
@@ -131,8 +131,8 @@ copies_current k n uidvalidity uid source false tag t selected now w answers tur
 
 told_current : (k : Config) (n uidvalidity uid : ℕ) (origin : Origin) (tag : List ℕ) → IsWord tag → (selected : Selected) (now : Standing) (w : World) (answers : List Answer) (turn : Turn) (v : World) → Kept k w
     → played tag now (told_stored (Some selected) origin uidvalidity uid) answers ≡ Some turn → Met (Calls k n) w turn.events v → SaysOk turn.bytes → IsCurrent v n
-told_current k n uidvalidity uid Client tag t selected now w answers turn v K e met ok = fed_ok k n tag (appended_words uidvalidity uid) now w answers turn v K t e met ok
-told_current k n uidvalidity uid (Copied source) tag t selected now w answers turn v K e met ok = copies_current k n uidvalidity uid source source.moves tag t selected now w answers turn v K e met ok
+told_current k n uidvalidity uid origins.Client tag t selected now w answers turn v K e met ok = fed_ok k n tag (appended_words uidvalidity uid) now w answers turn v K t e met ok
+told_current k n uidvalidity uid (origins.Copied source) tag t selected now w answers turn v K e met ok = copies_current k n uidvalidity uid source source.moves tag t selected now w answers turn v K e met ok
 
 stored_current : (k : Config) (n : ℕ) (origin : Origin) (mailbox uid : ℕ) (tag : List ℕ) → IsWord tag → (selected : Selected) (now : Standing) (w : World) (answers : List Answer) (turn : Turn) (v : World) → Kept k w
     → played tag now (on_verdict (Some selected) origin mailbox (verdicts.Stored uid)) answers ≡ Some turn → Met (Calls k n) w turn.events v → SaysOk turn.bytes → IsCurrent v n
