@@ -178,6 +178,33 @@ def idling(client, house):
     expect("the end of IDLE", client.readline(), b"i1 OK IDLE completed\r\n")
 
 
+def copying(house):
+    """One message is copied and moved by one command, with its flags; several are refused, and nothing is copied (RFC 9051, 6.4.7 and 6.4.8)."""
+    client = connect(house.imap_ports[1])
+    client.login("bob", "")
+    expect("his mail", client.select(), ("OK", [b"1"]))
+    expect("a flag", client.store("1", "+FLAGS", r"(\Flagged)")[0], "OK")
+    expect("COPY", client.copy("1", "inbox"), ("OK", [b"[COPYUID 7 1 2] COPY completed"]))
+    expect("what it showed", client.response("EXISTS"), ("EXISTS", [b"2"]))
+    client.literal = b"INBOX"
+    expect("UID COPY by a literal", client.uid("COPY", "2")[0], "OK")
+    texts = [part[1] for part in client.fetch("1:3", "(BODY.PEEK[])")[1] if isinstance(part, tuple)]
+    expect("the copies' texts", texts, [texts[0]] * 3)
+    expect("the copies' flags", client.fetch("1:3", "(FLAGS)")[1], [b"%d (FLAGS (\\Flagged))" % number for number in (1, 2, 3)])
+    one_at_a_time = ("NO", [b"[LIMIT] One message at a time"])
+    expect("COPY of two", client.copy("1:2", "INBOX"), one_at_a_time)
+    expect("MOVE of all", client.uid("MOVE", "1:*", "INBOX"), one_at_a_time)
+    expect("COPY elsewhere", client.copy("1", "Play"), ("NO", [b"[TRYCREATE] No such mailbox"]))
+    expect("what is there", client.status("INBOX", "(MESSAGES UIDNEXT)"), ("OK", [b"INBOX (MESSAGES 3 UIDNEXT 4)"]))
+    expect("UID MOVE", client.uid("MOVE", "1", "INBOX")[0], "OK")
+    expect("what is there then", client.uid("SEARCH", "ALL"), ("OK", [b"2 3 4"]))
+    for uid in (2, 3):
+        expect("a flag", client.uid("STORE", str(uid), "+FLAGS.SILENT", r"(\Deleted)")[0], "OK")
+    expect("EXPUNGE", client.expunge()[0], "OK")
+    expect("what is left", client.uid("SEARCH", "ALL"), ("OK", [b"4"]))
+    client.logout()
+
+
 def taking_out(house):
     """The script that takes mail out of a server logs in too, and leaves nothing there. It is tried where mbsync and curl are installed."""
     if not (shutil.which("mbsync") and shutil.which("curl")):
@@ -211,6 +238,7 @@ def main():
     expect("another user", other.login("bob", ""), ("OK", [b"LOGIN completed"]))
     expect("his mail", other.select(readonly=True), ("OK", [b"1"]))
     other.logout()
+    copying(house)
     many(house)
     taking_out(house)
     expect("the status at the end", house.stop(), 0)
