@@ -46,7 +46,8 @@ pub copies_so : (P : Exchange → Type 0) → Passes P → (now : Standing) (cop
 copies_so P passes now copy waits = selected now.selected
   where
     -- of this view, in this mailbox
-    fitting : (view : List ℕ) (uid mailbox : ℕ) (row : Row) → named_in copy.by_uid copy.set view ≡ Some (uid ∷ []) → number_named copy.name now.folders ≡ Some mailbox
+    fitting : (view : List ℕ) (uid mailbox : ℕ) (row : Row) → named_in copy.by_uid copy.set view ≡ Some (uid ∷ [])
+        → number_named copy.name now.folders ≡ Some mailbox
         → (big : Bool) → is_over (most_copied now.mailing.most) (length row.text) ≡ big
         → P (if big then over (most_copied now.mailing.most)
         else if nat_le last_number now.mailing.number then says (response_text texts.MailboxSpent)
@@ -58,20 +59,26 @@ copies_so P passes now copy waits = selected now.selected
 
     gone : P (copy_gone copy)
     gone =
-        in_either P copy.by_uid (completed (commands.Copy copy)) (says (response_text texts.MessagesGone)) (passes.told (texts.Completed (verb_of (commands.Copy copy))))
+        in_either P copy.by_uid (completed (commands.Copy copy)) (says (response_text texts.MessagesGone))
+        (passes.told (texts.Completed (verb_of (commands.Copy copy))))
         (passes.told texts.MessagesGone)
 
-    read : (view : List ℕ) (uid mailbox : ℕ) → named_in copy.by_uid copy.set view ≡ Some (uid ∷ []) → number_named copy.name now.folders ≡ Some mailbox → (row : Option Row)
+    read : (view : List ℕ) (uid mailbox : ℕ) → named_in copy.by_uid copy.set view ≡ Some (uid ∷ [])
+        → number_named copy.name now.folders ≡ Some mailbox → (row : Option Row)
         → P (on_found (copying now.mailing (record { uid = uid; by_uid = copy.by_uid; moves = copy.moves }) mailbox) (copy_gone copy) row)
     read view uid mailbox one named None = gone
-    read view uid mailbox one named (Some row) = fitting view uid mailbox row one named (is_over (most_copied now.mailing.most) (length row.text)) refl
+    read view uid mailbox one named (Some row) =
+        fitting view uid mailbox row one named (is_over (most_copied now.mailing.most) (length row.text)) refl
 
-    chosen : (view : List ℕ) (mailbox : ℕ) → number_named copy.name now.folders ≡ Some mailbox → (uids : Option (List ℕ)) → named_in copy.by_uid copy.set view ≡ uids
+    chosen : (view : List ℕ) (mailbox : ℕ) → number_named copy.name now.folders ≡ Some mailbox → (uids : Option (List ℕ))
+        → named_in copy.by_uid copy.set view ≡ uids
         → P (on_chosen uids (copy_of now.mailing copy mailbox))
     chosen view mailbox named None is = passes.told texts.SequenceTooHigh
     chosen view mailbox named (Some []) is = passes.told (texts.Completed (verb_of (commands.Copy copy)))
     chosen view mailbox named (Some (uid ∷ [])) is =
-        passes.found uid false (on_found (copying now.mailing (record { uid = uid; by_uid = copy.by_uid; moves = copy.moves }) mailbox) (copy_gone copy)) (read view uid mailbox is named)
+        passes.found uid false
+        (on_found (copying now.mailing (record { uid = uid; by_uid = copy.by_uid; moves = copy.moves }) mailbox) (copy_gone copy))
+        (read view uid mailbox is named)
     chosen view mailbox named (Some (uid ∷ other ∷ uids)) is = passes.told texts.OneAtATime
 
     to : (found : Option ℕ) → number_named copy.name now.folders ≡ found → P (on_found (copy_to now.mailing copy) nowhere found)

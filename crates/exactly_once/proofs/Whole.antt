@@ -400,7 +400,8 @@ in_rest mailing a empty =
 
 in_copy : (now : Standing) (copy : CopyMessages) → SaysWhole (on_command now (commands.Copy copy))
 in_copy now copy =
-    copies_so SaysWhole (record { told = λ text. tt; wanted = λ x p. (inl refl, p); looked = λ by_uid set next p. p; found = λ uid mark next p. p }) now copy
+    copies_so SaysWhole
+    (record { told = λ text. tt; wanted = λ x p. (inl refl, p); looked = λ by_uid set next p. p; found = λ uid mark next p. p }) now copy
     (λ source mailbox row copied. (inl refl, inl refl))
 
 in_notice : (said : Option (List ℕ)) (x : Exchange) → SaysWhole x → SaysWhole (noticing said x)
@@ -515,7 +516,8 @@ in_stored selected Client uidvalidity uid = in_showing selected _ tt
 in_stored selected (Copied source) uidvalidity uid =
     in_either source.moves _ _ (ends (codes "* ") (commands_of.moved_words uidvalidity source.uid uid), λ flags. tt) (in_showing selected _ tt)
 
-in_verdict : (selected : Option Selected) (origin : Origin) (mailbox : ℕ) (verdict : Verdict) → SaysWhole (commands_of.on_verdict selected origin mailbox verdict)
+in_verdict : (selected : Option Selected) (origin : Origin) (mailbox : ℕ) (verdict : Verdict)
+    → SaysWhole (commands_of.on_verdict selected origin mailbox verdict)
 in_verdict selected origin mailbox (verdicts.Stored uid) = λ status. in_stored selected origin status.uidvalidity uid
 in_verdict selected origin mailbox (verdicts.Refused why) = tt
 

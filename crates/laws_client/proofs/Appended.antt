@@ -101,12 +101,15 @@ untold : (bytes tag words : List ℕ) → TellsOfNone bytes → EndsWith tag wor
 untold bytes tag words none ends tells = false≢true (sym (none tag words ends) ∙ tells)
 
 -- what is said where a message was refused, or the store refuses, tells none
-refusal_untold : (tag : List ℕ) → IsWord tag → (bytes : List ℕ) (why : Refusal) → bytes ≡ tagged tag (response_text (refused_text why)) → TellsOfNone bytes
+refusal_untold : (tag : List ℕ) → IsWord tag → (bytes : List ℕ) (why : Refusal) → bytes ≡ tagged tag (response_text (refused_text why))
+    → TellsOfNone bytes
 refusal_untold tag t bytes why s = subst TellsOfNone (sym s) (apart_tells_none tells_stored _ (no_apart tells_stored uid_spares tag t why))
 
-fault_untold : (tag : List ℕ) → IsWord tag → (bytes : List ℕ) (fault : MailFault) → last_line bytes ≡ last_line (refusal_text tag fault) → TellsOfNone bytes
+fault_untold : (tag : List ℕ) → IsWord tag → (bytes : List ℕ) (fault : MailFault) → last_line bytes ≡ last_line (refusal_text tag fault)
+    → TellsOfNone bytes
 fault_untold tag t bytes fault s other words ends =
-    apart_tells_none tells_stored (refusal_text tag fault) (refusal_apart tells_stored uid_spares tag t fault) other words (record { chosen = ends.chosen; last = sym s ∙ ends.last })
+    apart_tells_none tells_stored (refusal_text tag fault) (refusal_apart tells_stored uid_spares tag t fault) other words
+    (record { chosen = ends.chosen; last = sym s ∙ ends.last })
 
 -- two last lines of one answer have the same words
 same_end : (bytes tag words other said : List ℕ) → EndsWith tag words bytes → EndsWith other said bytes → words ≡ said
@@ -119,12 +122,14 @@ moved_untold v uid source tag bytes t s other words ends = by s.ends
     done : ResponseText
     done = texts.Completed (copy_verb source.by_uid true)
 
-    by : EndsWith tag (response_text done) bytes ⊎ ((fault : MailFault) × (last_line bytes ≡ last_line (refusal_text tag fault))) → tells_stored words ≡ false
+    by : EndsWith tag (response_text done) bytes ⊎ ((fault : MailFault) × (last_line bytes ≡ last_line (refusal_text tag fault)))
+        → tells_stored words ≡ false
     by (inl own) = ap tells_stored (same_end bytes other words tag (response_text done) ends own) ∙ row_tells_neither done
     by (inr (fault, e)) = fault_untold tag t bytes fault e other words ends
 
 -- what was said to a verdict tells a UID where that is stored
-said_kept : (k : Setup) (w : World) (author : Author) (bytes tag words : List ℕ) (noted : Noted) → AnswersNoted k w author bytes noted → EndsWith tag words bytes → tells_uid words ≡ true → TellsKept k w author tag words noted
+said_kept : (k : Setup) (w : World) (author : Author) (bytes tag words : List ℕ) (noted : Noted) → AnswersNoted k w author bytes noted
+    → EndsWith tag words bytes → tells_uid words ≡ true → TellsKept k w author tag words noted
 said_kept k w author bytes tag words noted h ends tells = by h.message.origin refl h.came noted.verdict refl h.says
   where
     none : TellsOfNone bytes → ⊥
@@ -133,10 +138,12 @@ said_kept k w author bytes tag words noted h ends tells = by h.message.origin re
     copied : (source : Source) (moves : Bool) (uid : ℕ) → SaysCopied moves k.config.uidvalidity uid source h.message.tag bytes → ⊥
     copied source true uid s = none (moved_untold k.config.uidvalidity uid source h.message.tag bytes h.chosen s)
     copied source false uid s =
-        let same : words ≡ copied_words k.config.uidvalidity source.uid uid = same_end bytes tag words h.message.tag (copied_words k.config.uidvalidity source.uid uid) ends s in
+        let same : words ≡ copied_words k.config.uidvalidity source.uid uid =
+        same_end bytes tag words h.message.tag (copied_words k.config.uidvalidity source.uid uid) ends s in
         false≢true (sym (ap tells_uid same) ∙ tells)
 
-    by : (origin : Origin) → h.message.origin ≡ origin → CameBy origin author.folders author.sent h.message → (verdict : Verdict) → noted.verdict ≡ verdict
+    by : (origin : Origin) → h.message.origin ≡ origin → CameBy origin author.folders author.sent h.message → (verdict : Verdict)
+        → noted.verdict ≡ verdict
         → SaysVerdict k.config.uidvalidity origin h.message.tag verdict bytes → TellsKept k w author tag words noted
     by origin is came (verdicts.Refused why) e s = absurd (none (refusal_untold h.message.tag h.chosen bytes why s))
     by (Copied source) is came (verdicts.Stored uid) e (inl s) = absurd (copied source source.moves uid s)
@@ -159,14 +166,17 @@ said_kept k w author bytes tag words noted h ends tells = by h.message.origin re
     by origin is came (verdicts.Stored uid) e (inr (fault, s)) = absurd (none (fault_untold h.message.tag h.chosen bytes fault (ap last_line s)))
 
 -- or a COPYUID, of a message that was copied
-said_copied : (k : Setup) (w : World) (author : Author) (bytes tag words : List ℕ) (noted : Noted) → AnswersNoted k w author bytes noted → EndsWith tag words bytes → tells_copy words ≡ true → TellsCopied k w author tag words noted
+said_copied : (k : Setup) (w : World) (author : Author) (bytes tag words : List ℕ) (noted : Noted) → AnswersNoted k w author bytes noted
+    → EndsWith tag words bytes → tells_copy words ≡ true → TellsCopied k w author tag words noted
 said_copied k w author bytes tag words noted h ends tells = by h.message.origin refl h.came noted.verdict refl h.says
   where
     none : TellsOfNone bytes → ⊥
     none n = untold bytes tag words n ends (copy_stored words tells)
 
-    copied : (source : Source) → h.message.origin ≡ Copied source → IsCopyOf author.folders author.sent h.message source → (uid : ℕ) → noted.verdict ≡ verdicts.Stored uid
-        → (moves : Bool) → source.moves ≡ moves → SaysCopied moves k.config.uidvalidity uid source h.message.tag bytes → TellsCopied k w author tag words noted
+    copied : (source : Source) → h.message.origin ≡ Copied source → IsCopyOf author.folders author.sent h.message source → (uid : ℕ)
+        → noted.verdict ≡ verdicts.Stored uid
+        → (moves : Bool) → source.moves ≡ moves → SaysCopied moves k.config.uidvalidity uid source h.message.tag bytes
+        → TellsCopied k w author tag words noted
     copied source is came uid e true moves s = absurd (none (moved_untold k.config.uidvalidity uid source h.message.tag bytes h.chosen s))
     copied source is came uid e false moves s = record {
       message = h.message;
@@ -187,24 +197,28 @@ said_copied k w author bytes tag words noted h ends tells = by h.message.origin 
       copy = (h.stored uid e).1;
     }
 
-    by : (origin : Origin) → h.message.origin ≡ origin → CameBy origin author.folders author.sent h.message → (verdict : Verdict) → noted.verdict ≡ verdict
+    by : (origin : Origin) → h.message.origin ≡ origin → CameBy origin author.folders author.sent h.message → (verdict : Verdict)
+        → noted.verdict ≡ verdict
         → SaysVerdict k.config.uidvalidity origin h.message.tag verdict bytes → TellsCopied k w author tag words noted
     by origin is came (verdicts.Refused why) e s = absurd (none (refusal_untold h.message.tag h.chosen bytes why s))
     by (Copied source) is came (verdicts.Stored uid) e (inl s) = copied source is came uid e source.moves refl s
     by Client is came (verdicts.Stored uid) e (inl s) =
-        let same : words ≡ appended_words k.config.uidvalidity uid = same_end bytes tag words h.message.tag (appended_words k.config.uidvalidity uid) ends s in
+        let same : words ≡ appended_words k.config.uidvalidity uid =
+        same_end bytes tag words h.message.tag (appended_words k.config.uidvalidity uid) ends s in
         absurd (false≢true (sym (ap tells_copy same) ∙ tells))
     by origin is came (verdicts.Stored uid) e (inr (fault, s)) = absurd (none (fault_untold h.message.tag h.chosen bytes fault (ap last_line s)))
 
 -- the answer at a place among all
-answered_at : (k : Setup) (w : World) (author : Author) (before after : List Told) (one : Told) (verdicts : List (Option Noted)) → AreAnswered k w author (before ++ one ∷ after) verdicts
+answered_at : (k : Setup) (w : World) (author : Author) (before after : List Told) (one : Told) (verdicts : List (Option Noted))
+    → AreAnswered k w author (before ++ one ∷ after) verdicts
     → (verdict : Option Noted) × IsAnswered k w author (bytes_in one) verdict
 answered_at k w author [] after one [] h = absurd h
 answered_at k w author [] after one (v ∷ vs) h = (v, h.0)
 answered_at k w author (t ∷ ts) after one [] h = absurd h
 answered_at k w author (t ∷ ts) after one (v ∷ vs) h = answered_at k w author ts after one vs h.1
 
-copied_in : (k : Setup) (w : World) (author : Author) (bytes tag words : List ℕ) (verdict : Option Noted) → IsAnswered k w author bytes verdict → EndsWith tag words bytes → tells_copy words ≡ true
+copied_in : (k : Setup) (w : World) (author : Author) (bytes tag words : List ℕ) (verdict : Option Noted) → IsAnswered k w author bytes verdict
+    → EndsWith tag words bytes → tells_copy words ≡ true
     → (noted : Noted) × TellsCopied k w author tag words noted
 copied_in k w author bytes tag words None h ends tells = absurd (untold bytes tag words h ends (copy_stored words tells))
 copied_in k w author bytes tag words (Some noted) h ends tells = (noted, said_copied k w author bytes tag words noted h ends tells)

@@ -301,14 +301,17 @@ copied_says tag view selected source false uidvalidity uid t =
     shows_then tag view selected (says (copied_words uidvalidity source.uid uid))
     (λ new. leaves new _ (tagged_tells_nothing tag (copied_words uidvalidity source.uid uid) t (copied_plain uidvalidity source.uid uid)))
 
-told_says : (tag view : List ℕ) (selected : Option Selected) (origin : Origin) (uidvalidity uid : ℕ) → IsTag tag → uidvalidity < 2 ^ 64 → uid < 2 ^ 64 → Says tag view (told_stored selected origin uidvalidity uid)
+told_says : (tag view : List ℕ) (selected : Option Selected) (origin : Origin) (uidvalidity uid : ℕ) → IsTag tag → uidvalidity < 2 ^ 64 → uid < 2 ^ 64
+    → Says tag view (told_stored selected origin uidvalidity uid)
 told_says tag view selected Client uidvalidity uid t v u =
     shows_then tag view selected (says (appended_words uidvalidity uid))
     (λ new. leaves new _ (tagged_tells_nothing tag (appended_words uidvalidity uid) t (stored_plain uidvalidity uid v u)))
 told_says tag view selected (Copied source) uidvalidity uid t v u = copied_says tag view selected source source.moves uidvalidity uid t
 
-verdict_says : (tag view : List ℕ) (selected : Option Selected) (origin : Origin) (mailbox : ℕ) (verdict : Verdict) → IsTag tag → IsPrinted verdict → Says tag view (on_verdict selected origin mailbox verdict)
-verdict_says tag view selected origin mailbox (verdicts.Stored uid) t u = λ status counted. told_says tag view selected origin status.uidvalidity uid t counted.uidvalidity u
+verdict_says : (tag view : List ℕ) (selected : Option Selected) (origin : Origin) (mailbox : ℕ) (verdict : Verdict) → IsTag tag → IsPrinted verdict
+    → Says tag view (on_verdict selected origin mailbox verdict)
+verdict_says tag view selected origin mailbox (verdicts.Stored uid) t u =
+    λ status counted. told_says tag view selected origin status.uidvalidity uid t counted.uidvalidity u
 verdict_says tag view selected origin mailbox (verdicts.Refused why) t u = last tag view (refused_text why) t
 
 -- COPY and MOVE tell nothing before the verdict

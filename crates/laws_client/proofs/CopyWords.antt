@@ -19,7 +19,8 @@ numbers_inner v u c =
     inner_both (codes "OK [COPYUID " ++ decimal v ++ codes " " ++ decimal u ++ codes " ") (decimal c)
     (inner_both (codes "OK [COPYUID " ++ decimal v ++ codes " " ++ decimal u) (codes " ")
     (inner_both (codes "OK [COPYUID " ++ decimal v ++ codes " ") (decimal u)
-    (inner_both (codes "OK [COPYUID " ++ decimal v) (codes " ") (inner_both (codes "OK [COPYUID ") (decimal v) refl (decimal_inner v)) refl) (decimal_inner u)) refl) (decimal_inner c)
+    (inner_both (codes "OK [COPYUID " ++ decimal v) (codes " ") (inner_both (codes "OK [COPYUID ") (decimal v) refl (decimal_inner v)) refl)
+    (decimal_inner u)) refl) (decimal_inner c)
 
 -- words behind them, but for the last byte
 ends_in : (a x y front last : List ℕ) → x ++ y ≡ front ++ last → (a ++ x) ++ y ≡ (a ++ front) ++ last

@@ -564,13 +564,16 @@ copied_cut selected source true uidvalidity uid =
       λ flags. says_cut true (texts.Completed (copy_verb source.by_uid true)),
     )
 copied_cut selected source false uidvalidity uid =
-    in_showing true selected (says (copied_words uidvalidity source.uid uid)) (plain_cut (copied_words uidvalidity source.uid uid) (copied_plain uidvalidity source.uid uid))
+    in_showing true selected (says (copied_words uidvalidity source.uid uid))
+    (plain_cut (copied_words uidvalidity source.uid uid) (copied_plain uidvalidity source.uid uid))
 
 stored_cut : (selected : Option Selected) (origin : Origin) (uidvalidity uid : ℕ) → SaysCut true (told_stored selected origin uidvalidity uid)
-stored_cut selected Client uidvalidity uid = in_showing true selected (says (appended_words uidvalidity uid)) (appended_inner uidvalidity uid, appended_end uidvalidity uid)
+stored_cut selected Client uidvalidity uid =
+    in_showing true selected (says (appended_words uidvalidity uid)) (appended_inner uidvalidity uid, appended_end uidvalidity uid)
 stored_cut selected (Copied source) uidvalidity uid = copied_cut selected source source.moves uidvalidity uid
 
-verdict_cut : (selected : Option Selected) (origin : Origin) (mailbox : ℕ) (verdict : Verdict) → SaysCut true (on_verdict selected origin mailbox verdict)
+verdict_cut : (selected : Option Selected) (origin : Origin) (mailbox : ℕ) (verdict : Verdict)
+    → SaysCut true (on_verdict selected origin mailbox verdict)
 verdict_cut selected origin mailbox (verdicts.Stored uid) = λ status. stored_cut selected origin status.uidvalidity uid
 verdict_cut selected origin mailbox (verdicts.Refused why) = says_cut true (refused_text why)
 

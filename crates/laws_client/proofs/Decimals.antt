@@ -19,7 +19,8 @@ digits_inner (suc k) n acc h =
     let more : list_all is_inner (digit_glyph false (n % 10) ∷ acc) ≡ true = rw (glyph_inner (n % 10), h) refl in
     by (n / 10 == 0) more (digits_inner k (n / 10) (digit_glyph false (n % 10) ∷ acc) more)
   where
-    by : (b : Bool) → list_all is_inner (digit_glyph false (n % 10) ∷ acc) ≡ true → list_all is_inner (digits_onto k 10 false (n / 10) (digit_glyph false (n % 10) ∷ acc)) ≡ true
+    by : (b : Bool) → list_all is_inner (digit_glyph false (n % 10) ∷ acc) ≡ true
+        → list_all is_inner (digits_onto k 10 false (n / 10) (digit_glyph false (n % 10) ∷ acc)) ≡ true
         → list_all is_inner (if b then digit_glyph false (n % 10) ∷ acc else digits_onto k 10 false (n / 10) (digit_glyph false (n % 10) ∷ acc)) ≡ true
     by true last more = last
     by false last more = more

@@ -36,22 +36,27 @@ found_fine tells next gone p q None = q
 found_fine tells next gone p q (Some a) = p a
 
 -- a call that was answered
-having_fine : (tells : List ℕ → Bool) (call : Call) (answer : Answer) (o : Option Turn) → TurnFine tells o → TurnFine tells (option_map (having call answer) o)
+having_fine : (tells : List ℕ → Bool) (call : Call) (answer : Answer) (o : Option Turn) → TurnFine tells o
+    → TurnFine tells (option_map (having call answer) o)
 having_fine tells call answer None p = tt
 having_fine tells call answer (Some turn) p = p
 
 -- a set is looked up, and a message is read
-pub look_fine : (tells : List ℕ → Bool) → Spares tells → (by_uid : Bool) (set : List SeqRange) (next : List ℕ → Exchange) → ((view : List ℕ) → EndsFine tells (next view))
+pub look_fine : (tells : List ℕ → Bool) → Spares tells → (by_uid : Bool) (set : List SeqRange) (next : List ℕ → Exchange)
+    → ((view : List ℕ) → EndsFine tells (next view))
     → EndsFine tells (ex.Look by_uid set next)
 look_fine tells spares by_uid set next p tag t now [] = tt
-look_fine tells spares by_uid set next p tag t now (Looked view ∷ more) = having_fine tells (ex.Look by_uid set) (Looked view) (played tag now (next view) more) (p view tag t now more)
+look_fine tells spares by_uid set next p tag t now (Looked view ∷ more) =
+    having_fine tells (ex.Look by_uid set) (Looked view) (played tag now (next view) more) (p view tag t now more)
 look_fine tells spares by_uid set next p tag t now (Refused fault ∷ []) = inr (refused_apart tells spares tag t now fault)
 look_fine tells spares by_uid set next p tag t now (_ ∷ more) = tt
 
-pub row_fine : (tells : List ℕ → Bool) → Spares tells → (uid : ℕ) (mark : Bool) (next : Option Row → Exchange) → ((row : Option Row) → EndsFine tells (next row))
+pub row_fine : (tells : List ℕ → Bool) → Spares tells → (uid : ℕ) (mark : Bool) (next : Option Row → Exchange)
+    → ((row : Option Row) → EndsFine tells (next row))
     → EndsFine tells (ex.Read uid mark next)
 row_fine tells spares uid mark next p tag t now [] = tt
-row_fine tells spares uid mark next p tag t now (Found row ∷ more) = having_fine tells (ex.Read uid mark) (Found row) (played tag now (next row) more) (p row tag t now more)
+row_fine tells spares uid mark next p tag t now (Found row ∷ more) =
+    having_fine tells (ex.Read uid mark) (Found row) (played tag now (next row) more) (p row tag t now more)
 row_fine tells spares uid mark next p tag t now (Refused fault ∷ []) = inr (refused_apart tells spares tag t now fault)
 row_fine tells spares uid mark next p tag t now (_ ∷ more) = tt
 

@@ -122,7 +122,8 @@ some_tells_none o turn p e = tells_none turn.bytes (subst (TurnFine tells_stored
 -- ---- the OK
 
 -- a store that refused
-refused_says : (uidvalidity uid : ℕ) (origin : Origin) (tag : List ℕ) (call : ex.Call) (now : Standing) (fault : _) (turn : Turn) → Some (having call (Refused fault) (refused tag now fault)) ≡ Some turn
+refused_says : (uidvalidity uid : ℕ) (origin : Origin) (tag : List ℕ) (call : ex.Call) (now : Standing) (fault : _) (turn : Turn)
+    → Some (having call (Refused fault) (refused tag now fault)) ≡ Some turn
     → SaysVerdict uidvalidity origin tag (verdicts.Stored uid) turn.bytes
 refused_says uidvalidity uid origin tag call now fault turn e =
     let only = only_refused tag now fault (refused tag now fault) refl in
@@ -135,14 +136,17 @@ appended_inner v uid =
     (inner_both (codes "OK [APPENDUID " ++ decimal v) (codes " ") (inner_both (codes "OK [APPENDUID ") (decimal v) refl (decimal_inner v)) refl) (decimal_inner uid)) refl
 
 -- what is pending is shown, where a mailbox is selected, and then these last words are said
-shows_then : (tag words : List ℕ) → IsWord tag → list_all is_inner words ≡ true → (selected : Option Selected) (now : Standing) (answers : List Answer) (turn : Turn) → played tag now (showing selected (says words)) answers ≡ Some turn
+shows_then : (tag words : List ℕ) → IsWord tag → list_all is_inner words ≡ true
+    → (selected : Option Selected) (now : Standing) (answers : List Answer) (turn : Turn)
+    → played tag now (showing selected (says words)) answers ≡ Some turn
     → EndsWith tag words turn.bytes ⊎ ((fault : MailFault) × (turn.bytes ≡ refusal_text tag fault))
 shows_then tag words t inner None now answers turn e =
     let d = only_done tag words Go now answers turn e in
     inl (subst (EndsWith tag words) (sym d.bytes) (ends_tagged [] tag words (inl refl) t inner))
 shows_then tag words t inner (Some s) now [] turn e = absurd (none-some turn e)
 shows_then tag words t inner (Some s) now (Fed view changes ∷ more) turn e =
-    let m = mapped (λ (x : Turn). having (Feed unlimited) (Fed view changes) (saying (lines view changes) x)) (played tag now (says words) more) turn e in
+    let m =
+    mapped (λ (x : Turn). having (Feed unlimited) (Fed view changes) (saying (lines view changes) x)) (played tag now (says words) more) turn e in
     let d = only_done tag words Go now more m.more m.is in
     inl (subst (EndsWith tag words) (sym (ap (λ (b : List ℕ). lines view changes ++ b) d.bytes) ∙ ap (λ (x : Turn). x.bytes) m.makes)
     (ends_tagged (lines view changes) tag words (lines_whole view changes) t inner))
@@ -152,14 +156,17 @@ shows_then tag words t inner (Some s) now (Refused fault ∷ []) turn e =
 shows_then tag words t inner (Some s) now (_ ∷ more) turn e = absurd (none-some turn e)
 
 -- behind whole lines the last line is the same
-last_behind : (lines tag : List ℕ) (fault : MailFault) → IsWhole lines → IsWord tag → last_line (lines ++ refusal_text tag fault) ≡ last_line (refusal_text tag fault)
+last_behind : (lines tag : List ℕ) (fault : MailFault) → IsWhole lines → IsWord tag
+    → last_line (lines ++ refusal_text tag fault) ≡ last_line (refusal_text tag fault)
 last_behind lines tag fault whole t =
     let p : Apart tells_stored (refusal_text tag fault) = refusal_apart tells_stored uid_spares tag t fault in
     ap (λ (x : List ℕ). last_line (lines ++ x)) p.is ∙ ap last_line (sym (append_assoc lines p.front (p.last ++ crlf)))
-    ∙ last_is (lines ++ p.front) p.last (whole_append lines p.front whole p.whole) p.inner ∙ sym (ap last_line p.is ∙ last_is p.front p.last p.whole p.inner)
+    ∙ last_is (lines ++ p.front) p.last (whole_append lines p.front whole p.whole) p.inner ∙ sym
+    (ap last_line p.is ∙ last_is p.front p.last p.whole p.inner)
 
 -- a message that is moved
-moves_says : (v uid : ℕ) (source : Source) (tag : List ℕ) → IsWord tag → (now : Standing) (answers : List Answer) (turn : Turn) → played tag now (moving source v uid) answers ≡ Some turn → SaysMoved v uid source tag turn.bytes
+moves_says : (v uid : ℕ) (source : Source) (tag : List ℕ) → IsWord tag → (now : Standing) (answers : List Answer) (turn : Turn)
+    → played tag now (moving source v uid) answers ≡ Some turn → SaysMoved v uid source tag turn.bytes
 moves_says v uid source tag t now answers turn e = by (moves_so v uid source tag now answers turn e)
   where
     first : List ℕ
@@ -171,46 +178,63 @@ moves_says v uid source tag t now answers turn e = by (moves_so v uid source tag
     done : List ℕ
     done = response_text (texts.Completed (copy_verb source.by_uid true))
 
-    ends_so : (more : Turn) → turn.bytes ≡ first ++ more.bytes → EndsSo tag done more → EndsWith tag done turn.bytes ⊎ ((fault : MailFault) × (last_line turn.bytes ≡ last_line (refusal_text tag fault)))
+    ends_so : (more : Turn) → turn.bytes ≡ first ++ more.bytes → EndsSo tag done more
+        → EndsWith tag done turn.bytes ⊎ ((fault : MailFault) × (last_line turn.bytes ≡ last_line (refusal_text tag fault)))
     ends_so more bytes (move_done front whole is fed) =
-        let all : turn.bytes ≡ (first ++ front) ++ tagged tag done = bytes ∙ ap (λ (b : List ℕ). first ++ b) is ∙ sym (append_assoc first front (tagged tag done)) in
-        inl (subst (EndsWith tag done) (sym all) (ends_tagged (first ++ front) tag done (whole_append first front first_whole whole) t (row_inner (texts.Completed (copy_verb source.by_uid true)))))
+        let all : turn.bytes ≡ (first ++ front) ++ tagged tag done =
+        bytes ∙ ap (λ (b : List ℕ). first ++ b) is ∙ sym (append_assoc first front (tagged tag done)) in
+        inl
+        (subst (EndsWith tag done) (sym all)
+        (ends_tagged (first ++ front) tag done (whole_append first front first_whole whole) t (row_inner (texts.Completed (copy_verb source.by_uid true)))))
     ends_so more bytes (move_refused front whole fault is) =
-        let all : turn.bytes ≡ (first ++ front) ++ refusal_text tag fault = bytes ∙ ap (λ (b : List ℕ). first ++ b) is ∙ sym (append_assoc first front (refusal_text tag fault)) in
+        let all : turn.bytes ≡ (first ++ front) ++ refusal_text tag fault =
+        bytes ∙ ap (λ (b : List ℕ). first ++ b) is ∙ sym (append_assoc first front (refusal_text tag fault)) in
         inr (fault, ap last_line all ∙ last_behind (first ++ front) tag fault (whole_append first front first_whole whole) t)
 
     by : Moves v uid source tag turn → SaysMoved v uid source tag turn.bytes
     by m = record { behind = m.more.bytes; tells = m.bytes; ends = ends_so m.more m.bytes m.ends }
 
-copies_says : (v uid : ℕ) (source : Source) (moves : Bool) (tag : List ℕ) → IsWord tag → (selected : Option Selected) (now : Standing) (answers : List Answer) (turn : Turn)
+copies_says : (v uid : ℕ) (source : Source) (moves : Bool) (tag : List ℕ) → IsWord tag
+    → (selected : Option Selected) (now : Standing) (answers : List Answer) (turn : Turn)
     → played tag now (if moves then moving source v uid else showing selected (says (copied_words v source.uid uid))) answers ≡ Some turn
     → SaysCopied moves v uid source tag turn.bytes ⊎ ((fault : MailFault) × (turn.bytes ≡ refusal_text tag fault))
 copies_says v uid source true tag t selected now answers turn e = inl (moves_says v uid source tag t now answers turn e)
 copies_says v uid source false tag t selected now answers turn e =
-    shows_then tag (copied_words v source.uid uid) t (plain_inner (copied_words v source.uid uid) (copied_plain v source.uid uid)) selected now answers turn e
+    shows_then tag (copied_words v source.uid uid) t
+    (plain_inner (copied_words v source.uid uid) (copied_plain v source.uid uid)) selected now answers turn e
 
-told_says : (v uid : ℕ) (origin : Origin) (tag : List ℕ) → IsWord tag → (selected : Option Selected) (now : Standing) (answers : List Answer) (turn : Turn) → played tag now (told_stored selected origin v uid) answers ≡ Some turn
+told_says : (v uid : ℕ) (origin : Origin) (tag : List ℕ) → IsWord tag
+    → (selected : Option Selected) (now : Standing) (answers : List Answer) (turn : Turn)
+    → played tag now (told_stored selected origin v uid) answers ≡ Some turn
     → SaysVerdict v origin tag (verdicts.Stored uid) turn.bytes
 told_says v uid Client tag t selected now answers turn e = shows_then tag (appended_words v uid) t (appended_inner v uid) selected now answers turn e
 told_says v uid (Copied source) tag t selected now answers turn e = copies_says v uid source source.moves tag t selected now answers turn e
 
 -- the mailbox is counted first, for the house's UIDVALIDITY
-stored_says : (k : Config) (n : ℕ) (origin : Origin) (mailbox uid : ℕ) (tag : List ℕ) → IsWord tag → (selected : Option Selected) (now : Standing) (w : World) (answers : List Answer) (turn : Turn) (v : World)
-    → played tag now (on_verdict selected origin mailbox (verdicts.Stored uid)) answers ≡ Some turn → Met (Calls k n) w turn.events v → SaysVerdict k.uidvalidity origin tag (verdicts.Stored uid) turn.bytes
+stored_says : (k : Config) (n : ℕ) (origin : Origin) (mailbox uid : ℕ) (tag : List ℕ) → IsWord tag
+    → (selected : Option Selected) (now : Standing) (w : World) (answers : List Answer) (turn : Turn) (v : World)
+    → played tag now (on_verdict selected origin mailbox (verdicts.Stored uid)) answers ≡ Some turn → Met (Calls k n) w turn.events v
+    → SaysVerdict k.uidvalidity origin tag (verdicts.Stored uid) turn.bytes
 stored_says k n origin mailbox uid tag t selected now w [] turn v e met = absurd (none-some turn e)
 stored_says k n origin mailbox uid tag t selected now w (Counted status ∷ more) turn v e met =
     let m = mapped (having (Count mailbox) (Counted status)) (played tag now (told_stored selected origin status.uidvalidity uid) more) turn e in
-    let first : Met (Calls k n) w (record { call = Count mailbox; answer = Counted status } ∷ m.more.events) v = subst (λ (x : Turn). Met (Calls k n) w x.events v) (sym m.makes) met in
+    let first : Met (Calls k n) w (record { call = Count mailbox; answer = Counted status } ∷ m.more.events) v =
+    subst (λ (x : Turn). Met (Calls k n) w x.events v) (sym m.makes) met in
     let validity : status.uidvalidity ≡ k.uidvalidity = first.1.3 in
     subst (λ (x : Turn). SaysVerdict k.uidvalidity origin tag (verdicts.Stored uid) x.bytes) m.makes
     (subst (λ (x : ℕ). SaysVerdict x origin tag (verdicts.Stored uid) m.more.bytes) validity (told_says status.uidvalidity uid origin tag t selected now more m.more m.is))
-stored_says k n origin mailbox uid tag t selected now w (Refused fault ∷ []) turn v e met = refused_says k.uidvalidity uid origin tag (Count mailbox) now fault turn e
+stored_says k n origin mailbox uid tag t selected now w (Refused fault ∷ []) turn v e met =
+    refused_says k.uidvalidity uid origin tag (Count mailbox) now fault turn e
 stored_says k n origin mailbox uid tag t selected now w (_ ∷ more) turn v e met = absurd (none-some turn e)
 
-verdict_says : (k : Config) (n : ℕ) (origin : Origin) (mailbox : ℕ) (verdict : Verdict) (tag : List ℕ) → IsWord tag → (selected : Option Selected) (now : Standing) (w : World) (answers : List Answer) (turn : Turn) (v : World)
-    → played tag now (on_verdict selected origin mailbox verdict) answers ≡ Some turn → Met (Calls k n) w turn.events v → SaysVerdict k.uidvalidity origin tag verdict turn.bytes
-verdict_says k n origin mailbox (verdicts.Stored uid) tag t selected now w answers turn v e met = stored_says k n origin mailbox uid tag t selected now w answers turn v e met
-verdict_says k n origin mailbox (verdicts.Refused why) tag t selected now w answers turn v e met = (only_done tag (response_text (refused_text why)) Go now answers turn e).bytes
+verdict_says : (k : Config) (n : ℕ) (origin : Origin) (mailbox : ℕ) (verdict : Verdict) (tag : List ℕ) → IsWord tag
+    → (selected : Option Selected) (now : Standing) (w : World) (answers : List Answer) (turn : Turn) (v : World)
+    → played tag now (on_verdict selected origin mailbox verdict) answers ≡ Some turn → Met (Calls k n) w turn.events v
+    → SaysVerdict k.uidvalidity origin tag verdict turn.bytes
+verdict_says k n origin mailbox (verdicts.Stored uid) tag t selected now w answers turn v e met =
+    stored_says k n origin mailbox uid tag t selected now w answers turn v e met
+verdict_says k n origin mailbox (verdicts.Refused why) tag t selected now w answers turn v e met =
+    (only_done tag (response_text (refused_text why)) Go now answers turn e).bytes
 
 -- ---- a turn
 

@@ -235,7 +235,8 @@ over_most most o size e h = not_over most size (sym (ap (λ (x : Option ℕ). is
 
 fit_copy : (most : ℕ) (now : Standing) (copy : CopyMessages) → now.mailing.most ≡ Some most → TextsFit most (on_command now (commands.Copy copy))
 fit_copy most now copy takes =
-    copies_so (TextsFit most) (record { told = λ text. tt; wanted = λ x p. p; looked = λ by_uid set next p. p; found = λ uid mark next p. p }) now copy
+    copies_so (TextsFit most)
+    (record { told = λ text. tt; wanted = λ x p. p; looked = λ by_uid set next p. p; found = λ uid mark next p. p }) now copy
     (λ source mailbox row copied. over_most (most + most_return_path) (most_copied now.mailing.most) (length row.text) (ap most_copied takes) copied.fits)
 
 fit_command : (most : ℕ) (now : Standing) (command : Command) → now.mailing.most ≡ Some most → TextsFit most (on_command now command)
@@ -298,12 +299,15 @@ fit_rest most mailing a empty takes short = kept a.text short
 fit_idle_line : (most : ℕ) (selected : Option Selected) (line : List ℕ) → TextsFit most (on_idle_line selected line)
 fit_idle_line most selected line = fit_if most (is_done line) (showing selected (completed commands.Idle)) (says (response_text texts.ExpectedDone)) (fit_showing most selected (completed commands.Idle) tt) tt
 
-fit_stored : (most : ℕ) (selected : Option Selected) (origin : Origin) (uidvalidity uid : ℕ) → TextsFit most (told_stored selected origin uidvalidity uid)
+fit_stored : (most : ℕ) (selected : Option Selected) (origin : Origin) (uidvalidity uid : ℕ)
+    → TextsFit most (told_stored selected origin uidvalidity uid)
 fit_stored most selected Client uidvalidity uid = fit_showing most selected _ tt
 fit_stored most selected (Copied source) uidvalidity uid =
-    fit_if most source.moves (moving source uidvalidity uid) (showing selected (says (copied_words uidvalidity source.uid uid))) (λ flags. tt) (fit_showing most selected _ tt)
+    fit_if most source.moves (moving source uidvalidity uid) (showing selected (says (copied_words uidvalidity source.uid uid))) (λ flags. tt)
+    (fit_showing most selected _ tt)
 
-fit_verdict : (most : ℕ) (selected : Option Selected) (origin : Origin) (mailbox : ℕ) (verdict : Verdict) → TextsFit most (on_verdict selected origin mailbox verdict)
+fit_verdict : (most : ℕ) (selected : Option Selected) (origin : Origin) (mailbox : ℕ) (verdict : Verdict)
+    → TextsFit most (on_verdict selected origin mailbox verdict)
 fit_verdict most selected origin mailbox (verdicts.Stored uid) = λ status. fit_stored most selected origin status.uidvalidity uid
 fit_verdict most selected origin mailbox (verdicts.Refused why) = tt
 

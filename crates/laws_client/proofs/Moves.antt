@@ -23,29 +23,39 @@ pub data EndsSo (tag words : List ℕ) (turn : Turn) : Type 0 where
   move_refused : (front : List ℕ) → IsWhole front → (fault : MailFault) → turn.bytes ≡ front ++ refusal_text tag fault → EndsSo tag words turn
 
 -- with whole lines before it, and with a call
-behind_lines : (tag words text : List ℕ) (more turn : Turn) → IsWhole text → turn.bytes ≡ text ++ more.bytes → (LastFed (false ≡ true) more.events → LastFed (false ≡ true) turn.events)
+behind_lines : (tag words text : List ℕ) (more turn : Turn) → IsWhole text → turn.bytes ≡ text ++ more.bytes
+    → (LastFed (false ≡ true) more.events → LastFed (false ≡ true) turn.events)
     → EndsSo tag words more → EndsSo tag words turn
 behind_lines tag words text more turn whole bytes fed (move_done front w is f) =
-    move_done (text ++ front) (whole_append text front whole w) (bytes ∙ ap (λ (b : List ℕ). text ++ b) is ∙ sym (append_assoc text front (tagged tag words))) (fed f)
+    move_done (text ++ front) (whole_append text front whole w)
+    (bytes ∙ ap (λ (b : List ℕ). text ++ b) is ∙ sym (append_assoc text front (tagged tag words))) (fed f)
 behind_lines tag words text more turn whole bytes fed (move_refused front w fault is) =
-    move_refused (text ++ front) (whole_append text front whole w) fault (bytes ∙ ap (λ (b : List ℕ). text ++ b) is ∙ sym (append_assoc text front (refusal_text tag fault)))
+    move_refused (text ++ front) (whole_append text front whole w) fault
+    (bytes ∙ ap (λ (b : List ℕ). text ++ b) is ∙ sym (append_assoc text front (refusal_text tag fault)))
 
 behind_call : (event : Happened) (events all : List Happened) → all ≡ event ∷ events → LastFed (false ≡ true) events → LastFed (false ≡ true) all
-behind_call event events all e f = subst (λ (es : List Happened). LastFed (false ≡ true) es) (sym e) (last_weaker (false ≡ true) (FedAll event) events (λ h. absurd (false≢true h)) f)
+behind_call event events all e f =
+    subst (λ (es : List Happened). LastFed (false ≡ true) es) (sym e)
+    (last_weaker (false ≡ true) (FedAll event) events (λ h. absurd (false≢true h)) f)
 
 -- the store refused a call
-was_refused : (tag words : List ℕ) (now : Standing) (call : Call) (fault : MailFault) (turn : Turn) → Some (having call (Refused fault) (refused tag now fault)) ≡ Some turn → EndsSo tag words turn
+was_refused : (tag words : List ℕ) (now : Standing) (call : Call) (fault : MailFault) (turn : Turn)
+    → Some (having call (Refused fault) (refused tag now fault)) ≡ Some turn → EndsSo tag words turn
 was_refused tag words now call fault turn e =
     let m = mapped (having call (Refused fault)) (Some (refused tag now fault)) turn e in
     move_refused [] (inl refl) fault (ap (λ (x : Turn). x.bytes) (sym m.makes) ∙ (only_refused tag now fault m.more m.is).bytes)
 
-feed_ends : (tag words : List ℕ) (how : After) (now : Standing) (answers : List Answer) (turn : Turn) → played tag now (Feed unlimited (Done words how)) answers ≡ Some turn → EndsSo tag words turn
+feed_ends : (tag words : List ℕ) (how : After) (now : Standing) (answers : List Answer) (turn : Turn)
+    → played tag now (Feed unlimited (Done words how)) answers ≡ Some turn → EndsSo tag words turn
 feed_ends tag words how now [] turn e = absurd (none-some turn e)
 feed_ends tag words how now (Fed view changes ∷ more) turn e =
-    let m = mapped (λ (x : Turn). having (Feed unlimited) (Fed view changes) (saying (lines view changes) x)) (played tag now (Done words how) more) turn e in
+    let m =
+    mapped (λ (x : Turn). having (Feed unlimited) (Fed view changes) (saying (lines view changes) x)) (played tag now (Done words how) more) turn e in
     let d = only_done tag words how now more m.more m.is in
-    let events : turn.events ≡ feed_event unlimited view changes ∷ [] = ap (λ (x : Turn). x.events) (sym m.makes) ∙ ap (λ (es : List Happened). feed_event unlimited view changes ∷ es) d.events in
-    move_done (lines view changes) (lines_whole view changes) (ap (λ (x : Turn). x.bytes) (sym m.makes) ∙ ap (λ (b : List ℕ). lines view changes ++ b) d.bytes)
+    let events : turn.events ≡ feed_event unlimited view changes ∷ [] =
+    ap (λ (x : Turn). x.events) (sym m.makes) ∙ ap (λ (es : List Happened). feed_event unlimited view changes ∷ es) d.events in
+    move_done (lines view changes) (lines_whole view changes)
+    (ap (λ (x : Turn). x.bytes) (sym m.makes) ∙ ap (λ (b : List ℕ). lines view changes ++ b) d.bytes)
     (subst (λ (es : List Happened). LastFed (false ≡ true) es) (sym events) (view, changes, refl))
 feed_ends tag words how now (Refused fault ∷ []) turn e = was_refused tag words now (Feed unlimited) fault turn e
 feed_ends tag words how now (_ ∷ more) turn e = absurd (none-some turn e)
@@ -79,7 +89,8 @@ pub record Moves (uidvalidity uid : ℕ) (source : Source) (tag : List ℕ) (tur
   pub events : more.events ≡ turn.events
   pub ends : EndsSo tag (response_text (texts.Completed (copy_verb source.by_uid true))) more
 
-pub moves_so : (uidvalidity uid : ℕ) (source : Source) (tag : List ℕ) (now : Standing) (answers : List Answer) (turn : Turn) → played tag now (moving source uidvalidity uid) answers ≡ Some turn
+pub moves_so : (uidvalidity uid : ℕ) (source : Source) (tag : List ℕ) (now : Standing) (answers : List Answer) (turn : Turn)
+    → played tag now (moving source uidvalidity uid) answers ≡ Some turn
     → Moves uidvalidity uid source tag turn
 moves_so uidvalidity uid source tag now answers turn e =
     let line : List ℕ = untagged (moved_words uidvalidity source.uid uid) in
@@ -88,5 +99,6 @@ moves_so uidvalidity uid source tag now answers turn e =
       more = m.more;
       bytes = ap (λ (x : Turn). x.bytes) (sym m.makes);
       events = ap (λ (x : Turn). x.events) m.makes;
-      ends = alter_ends tag (response_text (texts.Completed (copy_verb source.by_uid true))) Go source.uid deleting (Some (source.uid ∷ [])) now answers m.more m.is;
+      ends = alter_ends tag (response_text (texts.Completed (copy_verb source.by_uid true))) Go source.uid deleting
+          (Some (source.uid ∷ [])) now answers m.more m.is;
     }

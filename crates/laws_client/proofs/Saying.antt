@@ -316,14 +316,17 @@ copied_says tag p selected source false uidvalidity uid t =
     shows_then tag p selected (says (copied_words uidvalidity source.uid uid))
     (λ q. leaves q _ (tagged_tells_nothing tag (copied_words uidvalidity source.uid uid) t (copied_plain uidvalidity source.uid uid)))
 
-told_says : (tag : List ℕ) (p : Point) (selected : Option Selected) (origin : Origin) (uidvalidity uid : ℕ) → IsTag tag → uidvalidity < 2 ^ 64 → uid < 2 ^ 64 → SaysFlags tag p (told_stored selected origin uidvalidity uid)
+told_says : (tag : List ℕ) (p : Point) (selected : Option Selected) (origin : Origin) (uidvalidity uid : ℕ) → IsTag tag → uidvalidity < 2 ^ 64
+    → uid < 2 ^ 64 → SaysFlags tag p (told_stored selected origin uidvalidity uid)
 told_says tag p selected Client uidvalidity uid t v u =
     shows_then tag p selected (says (appended_words uidvalidity uid))
     (λ q. leaves q _ (tagged_tells_nothing tag (appended_words uidvalidity uid) t (stored_plain uidvalidity uid v u)))
 told_says tag p selected (Copied source) uidvalidity uid t v u = copied_says tag p selected source source.moves uidvalidity uid t
 
-verdict_says : (tag : List ℕ) (p : Point) (selected : Option Selected) (origin : Origin) (mailbox : ℕ) (verdict : Verdict) → IsTag tag → IsPrinted verdict → SaysFlags tag p (on_verdict selected origin mailbox verdict)
-verdict_says tag p selected origin mailbox (verdicts.Stored uid) t u = λ status r s. told_says tag r selected origin status.uidvalidity uid t s.sees.fits.uidvalidity u
+verdict_says : (tag : List ℕ) (p : Point) (selected : Option Selected) (origin : Origin) (mailbox : ℕ) (verdict : Verdict) → IsTag tag
+    → IsPrinted verdict → SaysFlags tag p (on_verdict selected origin mailbox verdict)
+verdict_says tag p selected origin mailbox (verdicts.Stored uid) t u =
+    λ status r s. told_says tag r selected origin status.uidvalidity uid t s.sees.fits.uidvalidity u
 verdict_says tag p selected origin mailbox (verdicts.Refused why) t u = last tag p (refused_text why) t
 
 -- ---- all of them

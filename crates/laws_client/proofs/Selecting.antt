@@ -273,7 +273,8 @@ in_idle_line selected line = in_if (is_done line) (showing selected (completed c
 in_stored : (selected : Option Selected) (origin : Origin) (uidvalidity uid : ℕ) → StaysIn (told_stored selected origin uidvalidity uid)
 in_stored selected origins.Client uidvalidity uid = in_showing selected _ tt
 in_stored selected (origins.Copied source) uidvalidity uid =
-    in_if source.moves (moving source uidvalidity uid) (showing selected (says (copied_words uidvalidity source.uid uid))) (λ flags. tt) (in_showing selected _ tt)
+    in_if source.moves (moving source uidvalidity uid) (showing selected (says (copied_words uidvalidity source.uid uid))) (λ flags. tt)
+    (in_showing selected _ tt)
 
 in_verdict : (selected : Option Selected) (origin : Origin) (mailbox : ℕ) (verdict : Verdict) → StaysIn (on_verdict selected origin mailbox verdict)
 in_verdict selected origin mailbox (verdicts.Stored uid) = λ status. in_stored selected origin status.uidvalidity uid

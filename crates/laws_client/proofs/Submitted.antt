@@ -139,7 +139,8 @@ pub record Mailed (folders : List Folder) (sent : List ℕ) (now : Standing) : T
   pub begun : IfSome now.mailing.begun (IsBegunAs folders sent)
   pub waits : IfSome now.mailing.sent (CameAs folders sent)
 
-appended_more : (folders : List Folder) (sent bytes : List ℕ) (message : Sent) → IsSentAs folders sent message → IsSentAs folders (sent ++ bytes) message
+appended_more : (folders : List Folder) (sent bytes : List ℕ) (message : Sent) → IsSentAs folders sent message
+    → IsSentAs folders (sent ++ bytes) message
 appended_more folders sent bytes message h = record {
   front = h.front;
   bytes = h.bytes;
@@ -154,7 +155,8 @@ appended_more folders sent bytes message h = record {
   whole = ap (λ (x : List ℕ). x ++ bytes) h.whole ∙ append_assoc (h.front ++ (h.bytes ++ crlf) ++ message.append.text ++ crlf) h.behind bytes;
 }
 
-copied_more : (folders : List Folder) (sent bytes : List ℕ) (message : Sent) (source : Source) → IsCopyOf folders sent message source → IsCopyOf folders (sent ++ bytes) message source
+copied_more : (folders : List Folder) (sent bytes : List ℕ) (message : Sent) (source : Source) → IsCopyOf folders sent message source
+    → IsCopyOf folders (sent ++ bytes) message source
 copied_more folders sent bytes message source h = record {
   front = h.front;
   bytes = h.bytes;
@@ -190,7 +192,8 @@ same_mail folders sent bytes now next m same waits begun = record {
   waits = subst (λ (o : Option Sent). IfSome o (CameAs folders (sent ++ bytes))) (sym waits) (waits_more folders sent bytes now.mailing.sent m.waits);
 }
 
-command_case : {X : Type 0} (command : Command) → ((append : Append) → command ≡ commands.Append append → X) → ((copy : CopyMessages) → command ≡ commands.Copy copy → X) → (SubmitsNone command → X) → X
+command_case : {X : Type 0} (command : Command) → ((append : Append) → command ≡ commands.Append append → X)
+    → ((copy : CopyMessages) → command ≡ commands.Copy copy → X) → (SubmitsNone command → X) → X
 command_case commands.Noop f h g = g tt
 command_case (commands.Append append) f h g = f append refl
 command_case (commands.Copy copy) f h g = h copy refl
@@ -313,9 +316,11 @@ response_begins folders sent bytes line tag said a now next m same says reads ma
         }) p
 
 -- COPY and MOVE wait for the verdict at once
-copy_waits : (folders : List Folder) (sent bytes line tag : List ℕ) (copy : CopyMessages) (now next : Standing) → Mailed folders sent now → next.folders ≡ now.folders → SaysLine (sent ++ bytes) line → read line ≡ Ok (tag, commands.Copy copy)
+copy_waits : (folders : List Folder) (sent bytes line tag : List ℕ) (copy : CopyMessages) (now next : Standing) → Mailed folders sent now
+    → next.folders ≡ now.folders → SaysLine (sent ++ bytes) line → read line ≡ Ok (tag, commands.Copy copy)
     → IsMail (ForItsCopy (number_named copy.name now.folders) copy) tag (without_begun now).mailing next.mailing → Mailed folders (sent ++ bytes) next
-copy_waits folders sent bytes line tag copy now next m same says reads (inl e) = same_mail folders sent bytes now next m same (ap (λ (x : Mailing). x.sent) e) (ap (λ (x : Mailing). x.begun) e)
+copy_waits folders sent bytes line tag copy now next m same says reads (inl e) =
+    same_mail folders sent bytes now next m same (ap (λ (x : Mailing). x.sent) e) (ap (λ (x : Mailing). x.begun) e)
 copy_waits folders sent bytes line tag copy now next m same says reads (inr (ForDone, p, e)) = absurd p
 copy_waits folders sent bytes line tag copy now next m same says reads (inr (ForNothing, p, e)) = absurd p
 copy_waits folders sent bytes line tag copy now next m same says reads (inr (ForLiteral coming q size, p, e)) = absurd p

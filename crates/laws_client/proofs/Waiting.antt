@@ -453,16 +453,20 @@ ForItsCopy found copy w = ⊥
 copy_drops : (found : Option ℕ) (copy : CopyMessages) → Drops (ForItsCopy found copy)
 copy_drops found copy purpose size p = absurd p
 
-copy_waits : (now : Standing) (copy : CopyMessages) → WaitsAs (ForItsCopy (number_named copy.name now.folders) copy) (on_command now (commands.Copy copy))
+copy_waits : (now : Standing) (copy : CopyMessages)
+    → WaitsAs (ForItsCopy (number_named copy.name now.folders) copy) (on_command now (commands.Copy copy))
 copy_waits now copy =
-    copies_so (WaitsAs (ForItsCopy (number_named copy.name now.folders) copy)) (record { told = λ text. tt; wanted = λ x p. p; looked = λ by_uid set next p. p; found = λ uid mark next p. p }) now copy
+    copies_so (WaitsAs (ForItsCopy (number_named copy.name now.folders) copy))
+    (record { told = λ text. tt; wanted = λ x p. p; looked = λ by_uid set next p. p; found = λ uid mark next p. p }) now copy
     (λ source mailbox row copied. (copied.named, record { view = copied.view; one = copied.one; by_uid = copied.by_uid; moves = copied.moves }))
 
-pub copy_mail : (tag : List ℕ) (now : Standing) (copy : CopyMessages) (answers : List Answer) (turn : Turn) → on_line (logs_in_as now.login (commands.Copy copy)) now tag (commands.Copy copy) answers ≡ Some turn
+pub copy_mail : (tag : List ℕ) (now : Standing) (copy : CopyMessages) (answers : List Answer) (turn : Turn)
+    → on_line (logs_in_as now.login (commands.Copy copy)) now tag (commands.Copy copy) answers ≡ Some turn
     → IsMail (ForItsCopy (number_named copy.name now.folders) copy) tag now.mailing turn.standing.mailing
 copy_mail tag now copy answers turn e =
     let A : Waiting → Type 0 = ForItsCopy (number_named copy.name now.folders) copy in
-    line_case (IsMail A tag now.mailing turn.standing.mailing) now tag (commands.Copy copy) answers turn (λ logs d. inl (so_mail tag (logged_in now) (completed (commands.Copy copy)) answers turn tt d))
+    line_case (IsMail A tag now.mailing turn.standing.mailing) now tag (commands.Copy copy) answers turn
+    (λ logs d. inl (so_mail tag (logged_in now) (completed (commands.Copy copy)) answers turn tt d))
     (λ text is d. inl (refused_mail tag (response_text text) now answers turn d))
     (λ d. some_mail A tag now.mailing _ turn (played_mail A (copy_drops (number_named copy.name now.folders) copy) tag now (on_command now (commands.Copy copy)) answers (copy_waits now copy)) d) e
 
@@ -515,14 +519,17 @@ idling_mail tag now selected line answers turn e = so_mail tag now (on_idle_line
 stored_waits : (selected : Option Selected) (origin : Origin) (uidvalidity uid : ℕ) → WaitsAs ForItsDone (told_stored selected origin uidvalidity uid)
 stored_waits selected Client uidvalidity uid = in_showing ForItsDone selected _ tt
 stored_waits selected (Copied source) uidvalidity uid =
-    in_either ForItsDone source.moves (moving source uidvalidity uid) (showing selected (says (copied_words uidvalidity source.uid uid))) (λ flags. tt) (in_showing ForItsDone selected _ tt)
+    in_either ForItsDone source.moves (moving source uidvalidity uid) (showing selected (says (copied_words uidvalidity source.uid uid)))
+    (λ flags. tt) (in_showing ForItsDone selected _ tt)
 
-verdict_waits : (selected : Option Selected) (origin : Origin) (mailbox : ℕ) (verdict : Verdict) → WaitsAs ForItsDone (on_verdict selected origin mailbox verdict)
+verdict_waits : (selected : Option Selected) (origin : Origin) (mailbox : ℕ) (verdict : Verdict)
+    → WaitsAs ForItsDone (on_verdict selected origin mailbox verdict)
 verdict_waits selected origin mailbox (verdicts.Stored uid) = λ status. stored_waits selected origin status.uidvalidity uid
 verdict_waits selected origin mailbox (verdicts.Refused why) = tt
 
 pub verdict_mail : (tag : List ℕ) (now : Standing) (selected : Option Selected) (origin : Origin) (mailbox : ℕ) (verdict : Verdict) (answers : List Answer) (turn : Turn) → played tag now (on_verdict selected origin mailbox verdict) answers ≡ Some turn → turn.standing.mailing ≡ now.mailing
-verdict_mail tag now selected origin mailbox verdict answers turn e = so_mail tag now (on_verdict selected origin mailbox verdict) answers turn (verdict_waits selected origin mailbox verdict) e
+verdict_mail tag now selected origin mailbox verdict answers turn e =
+    so_mail tag now (on_verdict selected origin mailbox verdict) answers turn (verdict_waits selected origin mailbox verdict) e
 
 -- behind a literal it waits for the verdict on that message
 abbrev pub ForItsVerdict : PendingLiteral → Bool → Waiting → Type 0

@@ -92,7 +92,8 @@ pub record IsSentAs (folders : List Folder) (sent : List ℕ) (message : Sent) :
   pub size : length message.append.text ≡ append.literal.size
   pub whole : sent ≡ front ++ (bytes ++ crlf) ++ message.append.text ++ crlf ++ behind
 
--- A client had this message copied so (RFC 9051, 6.4.7; RFC 6851): by a COPY or MOVE under its tag, of one message, that with this UID, which names the mailbox of the copy.
+-- A client had this message copied so (RFC 9051, 6.4.7; RFC 6851): by a COPY or MOVE under its tag, which names the mailbox of the copy,
+-- and one message of a view, that with this UID.
 pub record IsCopyOf (folders : List Folder) (sent : List ℕ) (message : Sent) (source : Source) : Type 0 where
   pub front : List ℕ
   pub bytes : List ℕ
@@ -118,11 +119,13 @@ CameAs folders sent message = CameBy message.origin folders sent message
 
 -- ---- what is said to a verdict
 
--- Of a MOVE, once the copy was stored: first of all one untagged line tells its UID, and that of the message which is moved. The last line is the OK, or what is said where the store refuses.
+-- Of a MOVE, once the copy was stored: first of all one untagged line tells its UID, and that of the message which is moved.
+-- The last line is the OK, or what is said where the store refuses.
 pub record SaysMoved (uidvalidity uid : ℕ) (source : Source) (tag bytes : List ℕ) : Type 0 where
   pub behind : List ℕ
   pub tells : bytes ≡ untagged (moved_words uidvalidity source.uid uid) ++ behind
-  pub ends : EndsWith tag (response_text (texts.Completed (copy_verb source.by_uid true))) bytes ⊎ ((fault : MailFault) × (last_line bytes ≡ last_line (refusal_text tag fault)))
+  pub ends : EndsWith tag (response_text (texts.Completed (copy_verb source.by_uid true))) bytes
+      ⊎ ((fault : MailFault) × (last_line bytes ≡ last_line (refusal_text tag fault)))
 
 -- of a COPY the OK tells both UIDs
 abbrev pub SaysCopied : (moves : Bool) → (uidvalidity uid : ℕ) → Source → (tag : List ℕ) → List ℕ → Type 0
@@ -137,7 +140,8 @@ SaysStored (Copied source) uidvalidity uid tag bytes = SaysCopied source.moves u
 -- Where the message was stored: the OK that tells its UID, behind this UIDVALIDITY, or one line, where the store refuses to count its mailbox or to show what is pending.
 -- Where it was refused: a NO.
 abbrev pub SaysVerdict : (uidvalidity : ℕ) → Origin → (tag : List ℕ) → Verdict → List ℕ → Type 0
-SaysVerdict uidvalidity origin tag (Stored uid) bytes = SaysStored origin uidvalidity uid tag bytes ⊎ ((fault : MailFault) × (bytes ≡ refusal_text tag fault))
+SaysVerdict uidvalidity origin tag (Stored uid) bytes =
+    SaysStored origin uidvalidity uid tag bytes ⊎ ((fault : MailFault) × (bytes ≡ refusal_text tag fault))
 SaysVerdict uidvalidity origin tag (Refused why) bytes = bytes ≡ tagged tag (response_text (refused_text why))
 
 -- the copy of a message, under this key
@@ -203,8 +207,9 @@ pub record TellsKept (k : Setup) (w : World) (author : Author) (tag said : List 
   pub mailbox : noted.mailbox ≡ message.append.mailbox
   pub copy : Contains (w.box noted.mailbox).accepted (copy_under noted.key message, uid)
 
--- These words, under this tag, are the OK for one copy of this session: of a message that its client had copied by a COPY under that tag. They tell the house's UIDVALIDITY, that message's UID,
--- and the UID under which the copy stands, once, as its seat has heard: in the mailbox that was named.
+-- These words, under this tag, are the OK for one copy of this session: of a message that its client had copied by a COPY under that tag.
+-- They tell the house's UIDVALIDITY, that message's UID, and the UID under which the copy stands, once, as its seat has heard: in the mailbox
+-- that was named.
 pub record TellsCopied (k : Setup) (w : World) (author : Author) (tag said : List ℕ) (noted : Noted) : Type 0 where
   pub message : Sent
   pub source : Source
@@ -238,8 +243,8 @@ pub record TellsOfAppends (k : Setup) (w : World) (author : Author) (told : List
   pub kept : (before after : List Told) (one : Told) (tag words : List ℕ) → told ≡ before ++ one ∷ after → EndsWith tag words (bytes_in one) → tells_uid words ≡ true
       → (noted : Noted) × TellsKept k w author tag words noted
   -- where it ends with `OK [COPYUID `, that is for one copy of a message that its client had copied, which stands so;
-  pub copied : (before after : List Told) (one : Told) (tag words : List ℕ) → told ≡ before ++ one ∷ after → EndsWith tag words (bytes_in one) → tells_copy words ≡ true
-      → (noted : Noted) × TellsCopied k w author tag words noted
+  pub copied : (before after : List Told) (one : Told) (tag words : List ℕ) → told ≡ before ++ one ∷ after → EndsWith tag words (bytes_in one)
+      → tells_copy words ≡ true → (noted : Noted) × TellsCopied k w author tag words noted
   -- and two answers of the first kind are for two copies, of which the first was appended first.
   pub apart : (before mid after : List Told) (one two : Told) (tag words other_tag other_words : List ℕ) → told ≡ before ++ one ∷ (mid ++ two ∷ after) → EndsWith tag words (bytes_in one) → tells_uid words ≡ true
       → EndsWith other_tag other_words (bytes_in two) → tells_uid other_words ≡ true
