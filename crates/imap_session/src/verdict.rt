@@ -71,12 +71,12 @@ fn put_copy_code(uidvalidity: u32, uid: u32, copy_uid: u32, out: &mut Vec<u8>)
     ensures capacity { vec_capacity out.old ≤ vec_capacity out.new }
 {
     let mut validity = itoa::Buffer::new();
-    let mut number = itoa::Buffer::new();
+    let mut message = itoa::Buffer::new();
     let mut copy = itoa::Buffer::new();
     put(b"OK [COPYUID ", out);
     put(validity.format(uidvalidity).as_bytes(), out);
     put(b" ", out);
-    put(number.format(uid).as_bytes(), out);
+    put(message.format(uid).as_bytes(), out);
     put(b" ", out);
     put(copy.format(copy_uid).as_bytes(), out);
     put(b"] ", out);

@@ -27,8 +27,8 @@ returns-in-Err g c response mailing =
     does_chosen g.S.Store.step copy.by_uid copy.set (λ view uids. copy_of mailing copy c.args.mailbox uids) (found_next mailing copy) looks.0 c.in-Some.messages.items _ _ _ _ _ looks.1 looks.2
     (λ uids are tag now. rw (c.in-Err.ensures.said looks.0 uids (c.as_slice.ensures.value ∙ are) mailing c.args.mailbox) (reaches_here g.S.Store.step tag now (says (response_text c.in-Err.text)) _ _))
 
-pub returns-in-Ok : goal.returns-in-Ok
-returns-in-Ok g c response mailing =
+pub returns : goal.returns
+returns g c response mailing =
     let copy = c.args.copy.now in
     let looks = rw c.in-Some.is at c.in_ok-messages.ensures.event in
     does_chosen g.S.Store.step copy.by_uid copy.set (λ view uids. copy_of mailing copy c.args.mailbox uids) (found_next mailing copy) looks.0 c.in-Some.messages.items _ _ _ _ c.read_message.result looks.1 looks.2

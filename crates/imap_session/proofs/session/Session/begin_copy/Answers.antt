@@ -19,8 +19,8 @@ returns-in-Ok-Said-clause-had g c =
     had_played g.S.Store.step c.args.response.tag now now now (on_command now (commands.Copy c.args.copy.now)) _ _ _ _ _
     (plays_said g.S.Store.step (response_text c.in-Ok-Said.text) now (on_command now (commands.Copy c.args.copy.now)) _ _ c.args.response c.args.response _ (c.find_copy.ensures c.args.response c.args.response.tag now) c.end.ensures) refl
 
-pub returns-in-Err-clause-had : goal.returns-in-Err-clause-had
-returns-in-Err-clause-had g c =
+pub returns-after-matches-clause-had : goal.returns-after-matches-clause-had
+returns-after-matches-clause-had g c =
     let now = c.args.self.now in
     had_played g.S.Store.step c.args.response.tag now now _ (on_command now (commands.Copy c.args.copy.now)) _ _ _ _ _
     (plays_stopped g.S.Store.step now (on_command now (commands.Copy c.args.copy.now)) c.in-Err.fault _ _ c.args.response c.args.response _ _ (c.find_copy.ensures c.args.response c.args.response.tag now) c.conclude-after.ensures.text c.conclude-after.ensures.after) refl

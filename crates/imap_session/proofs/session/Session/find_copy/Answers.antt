@@ -14,16 +14,16 @@ pub returns-in-Some : goal.returns-in-Some
 returns-in-Some g c response =
     copy_refused g.S.Store.step c.args.self.now c.args.copy.now c.selected.result c.in-Some.text c.args.store.now response c.selected.ensures (c.in-Some.ensures.refused c.args.self.now)
 
-pub returns-in_err-number_of : goal.returns-in_err-number_of
-returns-in_err-number_of g c response =
+pub returns-in_err-mailbox : goal.returns-in_err-mailbox
+returns-in_err-mailbox g c response =
     let p = err_from_is_err_and c.from_residual.result c.from_residual.ensures.1 in
     rw (p.1, p.2) (copy_starved g.S.Store.step c.args.self.now c.args.copy.now c.selected.result c.args.store.now response c.selected.ensures (c.in_default.ensures.taken c.args.self.now))
 
-pub returns-in_default : goal.returns-in_default
-returns-in_default g c response =
-    copy_missing g.S.Store.step c.args.self.now c.args.copy.now c.selected.result c.args.store.now response c.selected.ensures (c.in_default.ensures.taken c.args.self.now) (sym c.in_ok-number_of.ensures)
+pub returns-in_default-2 : goal.returns-in_default-2
+returns-in_default-2 g c response =
+    copy_missing g.S.Store.step c.args.self.now c.args.copy.now c.selected.result c.args.store.now response c.selected.ensures (c.in_default.ensures.taken c.args.self.now) (sym c.in_ok-mailbox.ensures)
 
 pub returns : goal.returns
 returns g c response =
-    copy_found g.S.Store.step c.args.self.now c.args.copy.now c.selected.result c.in-Some.mailbox _ _ response c.find_message.result c.selected.ensures (c.in_default.ensures.taken c.args.self.now) (sym c.in_ok-number_of.ensures)
+    copy_found g.S.Store.step c.args.self.now c.args.copy.now c.selected.result c.in-Some.mailbox _ _ response c.find_message.result c.selected.ensures (c.in_default.ensures.taken c.args.self.now) (sym c.in_ok-mailbox.ensures)
     (c.find_message.ensures response c.args.self.now.mailing)

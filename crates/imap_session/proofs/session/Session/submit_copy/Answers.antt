@@ -15,8 +15,8 @@ returns-in-Some-clause-leads c =
     (c.in-Some.ensures.refused now.mailing c.args.source c.args.mailbox c.args.row (sym (ap (λ (s : Standing). s.mailing.most) same)) (sym (ap (λ (s : Standing). s.mailing.number) same)) refl)
     c.end.ensures refl
 
-pub returns-in_default-clause-leads : goal.returns-in_default-clause-leads
-returns-in_default-clause-leads c =
+pub returns-in_default-new-clause-leads : goal.returns-in_default-new-clause-leads
+returns-in_default-new-clause-leads c =
     let now = c.args.self.now in
     let same = ap the_view c.self-inside.view_is ∙ c.self.view_is in
     leads_starved c.args.response.tag now now (copying now.mailing c.args.source c.args.mailbox c.args.row) (Wait [] (ForVerdict (Copied c.args.source) c.args.mailbox c.args.row.flags c.args.row.text)) c.args.response.text _
