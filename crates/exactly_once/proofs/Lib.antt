@@ -1,6 +1,7 @@
 pub mod Quiet
 pub mod Told
 pub mod Saying
+pub mod Copying
 pub mod Whole
 pub mod Grown
 pub mod Going

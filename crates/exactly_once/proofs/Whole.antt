@@ -54,6 +54,10 @@ use Rattle.imap_session.proofs.Barring.{line_has}
 use Rattle.imap_session.proofs.Parts.{IsPart, asks_part, challenge_part, comes_part, ends_part, rest_has, tells_part, text_line_has}
 use Rattle.imap_answers.specs.declared.list.Listing.{Listing}
 use Rattle.imap_answers.specs.declared.list.Listing.TheVariants.{All, Subscribed}
+use Rattle.imap_grammar.specs.declared.command.CopyMessages.{CopyMessages}
+use Rattle.imap_session.specs.declared.standing.Origin.{Origin}
+use Rattle.imap_session.specs.declared.standing.Origin.TheVariants.{Client, Copied}
+use Rattle.exactly_once.proofs.Copying.{copies_so}
 
 -- nothing, or lines of which the last one has ended
 abbrev pub IsWhole : List ℕ → Type 0
@@ -387,12 +391,18 @@ in_text : (mailing : Mailing) (a : PendingLiteral) (text : List ℕ) (mailbox : 
 in_text mailing a text mailbox =
     in_either (is_over mailing.most a.size) (over mailing.most) _ (in_over mailing.most)
     (in_either (list_any (λ b. b == 0) text) (says (response_text texts.NulByte)) _ tt
-    (in_either (nat_le last_number mailing.number) (says (response_text texts.MailboxSpent)) (wanting (ex.Wait [] (ForVerdict mailbox (commands_of.flags_for a.purpose) text))) tt (inl refl, inl refl)))
+    (in_either (nat_le last_number mailing.number) (says (response_text texts.MailboxSpent)) (wanting (ex.Wait [] (ForVerdict Client mailbox (commands_of.flags_for a.purpose) text))) tt (inl refl, inl refl)))
 
 in_rest : (mailing : Mailing) (a : PendingLiteral) (empty : Bool) → SaysWhole (on_rest mailing a empty)
 in_rest mailing a empty =
     in_found _ (says (response_text texts.OutOfMemory))
     (λ (text : List ℕ). in_either empty (on_found (on_text mailing a text) nowhere (commands_of.mailbox_for a.purpose)) (says (response_text texts.InvalidArguments)) (in_found (on_text mailing a text) nowhere (in_text mailing a text) tt (commands_of.mailbox_for a.purpose)) tt) tt a.text
+
+in_copy : (now : Standing) (copy : CopyMessages) → SaysWhole (on_command now (commands.Copy copy))
+in_copy now copy =
+    copies_so SaysWhole
+    (record { told = λ text. tt; wanted = λ x p. (inl refl, p); looked = λ by_uid set next p. p; found = λ uid mark next p. p }) now copy
+    (λ source mailbox row copied. (inl refl, inl refl))
 
 in_notice : (said : Option (List ℕ)) (x : Exchange) → SaysWhole x → SaysWhole (noticing said x)
 in_notice None x whole = whole
@@ -434,6 +444,7 @@ command_whole now (commands.Search search) =
     (λ view. in_chosen (named_in true all_messages view) (λ uids. wanting (searching search (named_at view (last_uid uids)) view (search_done search) uids []))
     (λ uids. (inl refl, in_searching search (named_at view (last_uid uids)) view uids []))) tt) tt now.selected
 command_whole now (commands.Append append) = in_append now.mailing.most now.folders append
+command_whole now (commands.Copy copy) = in_copy now copy
 command_whole now command = in_notice (notice now.profile command) (completed command) tt
 
 -- ---- lines
@@ -500,13 +511,19 @@ converses_whole step (goes_on now between next one others old mid new first seco
 
 -- ---- verdicts
 
-in_verdict : (selected : Option Selected) (mailbox : ℕ) (verdict : Verdict) → SaysWhole (commands_of.on_verdict selected mailbox verdict)
-in_verdict selected mailbox (verdicts.Stored uid) = λ status. in_showing selected _ tt
-in_verdict selected mailbox (verdicts.Refused why) = tt
+in_stored : (selected : Option Selected) (origin : Origin) (uidvalidity uid : ℕ) → SaysWhole (commands_of.told_stored selected origin uidvalidity uid)
+in_stored selected Client uidvalidity uid = in_showing selected _ tt
+in_stored selected (Copied source) uidvalidity uid =
+    in_either source.moves _ _ (ends (codes "* ") (commands_of.moved_words uidvalidity source.uid uid), λ flags. tt) (in_showing selected _ tt)
+
+in_verdict : (selected : Option Selected) (origin : Origin) (mailbox : ℕ) (verdict : Verdict)
+    → SaysWhole (commands_of.on_verdict selected origin mailbox verdict)
+in_verdict selected origin mailbox (verdicts.Stored uid) = λ status. in_stored selected origin status.uidvalidity uid
+in_verdict selected origin mailbox (verdicts.Refused why) = tt
 
 verdict_whole : (sent : Option ex.Sent) (now : Standing) (verdict : Verdict) (answers : List Answer) → TurnWhole (commands_of.turn_with sent now verdict answers)
 verdict_whole None now verdict answers = tt
-verdict_whole (Some sent) now verdict answers = played_whole sent.tag (commands_of.without_sent now) (commands_of.on_verdict now.selected sent.append.mailbox verdict) answers (in_verdict now.selected sent.append.mailbox verdict)
+verdict_whole (Some sent) now verdict answers = played_whole sent.tag (commands_of.without_sent now) (commands_of.on_verdict now.selected sent.origin sent.append.mailbox verdict) answers (in_verdict now.selected sent.origin sent.append.mailbox verdict)
 
 verdict_answered : {S : Type 0} (step : S → Call → Answer → S → Type 0) (now : Standing) (verdict : Verdict) (old new : S) (said : List ℕ) (how : After) (next : Standing) → AnswersVerdict step now verdict old new [] said how next → IsWhole said
 verdict_answered step now verdict old new said how next a = subst IsWhole (sym a.wrote) (some_whole _ _ (verdict_whole now.mailing.sent now verdict a.answers) a.played)

@@ -56,9 +56,9 @@ closed_rises now afters.Submit = same_rises now.mailing now.mailing refl refl
 waiting_rises : (tag : List ℕ) (waits : Waiting) (now : Standing) → NumbersRise now.mailing (waiting tag waits now).mailing
 waiting_rises tag ForDone now = same_rises now.mailing now.mailing refl refl
 waiting_rises tag (ForLiteral coming purpose size) now = same_rises now.mailing (waiting tag (ForLiteral coming purpose size) now).mailing refl refl
-waiting_rises tag (ForVerdict mailbox flags text) now = (
+waiting_rises tag (ForVerdict origin mailbox flags text) now = (
   omega arith,
-  λ s is. let e : record { tag = tag; append = record { message = now.mailing.number; mailbox = mailbox; text = text; flags = flags } } ≡ s = cc in let m : now.mailing.number ≡ s.append.message = ap (λ (x : Sent). x.append.message) e in
+  λ s is. let e : record { tag = tag; append = record { message = now.mailing.number; mailbox = mailbox; text = text; flags = flags }; origin = origin } ≡ s = cc in let m : now.mailing.number ≡ s.append.message = ap (λ (x : Sent). x.append.message) e in
       inr (omega (arith, m), omega (arith, m)),
 )
 waiting_rises tag ForNothing now = same_rises now.mailing now.mailing refl refl
@@ -281,7 +281,7 @@ verdict_rises now verdict answers turn e = of now.mailing.sent e
   where
     of : (sent : Option Sent) → commands_of.turn_with sent now verdict answers ≡ Some turn → now.mailing.number ≤ turn.standing.mailing.number
     of None e = absurd (let x : None ≡ Some turn = e in cc)
-    of (Some sent) e = (some_rises (without_sent now).mailing _ turn (played_rises sent.tag (without_sent now) (on_verdict now.selected sent.append.mailbox verdict) answers) e).0
+    of (Some sent) e = (some_rises (without_sent now).mailing _ turn (played_rises sent.tag (without_sent now) (on_verdict now.selected sent.origin sent.append.mailbox verdict) answers) e).0
 
 -- ---- turns while it idles
 

@@ -18,7 +18,7 @@ use Rattle.laws_client.specs.Talks.{Happening, Line, LongLine, Turned, Literal, 
 use Rattle.laws_client.proofs.IdleTags.{AreTagsOf, Keeps, played_keeps}
 use Rattle.laws_client.proofs.Talking.{happening_keeps_so}
 use Rattle.laws_client.proofs.Turns.{the_turn}
-use Rattle.laws_client.specs.Appends.{IsSentAs, SaysVerdict, TellsOfNone, as_it_is}
+use Rattle.laws_client.specs.Appends.{CameAs, SaysVerdict, TellsOfNone, as_it_is}
 use Rattle.laws_client.specs.Lives.{IsSentFor}
 use Rattle.laws_client.proofs.Out.{Fate, copy_of}
 use Rattle.laws_client.proofs.Submitted.{ComesInTurn, IsBegunAs, Mailed, line_stays, mail_turn, sent_more}
@@ -33,9 +33,9 @@ use Rattle.laws_client.proofs.Moved.{Calls}
 numbers_wait : (base : Mailing) (tag : List ℕ) (now : Standing) (w : Waiting) → NumbersRise base now.mailing → NumbersRise base (waiting tag w now).mailing
 numbers_wait base tag now ForDone k = k
 numbers_wait base tag now (ForLiteral coming purpose size) k = k
-numbers_wait base tag now (ForVerdict mailbox flags text) k = then_rises base now.mailing (waiting tag (ForVerdict mailbox flags text) now).mailing k (
+numbers_wait base tag now (ForVerdict origin mailbox flags text) k = then_rises base now.mailing (waiting tag (ForVerdict origin mailbox flags text) now).mailing k (
   omega arith,
-  λ s is. let e : record { tag = tag; append = record { message = now.mailing.number; mailbox = mailbox; text = text; flags = flags } } ≡ s = cc in let m : now.mailing.number ≡ s.append.message = ap (λ (x : Sent). x.append.message) e in
+  λ s is. let e : record { tag = tag; append = record { message = now.mailing.number; mailbox = mailbox; text = text; flags = flags }; origin = origin } ≡ s = cc in let m : now.mailing.number ≡ s.append.message = ap (λ (x : Sent). x.append.message) e in
       inr (omega (arith, m), omega (arith, m)),
 )
 numbers_wait base tag now ForNothing k = k
@@ -57,7 +57,7 @@ turned_rises k n now answers w turn v e met =
 
 heard_rises : (now : Standing) (verdict : Verdict) (sent : Sent) (answers : List Answer) (turn : Turn) → turn_with (Some sent) now verdict answers ≡ Some turn → NumbersRise (without_sent now).mailing turn.standing.mailing
 heard_rises now verdict sent answers turn e =
-    played_keeps (λ (s : Standing). NumbersRise (without_sent now).mailing s.mailing) sent.tag (numbers_keep (without_sent now).mailing sent.tag) (without_sent now) (on_verdict now.selected sent.append.mailbox verdict) answers turn
+    played_keeps (λ (s : Standing). NumbersRise (without_sent now).mailing s.mailing) sent.tag (numbers_keep (without_sent now).mailing sent.tag) (without_sent now) (on_verdict now.selected sent.origin sent.append.mailbox verdict) answers turn
     (same_numbers (without_sent now).mailing) e
 
 -- ---- what is known of a session's answers
@@ -106,9 +106,9 @@ pub record Noting (uidvalidity : ℕ) (first : Came) (sent : List ℕ) (notes : 
   pub heard : notes noted message
   pub number : noted.key.message ≡ message.append.message
   pub key : noted.key ≡ (copy_of first.seat first.serial message).key
-  pub came : IsSentAs first.standing.folders sent message
+  pub came : CameAs first.standing.folders sent message
   pub chosen : IsWord message.tag
-  pub says : SaysVerdict uidvalidity message.tag noted.verdict bytes
+  pub says : SaysVerdict uidvalidity message.origin message.tag noted.verdict bytes
 
 abbrev pub IsNoted : (uidvalidity : ℕ) → Came → (sent : List ℕ) → (Noted → Sent → Type 0) → List ℕ → Option Noted → Type 0
 IsNoted uidvalidity first sent notes bytes None = TellsOfNone bytes
@@ -180,7 +180,7 @@ no_notes u first notes tags unbegun none = record {
   mail = record {
     same = refl;
     begun = subst (λ (o : Option PendingLiteral). IfSome o (IsBegunAs first.standing.folders [])) (sym unbegun) tt;
-    waits = subst (λ (o : Option Sent). IfSome o (IsSentAs first.standing.folders [])) (sym none) tt;
+    waits = subst (λ (o : Option Sent). IfSome o (CameAs first.standing.folders [])) (sym none) tt;
   };
   order = tt;
   before = tt;
@@ -230,7 +230,7 @@ verdict_turn : (u : ℕ) (first : Came) (sent bytes : List ℕ) (told : List Tol
     → IsWord message.tag → HasHeard first notes verdict message → SaysSent u verdict (bytes_in one) message → AreTagsOf IsWord next → Mailed first.standing.folders (sent ++ bytes) next → NumbersRise (without_sent now).mailing next.mailing
     → Notes u first (sent ++ bytes) (told ++ one ∷ []) next notes
 verdict_turn u first sent bytes told one message verdict now next notes t there word heard says tags mail rises =
-    let own : IsSentAs first.standing.folders sent message = subst (λ (o : Option Sent). IfSome o (IsSentAs first.standing.folders sent)) there t.mail.waits in
+    let own : CameAs first.standing.folders sent message = subst (λ (o : Option Sent). IfSome o (CameAs first.standing.folders sent)) there t.mail.waits in
     let noted : Noted = record { key = record { seat = first.seat; serial = first.serial; message = message.append.message; recipient = 0 }; mailbox = heard.0; verdict = verdict } in
     let answered : List Noted = filter_map as_it_is t.verdicts in
     let more : filter_map as_it_is (t.verdicts ++ Some noted ∷ []) ≡ answered ++ noted ∷ [] = filter_map-append as_it_is t.verdicts (Some noted ∷ []) in

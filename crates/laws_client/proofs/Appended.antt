@@ -1,6 +1,6 @@
 -- What a session tells of the messages that its client appended, over a whole record.
-use Rattle.std.proofs.Common.{◌≡◌, inl, inr, ℕ, true, false, List, [], ◌∷◌, ◌++◌, Contains, refl, sym, ◌∙◌, subst, Option, Some, None}
-use Rattle.std.specs.Prelude.{filter_map}
+use Rattle.std.proofs.Common.{◌≡◌, inl, inr, ℕ, true, false, List, [], ◌∷◌, ◌++◌, Contains, refl, sym, ◌∙◌, subst, Option, Some, None, ap, Bool, ◌⊎◌}
+use Rattle.std.specs.Prelude.{filter_map, ◌||◌}
 use Rattle.std.proofs.lemmas.Bool.{false≢true}
 use Rattle.delivery_token.specs.declared.CopyKey.{CopyKey}
 use Rattle.delivery_token.specs.declared.Job.{Job}
@@ -11,27 +11,36 @@ use Rattle.world.specs.World.{Config, Event, IsWorld, Steps, World}
 use Rattle.world.specs.Law.{StandsOnce, pairs}
 use Rattle.world.proofs.Always.{always}
 use Rattle.world.proofs.Base.{Every, Rising, rising_pair}
-use Rattle.imap_session.specs.Commands.{appended_words}
+use Rattle.imap_session.specs.Commands.{appended_words, copied_words, refused_text}
 use Rattle.imap_session.specs.Telling.{tells_uid}
 use Rattle.imap_session.specs.Exchange as calls
-use Rattle.imap_session.specs.Exchange.{Event as Happened, Sent}
+use Rattle.imap_session.specs.Exchange.{Event as Happened, Sent, refusal_text, tagged}
 use Rattle.exactly_once.proofs.Grown.{heard_stays_heard}
 use Rattle.laws_client.proofs.Talked.{met_hears}
 use Rattle.imap_session.specs.Folders.{folders_of}
 use Rattle.house.specs.Scene.{LeavesMailbox, empty_scene}
 use Rattle.house.specs.Setup.{Setup, session_seat}
-use Rattle.laws_client.specs.Appends.{AppendsWereTold, TellsOfAppends, AnswersNoted, AppendsAreTold, AreAnswered, Author, EndsWith, IsAnswered, SaysVerdict, TellsKept, TellsOfNone, as_it_is, author_at, copy_under}
+use Rattle.laws_client.specs.Appends.{AppendsWereTold, TellsOfAppends, AnswersNoted, AppendsAreTold, AreAnswered, Author, EndsWith, IsAnswered, SaysVerdict, TellsKept, TellsOfNone, as_it_is, author_at, copy_under, CameBy, SaysCopied, last_line, tells_stored, tells_copy, IsCopyOf, SaysMoved, TellsCopied}
 use Rattle.laws_client.specs.Clients.{Told, bytes_in}
 use Rattle.laws_client.specs.ClientRecords.{sent_by_then, shown_by_then}
 use Rattle.laws_client.proofs.Answered.{Came, AreNoted, InTurn, IsNoted, KnownAt, still_noted}
 use Rattle.laws_client.proofs.Entries.{the_client, the_serial}
 use Rattle.laws_client.proofs.RecordKeeping.{KeptBy, kept_by, the_finished, KeepsBy, all_known, arrival_by_then, keeps_by, nobody}
-use Rattle.laws_client.proofs.LastLines.{apart_tells_none, refusal_apart, tags_of_words, words_of_tags}
+use Rattle.laws_client.proofs.LastLines.{apart_tells_none, refusal_apart, tags_of_words, words_of_tags, IsWord}
 use Rattle.laws_client.proofs.LastRests.{no_apart}
-use Rattle.laws_client.proofs.LastWords.{uid_spares}
+use Rattle.laws_client.proofs.LastWords.{uid_spares, row_tells_neither}
 use Rattle.laws_client.proofs.Out.{copy_of, fate_met, fate_step}
 use Rattle.laws_client.proofs.Recording.{Arrival, Finished, came_as}
 use Rattle.laws_client.proofs.Stored.{stored_copy}
+use Rattle.imap_session.specs.declared.standing.Origin.{Origin}
+use Rattle.imap_session.specs.declared.standing.Origin.TheVariants.{Client, Copied}
+use Rattle.imap_session.specs.declared.standing.Source.{Source}
+use Rattle.imap_session.specs.Texts.{response_text}
+use Rattle.imap_session.specs.declared.texts.ResponseText.TheVariants as texts
+use Rattle.imap_grammar.specs.Verbs.{copy_verb}
+use Rattle.mailbox.specs.declared.clients.MailFault.{MailFault}
+use Rattle.delivery_token.specs.declared.Refusal.{Refusal}
+use Rattle.imap_session.specs.declared.texts.ResponseText.{ResponseText}
 
 -- ---- each answer
 
@@ -77,23 +86,75 @@ all_answered k events w place serial a sent (t ∷ ts) (v ∷ vs) came own h = (
 
 -- ---- one that tells a UID
 
-untold : (bytes tag words : List ℕ) → TellsOfNone bytes → EndsWith tag words bytes → tells_uid words ≡ true → ⊥
+-- words of the first kind, and of the second
+uid_stored : (words : List ℕ) → tells_uid words ≡ true → tells_stored words ≡ true
+uid_stored words e = ap (λ (b : Bool). b || tells_copy words) e
+
+copy_stored : (words : List ℕ) → tells_copy words ≡ true → tells_stored words ≡ true
+copy_stored words e = by (tells_uid words)
+  where
+    by : (b : Bool) → (b || tells_copy words) ≡ true
+    by true = refl
+    by false = e
+
+untold : (bytes tag words : List ℕ) → TellsOfNone bytes → EndsWith tag words bytes → tells_stored words ≡ true → ⊥
 untold bytes tag words none ends tells = false≢true (sym (none tag words ends) ∙ tells)
 
--- what was said to a verdict tells a UID where that is stored
-said_kept : (k : Setup) (w : World) (author : Author) (bytes tag words : List ℕ) (noted : Noted) → AnswersNoted k w author bytes noted → EndsWith tag words bytes → tells_uid words ≡ true → TellsKept k w author tag words noted
-said_kept k w author bytes tag words noted h ends tells = by noted.verdict refl h.says
+-- what is said where a message was refused, or the store refuses, tells none
+refusal_untold : (tag : List ℕ) → IsWord tag → (bytes : List ℕ) (why : Refusal) → bytes ≡ tagged tag (response_text (refused_text why))
+    → TellsOfNone bytes
+refusal_untold tag t bytes why s = subst TellsOfNone (sym s) (apart_tells_none tells_stored _ (no_apart tells_stored uid_spares tag t why))
+
+fault_untold : (tag : List ℕ) → IsWord tag → (bytes : List ℕ) (fault : MailFault) → last_line bytes ≡ last_line (refusal_text tag fault)
+    → TellsOfNone bytes
+fault_untold tag t bytes fault s other words ends =
+    apart_tells_none tells_stored (refusal_text tag fault) (refusal_apart tells_stored uid_spares tag t fault) other words
+    (record { chosen = ends.chosen; last = sym s ∙ ends.last })
+
+-- two last lines of one answer have the same words
+same_end : (bytes tag words other said : List ℕ) → EndsWith tag words bytes → EndsWith other said bytes → words ≡ said
+same_end bytes tag words other said a b = words_of_tags tag other words said a.chosen b.chosen (sym a.last ∙ b.last)
+
+-- of a MOVE
+moved_untold : (v uid : ℕ) (source : Source) (tag bytes : List ℕ) → IsWord tag → SaysMoved v uid source tag bytes → TellsOfNone bytes
+moved_untold v uid source tag bytes t s other words ends = by s.ends
   where
-    by : (verdict : Verdict) → noted.verdict ≡ verdict → SaysVerdict k.config.uidvalidity h.message.tag verdict bytes → TellsKept k w author tag words noted
-    by (verdicts.Refused why) e s =
-        absurd (untold bytes tag words (subst TellsOfNone (sym s) (apart_tells_none tells_uid _ (no_apart tells_uid uid_spares h.message.tag h.chosen why))) ends tells)
-    by (verdicts.Stored uid) e (inl s) = record {
+    done : ResponseText
+    done = texts.Completed (copy_verb source.by_uid true)
+
+    by : EndsWith tag (response_text done) bytes ⊎ ((fault : MailFault) × (last_line bytes ≡ last_line (refusal_text tag fault)))
+        → tells_stored words ≡ false
+    by (inl own) = ap tells_stored (same_end bytes other words tag (response_text done) ends own) ∙ row_tells_neither done
+    by (inr (fault, e)) = fault_untold tag t bytes fault e other words ends
+
+-- what was said to a verdict tells a UID where that is stored
+said_kept : (k : Setup) (w : World) (author : Author) (bytes tag words : List ℕ) (noted : Noted) → AnswersNoted k w author bytes noted
+    → EndsWith tag words bytes → tells_uid words ≡ true → TellsKept k w author tag words noted
+said_kept k w author bytes tag words noted h ends tells = by h.message.origin refl h.came noted.verdict refl h.says
+  where
+    none : TellsOfNone bytes → ⊥
+    none n = untold bytes tag words n ends (uid_stored words tells)
+
+    copied : (source : Source) (moves : Bool) (uid : ℕ) → SaysCopied moves k.config.uidvalidity uid source h.message.tag bytes → ⊥
+    copied source true uid s = none (moved_untold k.config.uidvalidity uid source h.message.tag bytes h.chosen s)
+    copied source false uid s =
+        let same : words ≡ copied_words k.config.uidvalidity source.uid uid =
+        same_end bytes tag words h.message.tag (copied_words k.config.uidvalidity source.uid uid) ends s in
+        false≢true (sym (ap tells_uid same) ∙ tells)
+
+    by : (origin : Origin) → h.message.origin ≡ origin → CameBy origin author.folders author.sent h.message → (verdict : Verdict)
+        → noted.verdict ≡ verdict
+        → SaysVerdict k.config.uidvalidity origin h.message.tag verdict bytes → TellsKept k w author tag words noted
+    by origin is came (verdicts.Refused why) e s = absurd (none (refusal_untold h.message.tag h.chosen bytes why s))
+    by (Copied source) is came (verdicts.Stored uid) e (inl s) = absurd (copied source source.moves uid s)
+    by Client is came (verdicts.Stored uid) e (inl s) = record {
       message = h.message;
       number = h.number;
-      came = h.came;
+      origin = is;
+      came = came;
       under = tags_of_words tag h.message.tag words (appended_words k.config.uidvalidity uid) ends.chosen h.chosen (sym ends.last ∙ s.last);
       uid = uid;
-      words = words_of_tags tag h.message.tag words (appended_words k.config.uidvalidity uid) ends.chosen h.chosen (sym ends.last ∙ s.last);
+      words = same_end bytes tag words h.message.tag (appended_words k.config.uidvalidity uid) ends s;
       seat = h.seat;
       own = h.own;
       heard = h.heard;
@@ -102,8 +163,65 @@ said_kept k w author bytes tag words noted h ends tells = by noted.verdict refl 
       mailbox = (h.stored uid e).0;
       copy = (h.stored uid e).1;
     }
-    by (verdicts.Stored uid) e (inr (fault, s)) =
-        absurd (untold bytes tag words (subst TellsOfNone (sym s) (apart_tells_none tells_uid _ (refusal_apart tells_uid uid_spares h.message.tag h.chosen fault))) ends tells)
+    by origin is came (verdicts.Stored uid) e (inr (fault, s)) = absurd (none (fault_untold h.message.tag h.chosen bytes fault (ap last_line s)))
+
+-- or a COPYUID, of a message that was copied
+said_copied : (k : Setup) (w : World) (author : Author) (bytes tag words : List ℕ) (noted : Noted) → AnswersNoted k w author bytes noted
+    → EndsWith tag words bytes → tells_copy words ≡ true → TellsCopied k w author tag words noted
+said_copied k w author bytes tag words noted h ends tells = by h.message.origin refl h.came noted.verdict refl h.says
+  where
+    none : TellsOfNone bytes → ⊥
+    none n = untold bytes tag words n ends (copy_stored words tells)
+
+    copied : (source : Source) → h.message.origin ≡ Copied source → IsCopyOf author.folders author.sent h.message source → (uid : ℕ)
+        → noted.verdict ≡ verdicts.Stored uid
+        → (moves : Bool) → source.moves ≡ moves → SaysCopied moves k.config.uidvalidity uid source h.message.tag bytes
+        → TellsCopied k w author tag words noted
+    copied source is came uid e true moves s = absurd (none (moved_untold k.config.uidvalidity uid source h.message.tag bytes h.chosen s))
+    copied source is came uid e false moves s = record {
+      message = h.message;
+      source = source;
+      number = h.number;
+      origin = is;
+      stays = moves;
+      came = came;
+      under = tags_of_words tag h.message.tag words (copied_words k.config.uidvalidity source.uid uid) ends.chosen h.chosen (sym ends.last ∙ s.last);
+      uid = uid;
+      words = same_end bytes tag words h.message.tag (copied_words k.config.uidvalidity source.uid uid) ends s;
+      seat = h.seat;
+      own = h.own;
+      heard = h.heard;
+      stored = e;
+      once = h.stands uid e;
+      mailbox = (h.stored uid e).0;
+      copy = (h.stored uid e).1;
+    }
+
+    by : (origin : Origin) → h.message.origin ≡ origin → CameBy origin author.folders author.sent h.message → (verdict : Verdict)
+        → noted.verdict ≡ verdict
+        → SaysVerdict k.config.uidvalidity origin h.message.tag verdict bytes → TellsCopied k w author tag words noted
+    by origin is came (verdicts.Refused why) e s = absurd (none (refusal_untold h.message.tag h.chosen bytes why s))
+    by (Copied source) is came (verdicts.Stored uid) e (inl s) = copied source is came uid e source.moves refl s
+    by Client is came (verdicts.Stored uid) e (inl s) =
+        let same : words ≡ appended_words k.config.uidvalidity uid =
+        same_end bytes tag words h.message.tag (appended_words k.config.uidvalidity uid) ends s in
+        absurd (false≢true (sym (ap tells_copy same) ∙ tells))
+    by origin is came (verdicts.Stored uid) e (inr (fault, s)) = absurd (none (fault_untold h.message.tag h.chosen bytes fault (ap last_line s)))
+
+-- the answer at a place among all
+answered_at : (k : Setup) (w : World) (author : Author) (before after : List Told) (one : Told) (verdicts : List (Option Noted))
+    → AreAnswered k w author (before ++ one ∷ after) verdicts
+    → (verdict : Option Noted) × IsAnswered k w author (bytes_in one) verdict
+answered_at k w author [] after one [] h = absurd h
+answered_at k w author [] after one (v ∷ vs) h = (v, h.0)
+answered_at k w author (t ∷ ts) after one [] h = absurd h
+answered_at k w author (t ∷ ts) after one (v ∷ vs) h = answered_at k w author ts after one vs h.1
+
+copied_in : (k : Setup) (w : World) (author : Author) (bytes tag words : List ℕ) (verdict : Option Noted) → IsAnswered k w author bytes verdict
+    → EndsWith tag words bytes → tells_copy words ≡ true
+    → (noted : Noted) × TellsCopied k w author tag words noted
+copied_in k w author bytes tag words None h ends tells = absurd (untold bytes tag words h ends (copy_stored words tells))
+copied_in k w author bytes tag words (Some noted) h ends tells = (noted, said_copied k w author bytes tag words noted h ends tells)
 
 -- an answer that tells a UID was said to a verdict
 record SaidTo (k : Setup) (w : World) (author : Author) (tag words : List ℕ) (Q : Noted → Type 0) : Type 0 where
@@ -113,7 +231,7 @@ record SaidTo (k : Setup) (w : World) (author : Author) (tag words : List ℕ) (
 
 said_to : (k : Setup) (w : World) (author : Author) (bytes tag words : List ℕ) (verdict : Option Noted) (others : List (Option Noted)) (Q : Noted → Type 0) → IsAnswered k w author bytes verdict
     → EndsWith tag words bytes → tells_uid words ≡ true → Every Q (filter_map as_it_is (verdict ∷ others)) → SaidTo k w author tag words Q
-said_to k w author bytes tag words None others Q h ends tells all = absurd (untold bytes tag words h ends tells)
+said_to k w author bytes tag words None others Q h ends tells all = absurd (untold bytes tag words h ends (uid_stored words tells))
 said_to k w author bytes tag words (Some noted) others Q h ends tells all = record { noted = noted; kept = said_kept k w author bytes tag words noted h ends tells; so = all.0 }
 
 others_every : (verdict : Option Noted) (others : List (Option Noted)) (Q : Noted → Type 0) → Every Q (filter_map as_it_is (verdict ∷ others)) → Every Q (filter_map as_it_is others)
@@ -138,7 +256,7 @@ record BothSaid (k : Setup) (w : World) (author : Author) (tag words other_tag o
 first_of_both : (k : Setup) (w : World) (author : Author) (mid after : List Told) (two : Told) (bytes tag words other_tag other_words : List ℕ) (verdict : Option Noted) (others : List (Option Noted)) → IsAnswered k w author bytes verdict
     → AreAnswered k w author (mid ++ two ∷ after) others → EndsWith tag words bytes → tells_uid words ≡ true → EndsWith other_tag other_words (bytes_in two) → tells_uid other_words ≡ true
     → Rising InTurn (filter_map as_it_is (verdict ∷ others)) → BothSaid k w author tag words other_tag other_words
-first_of_both k w author mid after two bytes tag words other_tag other_words None others h more ends tells other_ends other_tells rising = absurd (untold bytes tag words h ends tells)
+first_of_both k w author mid after two bytes tag words other_tag other_words None others h more ends tells other_ends other_tells rising = absurd (untold bytes tag words h ends (uid_stored words tells))
 first_of_both k w author mid after two bytes tag words other_tag other_words (Some noted) others h more ends tells other_ends other_tells rising =
     let s = said_at k w author mid after two other_tag other_words others (InTurn noted) more other_ends other_tells rising.0 in
     record { first = noted; second = s.noted; one = said_kept k w author bytes tag words noted h ends tells; two = s.kept; order = s.so }
@@ -174,6 +292,9 @@ tells_so k events w place serial a sent told verdicts came own noted order =
       kept = λ before after one tag words e ends tells.
           let s = said_at k w author before after one tag words verdicts (λ n. Unit {0}) (subst (λ (told : List Told). AreAnswered k w author told verdicts) e each) ends tells (every_noted (filter_map as_it_is verdicts)) in
           (s.noted, s.kept);
+      copied = λ before after one tag words e ends tells.
+          let a = answered_at k w author before after one verdicts (subst (λ (told : List Told). AreAnswered k w author told verdicts) e each) in
+          copied_in k w author (bytes_in one) tag words a.0 a.1 ends tells;
       apart = λ before mid after one two tag words other_tag other_words e ends tells other_ends other_tells.
           let b = both_said k w author before mid after one two tag words other_tag other_words verdicts (subst (λ (told : List Told). AreAnswered k w author told verdicts) e each) ends tells other_ends other_tells order in
           (b.first, b.second, b.one, b.two, b.order);

@@ -10,7 +10,7 @@ use Rattle.mailbox.specs.declared.clients.Row.{Row}
 use Rattle.imap_grammar.specs.Items.{marks_seen}
 use Rattle.imap_grammar.specs.Reading.{read, is_done}
 use Rattle.imap_grammar.specs.Sets.{named_in, last_uid, named_at}
-use Rattle.imap_grammar.specs.Verbs.{verb_of}
+use Rattle.imap_grammar.specs.Verbs.{verb_of, copy_verb}
 use Rattle.imap_grammar.specs.declared.set.SeqRange.{SeqRange}
 use Rattle.imap_grammar.specs.declared.command.Command.{Command}
 use Rattle.imap_grammar.specs.declared.command.Command.TheVariants as commands
@@ -25,7 +25,7 @@ use Rattle.imap_grammar.specs.declared.command.ImapFault.TheVariants.{NoTag, Unk
 use Rattle.imap_session.specs.declared.standing.After.TheVariants.{Go}
 use Rattle.imap_session.specs.declared.standing.Selected.{Selected}
 use Rattle.imap_session.specs.Exchange.{Answer, PendingLiteral, Exchange, Expunge, Feed, Folder, ForNothing, ForVerdict, Mailing, Sent, Standing, Turn, Wait, Write, bye, kept_behind, tagged, untagged}
-use Rattle.imap_session.specs.Commands.{appended_words, appending, last_number, long_idle_text, long_rest_text, long_text, most_unasked, nowhere, number_named, on_rest, on_text, on_verdict, is_over, over, turn_with, wanting, wanting_for, without_begun, without_sent, completed, counting, expunge_set, fault_text, fetch_messages, fetched, fetching, folder_of, in_selected, in_writable, messages_done, on_chosen, on_command, on_found, on_idle_line, on_read, on_set, only_says, says, showing, store_messages, stored, storing, subscribing, unlimited, wrong_state, arguments_text, asking, coming, logged_in, refused_text, found_in, search_done, search_known, search_messages, searching, on_text_line, flags_for, mailbox_for}
+use Rattle.imap_session.specs.Commands.{appended_words, appending, last_number, long_idle_text, long_rest_text, long_text, most_unasked, nowhere, number_named, on_rest, on_text, on_verdict, is_over, over, turn_with, wanting, wanting_for, without_begun, without_sent, completed, counting, expunge_set, fault_text, fetch_messages, fetched, fetching, folder_of, in_selected, in_writable, messages_done, on_chosen, on_command, on_found, on_idle_line, on_read, on_set, only_says, says, showing, store_messages, stored, storing, subscribing, unlimited, wrong_state, arguments_text, asking, coming, logged_in, refused_text, found_in, search_done, search_known, search_messages, searching, on_text_line, flags_for, mailbox_for, told_stored, moving, copied_words}
 use Rattle.imap_answers.specs.Answers.{flags_answer, list_answer}
 use Rattle.imap_answers.specs.declared.list.Listing.{Listing}
 use Rattle.imap_answers.specs.declared.list.Listing.TheVariants.{All, Subscribed}
@@ -57,6 +57,12 @@ use Rattle.imap_grammar.specs.Keys.{all_messages}
 use Rattle.laws_client.proofs.Sought.{found_tells_nothing}
 use Rattle.imap_session.proofs.Parts.{IsPart, tells_part, ends_part, asks_part, comes_part, challenge_part, is_parting}
 use Rattle.laws_client.proofs.WholeLines.{turn_has, text_has}
+use Rattle.imap_session.specs.declared.standing.Origin.{Origin}
+use Rattle.imap_session.specs.declared.standing.Origin.TheVariants.{Client, Copied}
+use Rattle.imap_session.specs.declared.standing.Source.{Source}
+use Rattle.laws_client.proofs.CopyWords.{copied_plain, moved_tells_nothing}
+use Rattle.exactly_once.proofs.Copying.{copies_so}
+use Rattle.imap_grammar.specs.declared.command.CopyMessages.{CopyMessages}
 
 -- a last line with a text of the table
 last : (tag view : List ℕ) (text : ResponseText) → IsTag tag → Says tag view (says (response_text text))
@@ -250,7 +256,7 @@ rest_says : (tag view : List ℕ) (mailing : Mailing) (a : PendingLiteral) (empt
 rest_says tag view mailing a empty t = kept a.text
   where
     text_says : (big nul spent : Bool) (text : List ℕ) (mailbox : ℕ)
-        → Says tag view (if big then over mailing.most else if nul then says (response_text texts.NulByte) else if spent then says (response_text texts.MailboxSpent) else wanting (Wait [] (ForVerdict mailbox (flags_for a.purpose) text)))
+        → Says tag view (if big then over mailing.most else if nul then says (response_text texts.NulByte) else if spent then says (response_text texts.MailboxSpent) else wanting (Wait [] (ForVerdict Client mailbox (flags_for a.purpose) text)))
     text_says true nul spent text mailbox = over_says tag view mailing.most t
     text_says false true spent text mailbox = last tag view texts.NulByte t
     text_says false false true text mailbox = last tag view texts.MailboxSpent t
@@ -286,11 +292,38 @@ stored_plain uidvalidity uid v u =
       inner = inner_both (front ++ codes "] APPEND complete") (100 ∷ []) (inner_both front (codes "] APPEND complete") inner refl) refl;
     }
 
-verdict_says : (tag view : List ℕ) (selected : Option Selected) (mailbox : ℕ) (verdict : Verdict) → IsTag tag → IsPrinted verdict → Says tag view (on_verdict selected mailbox verdict)
-verdict_says tag view selected mailbox (verdicts.Stored uid) t u = λ status counted.
-    shows_then tag view selected (says (appended_words status.uidvalidity uid))
-    (λ new. leaves new _ (tagged_tells_nothing tag (appended_words status.uidvalidity uid) t (stored_plain status.uidvalidity uid counted.uidvalidity u)))
-verdict_says tag view selected mailbox (verdicts.Refused why) t u = last tag view (refused_text why) t
+-- of a copy, and before and behind a message that is moved
+copied_says : (tag view : List ℕ) (selected : Option Selected) (source : Source) (moves : Bool) (uidvalidity uid : ℕ) → IsTag tag
+    → Says tag view (if moves then moving source uidvalidity uid else showing selected (says (copied_words uidvalidity source.uid uid)))
+copied_says tag view selected source true uidvalidity uid t =
+    (leaves view _ (moved_tells_nothing uidvalidity source.uid uid), λ flags new newer. last tag newer (texts.Completed (copy_verb source.by_uid true)) t)
+copied_says tag view selected source false uidvalidity uid t =
+    shows_then tag view selected (says (copied_words uidvalidity source.uid uid))
+    (λ new. leaves new _ (tagged_tells_nothing tag (copied_words uidvalidity source.uid uid) t (copied_plain uidvalidity source.uid uid)))
+
+told_says : (tag view : List ℕ) (selected : Option Selected) (origin : Origin) (uidvalidity uid : ℕ) → IsTag tag → uidvalidity < 2 ^ 64 → uid < 2 ^ 64
+    → Says tag view (told_stored selected origin uidvalidity uid)
+told_says tag view selected Client uidvalidity uid t v u =
+    shows_then tag view selected (says (appended_words uidvalidity uid))
+    (λ new. leaves new _ (tagged_tells_nothing tag (appended_words uidvalidity uid) t (stored_plain uidvalidity uid v u)))
+told_says tag view selected (Copied source) uidvalidity uid t v u = copied_says tag view selected source source.moves uidvalidity uid t
+
+verdict_says : (tag view : List ℕ) (selected : Option Selected) (origin : Origin) (mailbox : ℕ) (verdict : Verdict) → IsTag tag → IsPrinted verdict
+    → Says tag view (on_verdict selected origin mailbox verdict)
+verdict_says tag view selected origin mailbox (verdicts.Stored uid) t u =
+    λ status counted. told_says tag view selected origin status.uidvalidity uid t counted.uidvalidity u
+verdict_says tag view selected origin mailbox (verdicts.Refused why) t u = last tag view (refused_text why) t
+
+-- COPY and MOVE tell nothing before the verdict
+copy_says : (tag view : List ℕ) (now : Standing) (copy : CopyMessages) → IsTag tag → Says tag view (on_command now (commands.Copy copy))
+copy_says tag view now copy t =
+    copies_so (Says tag view) (record {
+      told = λ text. last tag view text t;
+      wanted = λ x p. (nothing_leaves view, p);
+      looked = λ by_uid set next p. p view;
+      found = λ uid mark next p row is. p row;
+    }) now copy
+    (λ source mailbox row copied. (nothing_leaves view, nothing_leaves view))
 
 -- ---- all of them
 
@@ -324,6 +357,7 @@ command_says tag view now (commands.Fetch fetch) t may = selected_says tag view 
 command_says tag view now (commands.Store store) t may = writable tag view now.selected now (store_messages store) refl t (store_says tag view store t may.numbered)
 command_says tag view now (commands.Search search) t may = selected_says tag view now.selected now (search_known search) refl t (λ selected. search_says tag view search selected t)
 command_says tag view now (commands.Append append) t may = append_says tag view now.mailing.most now.folders append t
+command_says tag view now (commands.Copy copy) t may = copy_says tag view now copy t
 command_says tag view now commands.Capability t may = (leaves view _ (capable_tells_nothing now.profile), last tag view (texts.Completed verbs.Capability) t)
 command_says tag view now commands.Namespace t may = (leaves view _ (λ messages. refl), last tag view (texts.Completed verbs.Namespace) t)
 command_says tag view now commands.Id t may = (leaves view _ (λ messages. refl), last tag view (texts.Completed verbs.Id) t)
@@ -424,8 +458,8 @@ heard_follows : (sent : Option Sent) (now : Standing) (verdict : Verdict) (view 
     → IfSome sent (λ s. IsTag s.tag) → IsPrinted verdict → turn_with sent now verdict answers ≡ Some turn → SeesAll view turn.events new → Leads view turn.bytes new
 heard_follows None now verdict view answers turn new t u e sees = absurd (none-some turn e)
 heard_follows (Some sent) now verdict view answers turn new t u e sees =
-    turn_follows sent.tag (refusals sent.tag t) view (without_sent now) (on_verdict now.selected sent.append.mailbox verdict) answers turn new e
-    (verdict_says sent.tag view now.selected sent.append.mailbox verdict t u) sees
+    turn_follows sent.tag (refusals sent.tag t) view (without_sent now) (on_verdict now.selected sent.origin sent.append.mailbox verdict) answers turn new e
+    (verdict_says sent.tag view now.selected sent.origin sent.append.mailbox verdict t u) sees
 
 pub verdict_is_followed : VerdictIsFollowed
 verdict_is_followed now verdict view answers turn new t u e sees = heard_follows now.mailing.sent now verdict view answers turn new t u e sees

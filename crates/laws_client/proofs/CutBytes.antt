@@ -12,7 +12,7 @@ use Rattle.laws_client.proofs.Bytes.{first_of, rest_of}
 use Rattle.laws_client.proofs.Literals.{count_is}
 use Rattle.laws_client.proofs.LinesRead.{not_a_count}
 use Rattle.laws_client.specs.Cuts.{Cutter, amid, between, cut_byte, cut_end, cut_in_line, cut_line, cuts, is_tagged}
-use Rattle.laws_client.proofs.LastTurns.{decimal_inner}
+use Rattle.laws_client.proofs.Decimals.{decimal_inner}
 
 pub cuts-append : (c : Cutter) (xs ys : List ℕ) → cuts c (xs ++ ys) ≡ cuts (cuts c xs) ys
 cuts-append c [] ys = refl

@@ -32,7 +32,8 @@ use Rattle.laws_client.specs.Cuts.{Cutter, amid, between, cut_line, cuts, is_tag
 use Rattle.laws_client.proofs.CutBytes.{Ends, Passes, both_pass, cuts-append, inner_text, line_end, literal_text, passes_none, whole_line}
 use Rattle.laws_client.proofs.LastLines.{IsWord}
 use Rattle.laws_client.proofs.LastLines.{tag_byte, word_inner as tag_inner}
-use Rattle.laws_client.proofs.LastTurns.{decimal_inner, words_inner}
+use Rattle.laws_client.proofs.Decimals.{decimal_inner}
+use Rattle.laws_client.proofs.LastTurns.{words_inner}
 use Rattle.imap_session.specs.Texts.{response_text, server_text}
 use Rattle.imap_session.specs.declared.texts.ResponseText.{ResponseText}
 use Rattle.laws_client.proofs.TextRows.{row_inner, text_plain, server_inner, server_plain}

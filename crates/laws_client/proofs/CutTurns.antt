@@ -23,7 +23,7 @@ use Rattle.imap_grammar.specs.declared.command.Fetch.{Fetch}
 use Rattle.imap_grammar.specs.declared.command.ImapFault.{ImapFault}
 use Rattle.imap_grammar.specs.declared.command.ImapFault.TheVariants as faults
 use Rattle.imap_grammar.specs.declared.command.Store.{Store}
-use Rattle.imap_grammar.specs.Verbs.{verb_of}
+use Rattle.imap_grammar.specs.Verbs.{verb_of, copy_verb}
 use Rattle.imap_session.specs.declared.standing.After.{After}
 use Rattle.imap_session.specs.declared.standing.After.TheVariants.{Go, Bye}
 use Rattle.imap_session.specs.declared.standing.After.TheVariants as afters
@@ -31,19 +31,19 @@ use Rattle.imap_session.specs.declared.standing.Selected.{Selected}
 use Rattle.imap_session.proofs.Unkept.{unkept_by}
 use Rattle.imap_session.specs.Exchange as ex
 use Rattle.imap_session.specs.Exchange.{Answer, PendingLiteral, Call, Entered, Looked, Found, Counted, Altered, Expunged, Fed, Left, Refused, Starved, Event as Happened, Exchange, Folder, ForVerdict, Mailing, Sent, Standing, Turn, bye, closed, having, is_idling, kept_behind, kept_tag, played, refusal_after, refusal_text, refused, saying, tagged, untagged}
-use Rattle.imap_session.specs.Commands.{appended_words, appending, closing, completed, counting, entering, expunge_set, fetch_messages, fetched, fetching, folder_of, idle_turn_in, if_writable, is_over, last_number, long_rest_text, long_text, messages_done, most_unasked, nowhere, number_named, on_chosen, on_command, on_found, on_idle_line, on_read, on_rest, on_text, on_verdict, over, refused_text, says, showing, store_messages, storing, turn_of, turn_with, unlimited, wanting, wanting_for, without_begun, without_sent, wrong_state, arguments_text, entered_text, logged_in, subscribing, telling_recent, found_in, search_done, search_known, search_messages, searching, on_text_line, flags_for, mailbox_for, wants_response, awaiting_response}
+use Rattle.imap_session.specs.Commands.{appended_words, appending, closing, completed, counting, entering, expunge_set, fetch_messages, fetched, fetching, folder_of, idle_turn_in, if_writable, is_over, last_number, long_rest_text, long_text, messages_done, most_unasked, nowhere, number_named, on_chosen, on_command, on_found, on_idle_line, on_read, on_rest, on_text, on_verdict, over, refused_text, says, showing, store_messages, storing, turn_of, turn_with, unlimited, wanting, wanting_for, without_begun, without_sent, wrong_state, arguments_text, entered_text, logged_in, subscribing, telling_recent, found_in, search_done, search_known, search_messages, searching, on_text_line, flags_for, mailbox_for, wants_response, awaiting_response, told_stored, moving, copied_words, moved_words}
 use Rattle.laws_client.specs.Commands.{AreNames, HasToldParts, whole_line}
 use Rattle.laws_client.specs.Talks.{Happening, Line, LongLine, Turned, Literal, Heard, leads_to}
 use Rattle.laws_client.specs.ListTurns.{IsPlain, is_inner}
 use Rattle.laws_client.proofs.IdleTags.{AreTagsOf}
 use Rattle.laws_client.proofs.Tags.{TaggedOf, read_tagged_so}
 use Rattle.laws_client.proofs.Turns.{the_turn}
-use Rattle.laws_client.proofs.Untold.{folder_plain}
+use Rattle.laws_client.proofs.Untold.{folder_plain, plain_inner}
 use Rattle.laws_client.specs.Cuts.{EndsItself, IsOneAnswer, SaysBye, ends, leaves_open, opens}
 use Rattle.laws_client.proofs.CutBytes.{Ends, Passes, both_pass, passes_none, then_ends}
 use Rattle.laws_client.specs.Fetches.{AreToldParts}
 use Rattle.laws_client.proofs.Parts.{HasTold, read_told}
-use Rattle.laws_client.proofs.CutTexts.{bye_passes, challenge_passes, continuing_passes, text_end, untagged_passes, flags_pass, lines_pass, list_passes, opening_passes, plain_end, row_passes, status_passes, tagged_ends, server_passes, found_passes}
+use Rattle.laws_client.proofs.CutTexts.{bye_passes, challenge_passes, continuing_passes, text_end, untagged_passes, flags_pass, lines_pass, list_passes, opening_passes, plain_end, row_passes, status_passes, tagged_ends, server_passes, found_passes, plain_name, star_passes}
 use Rattle.laws_client.proofs.LastLines.{IsWord}
 use Rattle.laws_client.proofs.LastTurns.{appended_inner}
 use Rattle.imap_session.specs.declared.texts.ResponseText.TheVariants as texts
@@ -62,6 +62,12 @@ use Rattle.imap_grammar.specs.Keys.{all_messages}
 use Rattle.std.proofs.lemmas.Bool.{false≢true}
 use Rattle.imap_session.proofs.Parts.{IsPart, tells_part, ends_part, asks_part, comes_part, challenge_part}
 use Rattle.laws_client.proofs.WholeLines.{turn_has, text_has, whole_turn, said_has}
+use Rattle.imap_session.specs.declared.standing.Origin.{Origin}
+use Rattle.imap_session.specs.declared.standing.Origin.TheVariants.{Client, Copied}
+use Rattle.imap_session.specs.declared.standing.Source.{Source}
+use Rattle.laws_client.proofs.CopyWords.{copied_plain, moved_plain}
+use Rattle.exactly_once.proofs.Copying.{copies_so}
+use Rattle.imap_grammar.specs.declared.command.CopyMessages.{CopyMessages}
 
 -- ---- what is read
 
@@ -387,6 +393,16 @@ append_cut most folders a =
     (passes_none, in_found true _ nowhere (λ (mailbox : ℕ). in_either true (is_over most a.literal.size) (over most) _ (in_over true most) (refl, continuing_passes texts.Ready)) (refl, refl) (number_named a.name folders))
     (in_either true (nat_lt most_unasked a.literal.size) _ _ (refl, bye_passes texts.LiteralTooBig) (refl, passes_none))
 
+copy_cut : (now : Standing) (copy : CopyMessages) → SaysCut true (on_command now (commands.Copy copy))
+copy_cut now copy =
+    copies_so (SaysCut true) (record {
+      told = says_cut true;
+      wanted = λ x p. (passes_none, p);
+      looked = λ by_uid set next p. p;
+      found = λ uid mark next p row short. p row;
+    }) now copy
+    (λ source mailbox row copied. (passes_none, (refl, passes_none)))
+
 command_cut : (now : Standing) (command : Command) → HasToldParts command → AreNames now.folders → SaysCut (leaves_open command) (on_command now command)
 command_cut now commands.Noop told names = in_showing false now.selected (completed commands.Noop) (refl, refl)
 command_cut now commands.Logout told names = (bye_passes texts.LoggingOut, (refl, refl))
@@ -430,6 +446,7 @@ command_cut now (commands.Store store) told names =
     (λ view. in_chosen false (named_in store.by_uid store.set view) _
     (λ uids. in_storing false store view (messages_done (commands.Store store) store.by_uid) (λ gone. in_done false (commands.Store store) store.by_uid gone (says_cut false (texts.Completed (verb_of (commands.Store store))))) uids false))
 command_cut now (commands.Append append) told names = append_cut now.mailing.most now.folders append
+command_cut now (commands.Copy copy) told names = copy_cut now copy
 
 -- a turn says one answer, whatever its tag
 abbrev pub TurnOne : Option Turn → Type 0
@@ -449,7 +466,7 @@ text_cut : (mailing : Mailing) (a : PendingLiteral) (text : List ℕ) (mailbox :
 text_cut mailing a text mailbox =
     in_either true (is_over mailing.most a.size) (over mailing.most) _ (in_over true mailing.most)
     (in_either true (list_any (λ b. b == 0) text) (says (response_text texts.NulByte)) _ (refl, refl)
-    (in_either true (nat_le last_number mailing.number) (says (response_text texts.MailboxSpent)) (wanting (ex.Wait [] (ForVerdict mailbox (flags_for a.purpose) text))) (refl, refl) (passes_none, (refl, passes_none))))
+    (in_either true (nat_le last_number mailing.number) (says (response_text texts.MailboxSpent)) (wanting (ex.Wait [] (ForVerdict Client mailbox (flags_for a.purpose) text))) (refl, refl) (passes_none, (refl, passes_none))))
 
 rest_cut : (mailing : Mailing) (a : PendingLiteral) (empty : Bool) → SaysCut true (on_rest mailing a empty)
 rest_cut mailing a empty =
@@ -535,13 +552,34 @@ idle_cut (Some s) true now ((Starved a) ∷ more) = tt
 appended_end : (v uid : ℕ) → plain_end (reverse (appended_words v uid)) ≡ true
 appended_end v uid = ap plain_end (reverse-append (codes "OK [APPENDUID " ++ decimal v ++ codes " " ++ decimal uid) (codes "] APPEND completed"))
 
-verdict_cut : (selected : Option Selected) (mailbox : ℕ) (verdict : Verdict) → SaysCut true (on_verdict selected mailbox verdict)
-verdict_cut selected mailbox (verdicts.Stored uid) = λ status. in_showing true selected (says (appended_words status.uidvalidity uid)) (appended_inner status.uidvalidity uid, appended_end status.uidvalidity uid)
-verdict_cut selected mailbox (verdicts.Refused why) = says_cut true (refused_text why)
+-- words of a copy
+plain_cut : (words : List ℕ) → IsPlain words → SaysCut true (says words)
+plain_cut words plain = (plain_inner words plain, plain_name words plain)
+
+copied_cut : (selected : Option Selected) (source : Source) (moves : Bool) (uidvalidity uid : ℕ)
+    → SaysCut true (if moves then moving source uidvalidity uid else showing selected (says (copied_words uidvalidity source.uid uid)))
+copied_cut selected source true uidvalidity uid =
+    let plain : IsPlain (moved_words uidvalidity source.uid uid) = moved_plain uidvalidity source.uid uid in (
+      star_passes [] (moved_words uidvalidity source.uid uid) refl (plain_inner _ plain) (plain_name _ plain),
+      λ flags. says_cut true (texts.Completed (copy_verb source.by_uid true)),
+    )
+copied_cut selected source false uidvalidity uid =
+    in_showing true selected (says (copied_words uidvalidity source.uid uid))
+    (plain_cut (copied_words uidvalidity source.uid uid) (copied_plain uidvalidity source.uid uid))
+
+stored_cut : (selected : Option Selected) (origin : Origin) (uidvalidity uid : ℕ) → SaysCut true (told_stored selected origin uidvalidity uid)
+stored_cut selected Client uidvalidity uid =
+    in_showing true selected (says (appended_words uidvalidity uid)) (appended_inner uidvalidity uid, appended_end uidvalidity uid)
+stored_cut selected (Copied source) uidvalidity uid = copied_cut selected source source.moves uidvalidity uid
+
+verdict_cut : (selected : Option Selected) (origin : Origin) (mailbox : ℕ) (verdict : Verdict)
+    → SaysCut true (on_verdict selected origin mailbox verdict)
+verdict_cut selected origin mailbox (verdicts.Stored uid) = λ status. stored_cut selected origin status.uidvalidity uid
+verdict_cut selected origin mailbox (verdicts.Refused why) = says_cut true (refused_text why)
 
 heard_cut : (sent : Option Sent) (now : Standing) (verdict : Verdict) (answers : List Answer) → IfSome sent (λ (s : Sent). IsWord s.tag) → TurnOne (turn_with sent now verdict answers)
 heard_cut None now verdict answers t = tt
-heard_cut (Some sent) now verdict answers t = plain_turn sent.tag t true (without_sent now) (on_verdict now.selected sent.append.mailbox verdict) answers (verdict_cut now.selected sent.append.mailbox verdict)
+heard_cut (Some sent) now verdict answers t = plain_turn sent.tag t true (without_sent now) (on_verdict now.selected sent.origin sent.append.mailbox verdict) answers (verdict_cut now.selected sent.origin sent.append.mailbox verdict)
 
 -- ---- a turn
 

@@ -22,6 +22,7 @@ use Rattle.lmtp_machine.specs.declared.reply.Reply.{Reply}
 use Rattle.lmtp_machine.specs.declared.reply.Reply.TheVariants.{LineTooLong, ShardClosed, TooManyRecipients, RecipientOk, ShuttingDown, SenderOk}
 use Rattle.lmtp_machine.specs.Message.{outcome, plain, sender_text, stored_text}
 use Rattle.lmtp_machine.specs.Dialogue.{Phase, Start, Ready, Transaction, Data, Waiting, Ended, Standing, Setting, Submission, Event, Opened, Line, Starved, Answered, Shut, Turn, turn, dialogue, last_number, cleared, is_dot, on_event, on_mail, on_recipient, on_rcpt, on_data, on_command, on_reading, on_command_line, on_outcome, at_end, on_data_line, on_line, on_starved, on_verdicts, fault_reply}
+use Rattle.imap_session.specs.Commands.{most_return_path}
 
 -- ---- a sender
 
@@ -93,13 +94,9 @@ IsSenderShort (Data sender recipients lines) = length sender ≤ most_sender
 IsSenderShort (Waiting count) = Unit {0}
 IsSenderShort Ended = Unit {0}
 
--- so much longer than the limit a text may be
-abbrev pub most_more : ℕ
-most_more = 337
-
 abbrev pub AreTextsShort : ℕ → List Submission → Type 0
 AreTextsShort limit [] = Unit {0}
-AreTextsShort limit (s ∷ ss) = (length s.text ≤ limit + most_more) × AreTextsShort limit ss
+AreTextsShort limit (s ∷ ss) = (length s.text ≤ limit + most_return_path) × AreTextsShort limit ss
 
 pub record Fine (setting : Setting) (t : Turn) : Type 0 where
   pub sender : IsSenderShort t.standing.phase

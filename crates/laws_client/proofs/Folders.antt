@@ -49,7 +49,7 @@ given_up tag now fault turn e = told now (saying (refusal_text tag fault)) (λ s
 waiting_keeps : (tag : List ℕ) (now : Standing) (w : Waiting) → (waiting tag w now).folders ≡ now.folders
 waiting_keeps tag now ForDone = refl
 waiting_keeps tag now (ForLiteral coming purpose size) = refl
-waiting_keeps tag now (ForVerdict mailbox flags text) = refl
+waiting_keeps tag now (ForVerdict origin mailbox flags text) = refl
 waiting_keeps tag now ForNothing = refl
 
 -- memory is refused to who was to wait
@@ -128,7 +128,7 @@ line_folders now line answers turn e =
 
 heard_keeps : (sent : Option Sent) (now : Standing) (verdict : Verdict) (answers : List Answer) (turn : Turn) → turn_with sent now verdict answers ≡ Some turn → turn.standing.folders ≡ now.folders
 heard_keeps None now verdict answers turn e = absurd (none-some turn e)
-heard_keeps (Some sent) now verdict answers turn e = folders_stay sent.tag (without_sent now) (on_verdict now.selected sent.append.mailbox verdict) answers turn e
+heard_keeps (Some sent) now verdict answers turn e = folders_stay sent.tag (without_sent now) (on_verdict now.selected sent.origin sent.append.mailbox verdict) answers turn e
 
 pub verdict_folders : (now : Standing) (verdict : Verdict) (answers : List Answer) (turn : Turn) → turn_of_verdict now verdict answers ≡ Some turn → turn.standing.folders ≡ now.folders
 verdict_folders now verdict answers turn e = heard_keeps now.mailing.sent now verdict answers turn e

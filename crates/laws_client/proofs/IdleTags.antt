@@ -117,7 +117,7 @@ AreTagsOf P now = IfSome now.idling P × IfSome now.mailing.begun (λ begun. P b
 waiting_keeps : (P : List ℕ → Type 0) → (tag : List ℕ) → P tag → (now : Standing) (w : Waiting) → AreTagsOf P now → AreTagsOf P (waiting tag w now)
 waiting_keeps P tag t now ForDone k = (t, k.1, k.2)
 waiting_keeps P tag t now (ForLiteral coming purpose size) k = (k.0, t, k.2)
-waiting_keeps P tag t now (ForVerdict mailbox flags text) k = (k.0, k.1, t)
+waiting_keeps P tag t now (ForVerdict origin mailbox flags text) k = (k.0, k.1, t)
 waiting_keeps P tag t now ForNothing k = k
 
 tags_keep : (P : List ℕ → Type 0) (tag : List ℕ) → P tag → Keeps (AreTagsOf P) tag
@@ -166,7 +166,7 @@ bytes_keep P now kept bytes k = (k.0, taken_keeps P kept bytes now.mailing.begun
 
 heard_keeps : (P : List ℕ → Type 0) → (sent : Option Sent) (now : Standing) (verdict : Verdict) (answers : List Answer) (turn : Turn) → IfSome sent (λ s. P s.tag) → turn_with sent now verdict answers ≡ Some turn → Kept (AreTagsOf P) turn
 heard_keeps P None now verdict answers turn t e = absurd (none-some turn e)
-heard_keeps P (Some sent) now verdict answers turn t e = played_keeps (AreTagsOf P) sent.tag (tags_keep P sent.tag t) (without_sent now) (on_verdict now.selected sent.append.mailbox verdict) answers turn (tt, tt, tt) e
+heard_keeps P (Some sent) now verdict answers turn t e = played_keeps (AreTagsOf P) sent.tag (tags_keep P sent.tag t) (without_sent now) (on_verdict now.selected sent.origin sent.append.mailbox verdict) answers turn (tt, tt, tt) e
 
 pub verdict_keeps : (P : List ℕ → Type 0) → (now : Standing) (verdict : Verdict) (answers : List Answer) (turn : Turn) → AreTagsOf P now → turn_of_verdict now verdict answers ≡ Some turn → Kept (AreTagsOf P) turn
 verdict_keeps P now verdict answers turn k e = heard_keeps P now.mailing.sent now verdict answers turn k.2 e

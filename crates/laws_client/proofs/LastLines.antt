@@ -226,7 +226,7 @@ IsAloud ForDone = Unit {0}
 IsAloud (ForLiteral Asked purpose size) = Unit {0}
 IsAloud (ForLiteral Unasked purpose size) = ⊥
 IsAloud (ForLiteral Dropped purpose size) = Unit {0}
-IsAloud (ForVerdict mailbox flags text) = Unit {0}
+IsAloud (ForVerdict origin mailbox flags text) = Unit {0}
 IsAloud ForNothing = Unit {0}
 
 -- Whatever the store answers, each piece that it writes is whole lines, and of the last words this tells nothing. It says something where it waits.
@@ -276,8 +276,8 @@ aloud_unkept tells spares tag t (ForLiteral Asked purpose size) now (suc n) p = 
 aloud_unkept tells spares tag t (ForLiteral Unasked purpose size) now n p = absurd p
 aloud_unkept tells spares tag t (ForLiteral Dropped purpose size) now zero p = tt
 aloud_unkept tells spares tag t (ForLiteral Dropped purpose size) now (suc n) p = tt
-aloud_unkept tells spares tag t (ForVerdict mailbox flags text) now zero p = tt
-aloud_unkept tells spares tag t (ForVerdict mailbox flags text) now (suc n) p = tt
+aloud_unkept tells spares tag t (ForVerdict origin mailbox flags text) now zero p = tt
+aloud_unkept tells spares tag t (ForVerdict origin mailbox flags text) now (suc n) p = tt
 aloud_unkept tells spares tag t ForNothing now zero p = tt
 aloud_unkept tells spares tag t ForNothing now (suc n) p = tt
 

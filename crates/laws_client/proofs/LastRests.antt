@@ -1,20 +1,24 @@
 -- How an answer ends that is said behind a literal, or to a line that is too long, or where a message is refused.
-use Rattle.std.proofs.Common.{◌≡◌, inl, ℕ, Bool, true, false, List, [], refl, Option, Some, None, sym, subst, codes}
+use Rattle.std.proofs.Common.{◌≡◌, inl, ℕ, Bool, true, false, List, [], refl, Option, Some, None, sym, subst, codes, inr, ◌∷◌}
 use Rattle.std.specs.Prelude.{IfSome, nat_le, ◌==◌, if◌then◌else◌}
 use Rattle.std.specs.List.{list_any}
 use Rattle.delivery_token.specs.declared.Refusal.{Refusal}
 use Rattle.delivery_token.specs.declared.Refusal.TheVariants as refusals
 use Rattle.imap_session.specs.Exchange as ex
-use Rattle.imap_session.specs.Exchange.{Asked, ForLiteral, bye, Answer, PendingLiteral, Exchange, ForVerdict, Mailing, Standing, played, Argument, Response, continuing, ForNothing, Unasked}
+use Rattle.imap_session.specs.Exchange.{Asked, ForLiteral, bye, Answer, PendingLiteral, Exchange, ForVerdict, Mailing, Standing, played, Argument, Response, continuing, ForNothing, Unasked, Looked, Found, Refused, Call, Turn, having}
 use Rattle.imap_session.specs.Commands.{is_over, last_number, long_rest_text, long_text, nowhere, on_found, on_rest, on_text, over, refused_text, says, turn_of_long_line, wanting, flags_for, mailbox_for}
 use Rattle.laws_client.proofs.IdleTags.{AreTagsOf}
-use Rattle.laws_client.proofs.LastLines.{bye_apart, plus_apart, untagged_apart, Apart, IsWord, SaysApart, Spares, TurnFine, fine, fine_wait, fine_wanting, played_apart, star_apart, tagged_apart}
+use Rattle.laws_client.proofs.LastLines.{bye_apart, plus_apart, untagged_apart, Apart, IsWord, SaysApart, Spares, TurnFine, fine, fine_wait, fine_wanting, played_apart, star_apart, tagged_apart, refused_apart}
 use Rattle.imap_session.specs.declared.texts.ResponseText.{ResponseText}
 use Rattle.imap_session.specs.declared.texts.ResponseText.TheVariants as texts
 use Rattle.imap_session.specs.Texts.{response_text}
 use Rattle.laws_client.proofs.TextRows.{behind}
 use Rattle.std.proofs.lemmas.Bool.{false≢true}
 use Rattle.imap_session.proofs.Parts.{IsPart, tells_part, ends_part, asks_part, comes_part, challenge_part, is_told}
+use Rattle.imap_session.specs.declared.standing.Origin.TheVariants.{Client}
+use Rattle.std.specs.Option.{option_map}
+use Rattle.mailbox.specs.declared.clients.Row.{Row}
+use Rattle.imap_grammar.specs.declared.set.SeqRange.{SeqRange}
 
 -- an exchange that ends so, whatever its tag
 abbrev pub EndsFine : (List ℕ → Bool) → Exchange → Type 0
@@ -31,6 +35,31 @@ found_fine : {A : Type 0} (tells : List ℕ → Bool) (next : A → Exchange) (g
 found_fine tells next gone p q None = q
 found_fine tells next gone p q (Some a) = p a
 
+-- a call that was answered
+having_fine : (tells : List ℕ → Bool) (call : Call) (answer : Answer) (o : Option Turn) → TurnFine tells o
+    → TurnFine tells (option_map (having call answer) o)
+having_fine tells call answer None p = tt
+having_fine tells call answer (Some turn) p = p
+
+-- a set is looked up, and a message is read
+pub look_fine : (tells : List ℕ → Bool) → Spares tells → (by_uid : Bool) (set : List SeqRange) (next : List ℕ → Exchange)
+    → ((view : List ℕ) → EndsFine tells (next view))
+    → EndsFine tells (ex.Look by_uid set next)
+look_fine tells spares by_uid set next p tag t now [] = tt
+look_fine tells spares by_uid set next p tag t now (Looked view ∷ more) =
+    having_fine tells (ex.Look by_uid set) (Looked view) (played tag now (next view) more) (p view tag t now more)
+look_fine tells spares by_uid set next p tag t now (Refused fault ∷ []) = inr (refused_apart tells spares tag t now fault)
+look_fine tells spares by_uid set next p tag t now (_ ∷ more) = tt
+
+pub row_fine : (tells : List ℕ → Bool) → Spares tells → (uid : ℕ) (mark : Bool) (next : Option Row → Exchange)
+    → ((row : Option Row) → EndsFine tells (next row))
+    → EndsFine tells (ex.Read uid mark next)
+row_fine tells spares uid mark next p tag t now [] = tt
+row_fine tells spares uid mark next p tag t now (Found row ∷ more) =
+    having_fine tells (ex.Read uid mark) (Found row) (played tag now (next row) more) (p row tag t now more)
+row_fine tells spares uid mark next p tag t now (Refused fault ∷ []) = inr (refused_apart tells spares tag t now fault)
+row_fine tells spares uid mark next p tag t now (_ ∷ more) = tt
+
 over_apart : (tells : List ℕ → Bool) → Spares tells → (most : Option ℕ) → SaysApart tells (over most)
 over_apart tells spares None = (refl, spares.no (behind 3 texts.NotOffered))
 over_apart tells spares (Some most) = (refl, spares.no (behind 3 texts.MessageTooBig))
@@ -41,9 +70,9 @@ text_fine : (tells : List ℕ → Bool) → Spares tells → (mailing : Mailing)
 text_fine tells spares mailing a text mailbox =
     either_fine tells (is_over mailing.most a.size) (over mailing.most) _ (says_fine tells spares (over mailing.most) (over_apart tells spares mailing.most))
     (either_fine tells (list_any (λ b. b == 0) text) (says (response_text texts.NulByte)) _ (says_fine tells spares (says (response_text texts.NulByte)) (refl, spares.no (behind 3 texts.NulByte)))
-    (either_fine tells (nat_le last_number mailing.number) (says (response_text texts.MailboxSpent)) (wanting (ex.Wait [] (ForVerdict mailbox (flags_for a.purpose) text)))
+    (either_fine tells (nat_le last_number mailing.number) (says (response_text texts.MailboxSpent)) (wanting (ex.Wait [] (ForVerdict Client mailbox (flags_for a.purpose) text)))
     (says_fine tells spares (says (response_text texts.MailboxSpent)) (refl, spares.no (behind 3 texts.MailboxSpent)))
-    (λ tag t now answers. fine_wanting tells spares tag t now (ex.Wait [] (ForVerdict mailbox (flags_for a.purpose) text)) (fine_wait tells spares tag t now (ForVerdict mailbox (flags_for a.purpose) text)) answers)))
+    (λ tag t now answers. fine_wanting tells spares tag t now (ex.Wait [] (ForVerdict Client mailbox (flags_for a.purpose) text)) (fine_wait tells spares tag t now (ForVerdict Client mailbox (flags_for a.purpose) text)) answers)))
 
 pub rest_fine : (tells : List ℕ → Bool) → Spares tells → (mailing : Mailing) (a : PendingLiteral) (empty : Bool) → EndsFine tells (on_rest mailing a empty)
 rest_fine tells spares mailing a empty =
@@ -88,9 +117,9 @@ long_line_apart tells spares now k = long_apart tells spares now.mailing.begun n
 
 -- ---- a message that was refused
 
-refused_apart : (tells : List ℕ → Bool) → Spares tells → (why : Refusal) → SaysApart tells (says (response_text (refused_text why)))
-refused_apart tells spares refusals.Full = (refl, spares.no (behind 3 texts.ShardFull))
-refused_apart tells spares why = (refl, spares.no (behind 3 (refused_text why)))
+reason_apart : (tells : List ℕ → Bool) → Spares tells → (why : Refusal) → SaysApart tells (says (response_text (refused_text why)))
+reason_apart tells spares refusals.Full = (refl, spares.no (behind 3 texts.ShardFull))
+reason_apart tells spares why = (refl, spares.no (behind 3 (refused_text why)))
 
 pub no_apart : (tells : List ℕ → Bool) → Spares tells → (tag : List ℕ) → IsWord tag → (why : Refusal) → Apart tells (ex.tagged tag (response_text (refused_text why)))
-no_apart tells spares tag t why = let w = refused_apart tells spares why in tagged_apart tells tag (response_text (refused_text why)) t w.0 w.1
+no_apart tells spares tag t why = let w = reason_apart tells spares why in tagged_apart tells tag (response_text (refused_text why)) t w.0 w.1

@@ -1,9 +1,7 @@
 -- What a turn of a session says last: to a verdict that a message is stored its UID, and to nothing else one.
-use Rattle.std.proofs.Common.{◌≡◌, ◌⊎◌, inl, inr, ℕ, zero, suc, ◌+◌, Bool, true, false, List, [], ◌∷◌, ◌++◌, length, refl, sym, ap, ◌∙◌, subst, arith, append-nil, append_assoc, Option, Some, None}
-use Rattle.std.specs.Prelude.{codes, decimal, IfSome, nat_lt, ◌==◌, ◌/◌, ◌%◌, if◌then◌else◌}
-use Rattle.std.specs.Fmt.{digits, digits_onto, digit_glyph}
+use Rattle.std.proofs.Common.{◌≡◌, ◌⊎◌, inl, inr, ℕ, ◌+◌, Bool, true, false, List, [], ◌∷◌, ◌++◌, length, refl, sym, ap, ◌∙◌, subst, append-nil, append_assoc, Option, Some, None}
+use Rattle.std.specs.Prelude.{codes, decimal, IfSome, if◌then◌else◌}
 use Rattle.std.specs.List.{list_all}
-use Rattle.std.proofs.lemmas.Bool.{ne_eqb}
 use Rattle.std.proofs.lemmas.List.Folds.{list_all-append}
 use Rattle.std.proofs.lemmas.Option.{none-some}
 use Rattle.line_io.specs.Wire.{crlf}
@@ -19,51 +17,35 @@ use Rattle.world.specs.World.{Config, World}
 use Rattle.imap_session.specs.declared.standing.After.TheVariants.{Go}
 use Rattle.imap_session.specs.declared.standing.Selected.{Selected}
 use Rattle.imap_session.specs.Exchange as ex
-use Rattle.imap_session.specs.Exchange.{Answer, Entered, Looked, Found, Counted, Altered, Expunged, Fed, Left, Refused, Starved, Count, Feed, Sent, Standing, Turn, bye, having, is_idling, played, refused, saying}
-use Rattle.imap_session.specs.Commands.{appended_words, idle_turn_in, on_verdict, refused_text, says, showing, turn_of, turn_with, unlimited, without_sent}
+use Rattle.imap_session.specs.Exchange.{Answer, Entered, Looked, Found, Counted, Altered, Expunged, Fed, Left, Refused, Starved, Count, Feed, Sent, Standing, Turn, bye, having, is_idling, played, refused, saying, refusal_text, tagged, untagged}
+use Rattle.imap_session.specs.Commands.{appended_words, idle_turn_in, on_verdict, refused_text, says, showing, turn_of, turn_with, unlimited, without_sent, told_stored, moving, copied_words, moved_words}
 use Rattle.imap_session.specs.Store.{Met}
-use Rattle.exactly_once.proofs.Whole.{line_whole, lines_whole}
+use Rattle.exactly_once.proofs.Whole.{line_whole, lines_whole, IsWhole, ends, whole_append}
 use Rattle.laws_client.specs.ListTurns.{is_inner}
 use Rattle.laws_client.specs.Talks.{Happening, Line, LongLine, Turned, Literal, Heard, leads_to}
 use Rattle.laws_client.proofs.Bytes.{both}
 use Rattle.laws_client.proofs.IdleTags.{AreTagsOf}
 use Rattle.laws_client.proofs.LinesRead.{flags_inner, flags_part}
 use Rattle.laws_client.proofs.Turns.{the_turn}
-use Rattle.laws_client.proofs.Untold.{inner_both}
-use Rattle.imap_session.specs.Telling.{tells_uid}
-use Rattle.laws_client.specs.Appends.{EndsWith, SaysVerdict, TellsOfNone}
+use Rattle.laws_client.proofs.Untold.{inner_both, plain_inner}
+use Rattle.laws_client.specs.Appends.{EndsWith, SaysVerdict, TellsOfNone, SaysCopied, SaysMoved, last_line, tells_stored}
 use Rattle.laws_client.proofs.RecordEntering.{mapped, only_done, only_refused}
-use Rattle.laws_client.proofs.LastLines.{Apart, IsWord, TurnFine, apart_tells_none, behind_lines, bye_apart, ends_tagged, silence_tells_none, untagged_apart}
+use Rattle.laws_client.proofs.LastLines.{Apart, IsWord, TurnFine, apart_tells_none, behind_lines, bye_apart, ends_tagged, silence_tells_none, untagged_apart, last_is, refusal_apart}
 use Rattle.laws_client.proofs.LastRests.{long_line_apart}
 use Rattle.laws_client.proofs.LastWords.{line_fine, uid_spares}
 use Rattle.laws_client.proofs.Moved.{Calls}
 use Rattle.imap_session.specs.declared.texts.ResponseText.TheVariants as texts
 use Rattle.imap_session.specs.Texts.{response_text}
 use Rattle.imap_session.specs.declared.texts.ResponseText.{ResponseText}
-
--- ---- numbers stand within lines, however long
-
-glyph_inner : (d : ℕ) → is_inner (digit_glyph false d) ≡ true
-glyph_inner d = by (nat_lt d 10)
-  where
-    by : (b : Bool) → is_inner (if b then 48 + d else 87 + d) ≡ true
-    by true = rw (ne_eqb (48 + d) 10 (λ e. omega (arith, e))) refl
-    by false = rw (ne_eqb (87 + d) 10 (λ e. omega (arith, e))) refl
-
-digits_inner : (k n : ℕ) (acc : List ℕ) → list_all is_inner acc ≡ true → list_all is_inner (digits_onto k 10 false n acc) ≡ true
-digits_inner zero n acc h = h
-digits_inner (suc k) n acc h =
-    let more : list_all is_inner (digit_glyph false (n % 10) ∷ acc) ≡ true = rw (glyph_inner (n % 10), h) refl in
-    by (n / 10 == 0) more (digits_inner k (n / 10) (digit_glyph false (n % 10) ∷ acc) more)
-  where
-    by : (b : Bool) → list_all is_inner (digit_glyph false (n % 10) ∷ acc) ≡ true → list_all is_inner (digits_onto k 10 false (n / 10) (digit_glyph false (n % 10) ∷ acc)) ≡ true
-        → list_all is_inner (if b then digit_glyph false (n % 10) ∷ acc else digits_onto k 10 false (n / 10) (digit_glyph false (n % 10) ∷ acc)) ≡ true
-    by true last more = last
-    by false last more = more
-
-pub decimal_inner : (n : ℕ) → list_all is_inner (decimal n) ≡ true
-unfolding digits
-decimal_inner n = digits_inner 64 n [] refl
+use Rattle.imap_session.specs.declared.standing.Origin.{Origin}
+use Rattle.imap_session.specs.declared.standing.Origin.TheVariants.{Client, Copied}
+use Rattle.imap_session.specs.declared.standing.Source.{Source}
+use Rattle.imap_grammar.specs.Verbs.{copy_verb}
+use Rattle.laws_client.proofs.CopyWords.{copied_plain}
+use Rattle.mailbox.specs.declared.clients.MailFault.{MailFault}
+use Rattle.laws_client.proofs.Moves.{EndsSo, Moves, move_done, move_refused, moves_so}
+use Rattle.laws_client.proofs.Decimals.{decimal_inner}
+use Rattle.laws_client.proofs.TextRows.{row_inner}
 
 -- ---- lines of changes
 
@@ -128,18 +110,20 @@ idle_fine tells (Some s) true now ((Starved a) ∷ more) = tt
 
 -- ---- what tells no UID
 
-tells_none : (bytes : List ℕ) → IsFine tells_uid bytes → TellsOfNone bytes
-tells_none bytes (inl e) = silence_tells_none tells_uid bytes e
-tells_none bytes (inr p) = apart_tells_none tells_uid bytes p
+tells_none : (bytes : List ℕ) → IsFine tells_stored bytes → TellsOfNone bytes
+tells_none bytes (inl e) = silence_tells_none tells_stored bytes e
+tells_none bytes (inr p) = apart_tells_none tells_stored bytes p
 
-some_tells_none : (o : Option Turn) (turn : Turn) → TurnFine tells_uid o → o ≡ Some turn → TellsOfNone turn.bytes
-some_tells_none o turn p e = tells_none turn.bytes (subst (TurnFine tells_uid) e p)
+some_tells_none : (o : Option Turn) (turn : Turn) → TurnFine tells_stored o → o ≡ Some turn → TellsOfNone turn.bytes
+some_tells_none o turn p e = tells_none turn.bytes (subst (TurnFine tells_stored) e p)
 
 -- ---- the OK
 
 -- a store that refused
-refused_says : (uidvalidity uid : ℕ) (tag : List ℕ) (call : ex.Call) (now : Standing) (fault : _) (turn : Turn) → Some (having call (Refused fault) (refused tag now fault)) ≡ Some turn → SaysVerdict uidvalidity tag (verdicts.Stored uid) turn.bytes
-refused_says uidvalidity uid tag call now fault turn e =
+refused_says : (uidvalidity uid : ℕ) (origin : Origin) (tag : List ℕ) (call : ex.Call) (now : Standing) (fault : _) (turn : Turn)
+    → Some (having call (Refused fault) (refused tag now fault)) ≡ Some turn
+    → SaysVerdict uidvalidity origin tag (verdicts.Stored uid) turn.bytes
+refused_says uidvalidity uid origin tag call now fault turn e =
     let only = only_refused tag now fault (refused tag now fault) refl in
     inr (fault, sym (ap (λ (x : Turn). x.bytes) (ap (the_turn turn) e)) ∙ only.bytes)
 
@@ -149,44 +133,112 @@ appended_inner v uid =
     (inner_both (codes "OK [APPENDUID " ++ decimal v ++ codes " ") (decimal uid)
     (inner_both (codes "OK [APPENDUID " ++ decimal v) (codes " ") (inner_both (codes "OK [APPENDUID ") (decimal v) refl (decimal_inner v)) refl) (decimal_inner uid)) refl
 
--- what is pending is shown, where a mailbox is selected, and then the last line is said
-shows_then : (v uid : ℕ) (tag : List ℕ) → IsWord tag → (selected : Option Selected) (now : Standing) (answers : List Answer) (turn : Turn) → played tag now (showing selected (says (appended_words v uid))) answers ≡ Some turn
-    → SaysVerdict v tag (verdicts.Stored uid) turn.bytes
-shows_then v uid tag t None now answers turn e =
-    let d = only_done tag (appended_words v uid) Go now answers turn e in
-    inl (subst (EndsWith tag (appended_words v uid)) (sym d.bytes) (ends_tagged [] tag (appended_words v uid) (inl refl) t (appended_inner v uid)))
-shows_then v uid tag t (Some s) now [] turn e = absurd (none-some turn e)
-shows_then v uid tag t (Some s) now (Fed view changes ∷ more) turn e =
-    let m = mapped (λ (x : Turn). having (Feed unlimited) (Fed view changes) (saying (lines view changes) x)) (played tag now (says (appended_words v uid)) more) turn e in
-    let d = only_done tag (appended_words v uid) Go now more m.more m.is in
-    inl (subst (EndsWith tag (appended_words v uid)) (sym (ap (λ (b : List ℕ). lines view changes ++ b) d.bytes) ∙ ap (λ (x : Turn). x.bytes) m.makes)
-    (ends_tagged (lines view changes) tag (appended_words v uid) (lines_whole view changes) t (appended_inner v uid)))
-shows_then v uid tag t (Some s) now (Refused fault ∷ []) turn e = refused_says v uid tag (Feed unlimited) now fault turn e
-shows_then v uid tag t (Some s) now (_ ∷ more) turn e = absurd (none-some turn e)
+-- what is pending is shown, where a mailbox is selected, and then these last words are said
+shows_then : (tag words : List ℕ) → IsWord tag → list_all is_inner words ≡ true
+    → (selected : Option Selected) (now : Standing) (answers : List Answer) (turn : Turn)
+    → played tag now (showing selected (says words)) answers ≡ Some turn
+    → EndsWith tag words turn.bytes ⊎ ((fault : MailFault) × (turn.bytes ≡ refusal_text tag fault))
+shows_then tag words t inner None now answers turn e =
+    let d = only_done tag words Go now answers turn e in
+    inl (subst (EndsWith tag words) (sym d.bytes) (ends_tagged [] tag words (inl refl) t inner))
+shows_then tag words t inner (Some s) now [] turn e = absurd (none-some turn e)
+shows_then tag words t inner (Some s) now (Fed view changes ∷ more) turn e =
+    let m =
+    mapped (λ (x : Turn). having (Feed unlimited) (Fed view changes) (saying (lines view changes) x)) (played tag now (says words) more) turn e in
+    let d = only_done tag words Go now more m.more m.is in
+    inl (subst (EndsWith tag words) (sym (ap (λ (b : List ℕ). lines view changes ++ b) d.bytes) ∙ ap (λ (x : Turn). x.bytes) m.makes)
+    (ends_tagged (lines view changes) tag words (lines_whole view changes) t inner))
+shows_then tag words t inner (Some s) now (Refused fault ∷ []) turn e =
+    let only = only_refused tag now fault (refused tag now fault) refl in
+    inr (fault, sym (ap (λ (x : Turn). x.bytes) (ap (the_turn turn) e)) ∙ only.bytes)
+shows_then tag words t inner (Some s) now (_ ∷ more) turn e = absurd (none-some turn e)
+
+-- behind whole lines the last line is the same
+last_behind : (lines tag : List ℕ) (fault : MailFault) → IsWhole lines → IsWord tag
+    → last_line (lines ++ refusal_text tag fault) ≡ last_line (refusal_text tag fault)
+last_behind lines tag fault whole t =
+    let p : Apart tells_stored (refusal_text tag fault) = refusal_apart tells_stored uid_spares tag t fault in
+    ap (λ (x : List ℕ). last_line (lines ++ x)) p.is ∙ ap last_line (sym (append_assoc lines p.front (p.last ++ crlf)))
+    ∙ last_is (lines ++ p.front) p.last (whole_append lines p.front whole p.whole) p.inner ∙ sym
+    (ap last_line p.is ∙ last_is p.front p.last p.whole p.inner)
+
+-- a message that is moved
+moves_says : (v uid : ℕ) (source : Source) (tag : List ℕ) → IsWord tag → (now : Standing) (answers : List Answer) (turn : Turn)
+    → played tag now (moving source v uid) answers ≡ Some turn → SaysMoved v uid source tag turn.bytes
+moves_says v uid source tag t now answers turn e = by (moves_so v uid source tag now answers turn e)
+  where
+    first : List ℕ
+    first = untagged (moved_words v source.uid uid)
+
+    first_whole : IsWhole first
+    first_whole = ends (codes "* ") (moved_words v source.uid uid)
+
+    done : List ℕ
+    done = response_text (texts.Completed (copy_verb source.by_uid true))
+
+    ends_so : (more : Turn) → turn.bytes ≡ first ++ more.bytes → EndsSo tag done more
+        → EndsWith tag done turn.bytes ⊎ ((fault : MailFault) × (last_line turn.bytes ≡ last_line (refusal_text tag fault)))
+    ends_so more bytes (move_done front whole is fed) =
+        let all : turn.bytes ≡ (first ++ front) ++ tagged tag done =
+        bytes ∙ ap (λ (b : List ℕ). first ++ b) is ∙ sym (append_assoc first front (tagged tag done)) in
+        inl
+        (subst (EndsWith tag done) (sym all)
+        (ends_tagged (first ++ front) tag done (whole_append first front first_whole whole) t (row_inner (texts.Completed (copy_verb source.by_uid true)))))
+    ends_so more bytes (move_refused front whole fault is) =
+        let all : turn.bytes ≡ (first ++ front) ++ refusal_text tag fault =
+        bytes ∙ ap (λ (b : List ℕ). first ++ b) is ∙ sym (append_assoc first front (refusal_text tag fault)) in
+        inr (fault, ap last_line all ∙ last_behind (first ++ front) tag fault (whole_append first front first_whole whole) t)
+
+    by : Moves v uid source tag turn → SaysMoved v uid source tag turn.bytes
+    by m = record { behind = m.more.bytes; tells = m.bytes; ends = ends_so m.more m.bytes m.ends }
+
+copies_says : (v uid : ℕ) (source : Source) (moves : Bool) (tag : List ℕ) → IsWord tag
+    → (selected : Option Selected) (now : Standing) (answers : List Answer) (turn : Turn)
+    → played tag now (if moves then moving source v uid else showing selected (says (copied_words v source.uid uid))) answers ≡ Some turn
+    → SaysCopied moves v uid source tag turn.bytes ⊎ ((fault : MailFault) × (turn.bytes ≡ refusal_text tag fault))
+copies_says v uid source true tag t selected now answers turn e = inl (moves_says v uid source tag t now answers turn e)
+copies_says v uid source false tag t selected now answers turn e =
+    shows_then tag (copied_words v source.uid uid) t
+    (plain_inner (copied_words v source.uid uid) (copied_plain v source.uid uid)) selected now answers turn e
+
+told_says : (v uid : ℕ) (origin : Origin) (tag : List ℕ) → IsWord tag
+    → (selected : Option Selected) (now : Standing) (answers : List Answer) (turn : Turn)
+    → played tag now (told_stored selected origin v uid) answers ≡ Some turn
+    → SaysVerdict v origin tag (verdicts.Stored uid) turn.bytes
+told_says v uid Client tag t selected now answers turn e = shows_then tag (appended_words v uid) t (appended_inner v uid) selected now answers turn e
+told_says v uid (Copied source) tag t selected now answers turn e = copies_says v uid source source.moves tag t selected now answers turn e
 
 -- the mailbox is counted first, for the house's UIDVALIDITY
-stored_says : (k : Config) (n mailbox uid : ℕ) (tag : List ℕ) → IsWord tag → (selected : Option Selected) (now : Standing) (w : World) (answers : List Answer) (turn : Turn) (v : World)
-    → played tag now (on_verdict selected mailbox (verdicts.Stored uid)) answers ≡ Some turn → Met (Calls k n) w turn.events v → SaysVerdict k.uidvalidity tag (verdicts.Stored uid) turn.bytes
-stored_says k n mailbox uid tag t selected now w [] turn v e met = absurd (none-some turn e)
-stored_says k n mailbox uid tag t selected now w (Counted status ∷ more) turn v e met =
-    let m = mapped (having (Count mailbox) (Counted status)) (played tag now (showing selected (says (appended_words status.uidvalidity uid))) more) turn e in
-    let first : Met (Calls k n) w (record { call = Count mailbox; answer = Counted status } ∷ m.more.events) v = subst (λ (x : Turn). Met (Calls k n) w x.events v) (sym m.makes) met in
+stored_says : (k : Config) (n : ℕ) (origin : Origin) (mailbox uid : ℕ) (tag : List ℕ) → IsWord tag
+    → (selected : Option Selected) (now : Standing) (w : World) (answers : List Answer) (turn : Turn) (v : World)
+    → played tag now (on_verdict selected origin mailbox (verdicts.Stored uid)) answers ≡ Some turn → Met (Calls k n) w turn.events v
+    → SaysVerdict k.uidvalidity origin tag (verdicts.Stored uid) turn.bytes
+stored_says k n origin mailbox uid tag t selected now w [] turn v e met = absurd (none-some turn e)
+stored_says k n origin mailbox uid tag t selected now w (Counted status ∷ more) turn v e met =
+    let m = mapped (having (Count mailbox) (Counted status)) (played tag now (told_stored selected origin status.uidvalidity uid) more) turn e in
+    let first : Met (Calls k n) w (record { call = Count mailbox; answer = Counted status } ∷ m.more.events) v =
+    subst (λ (x : Turn). Met (Calls k n) w x.events v) (sym m.makes) met in
     let validity : status.uidvalidity ≡ k.uidvalidity = first.1.3 in
-    subst (λ (x : Turn). SaysVerdict k.uidvalidity tag (verdicts.Stored uid) x.bytes) m.makes
-    (subst (λ (x : ℕ). SaysVerdict x tag (verdicts.Stored uid) m.more.bytes) validity (shows_then status.uidvalidity uid tag t selected now more m.more m.is))
-stored_says k n mailbox uid tag t selected now w (Refused fault ∷ []) turn v e met = refused_says k.uidvalidity uid tag (Count mailbox) now fault turn e
-stored_says k n mailbox uid tag t selected now w (_ ∷ more) turn v e met = absurd (none-some turn e)
+    subst (λ (x : Turn). SaysVerdict k.uidvalidity origin tag (verdicts.Stored uid) x.bytes) m.makes
+    (subst (λ (x : ℕ). SaysVerdict x origin tag (verdicts.Stored uid) m.more.bytes) validity (told_says status.uidvalidity uid origin tag t selected now more m.more m.is))
+stored_says k n origin mailbox uid tag t selected now w (Refused fault ∷ []) turn v e met =
+    refused_says k.uidvalidity uid origin tag (Count mailbox) now fault turn e
+stored_says k n origin mailbox uid tag t selected now w (_ ∷ more) turn v e met = absurd (none-some turn e)
 
-verdict_says : (k : Config) (n mailbox : ℕ) (verdict : Verdict) (tag : List ℕ) → IsWord tag → (selected : Option Selected) (now : Standing) (w : World) (answers : List Answer) (turn : Turn) (v : World)
-    → played tag now (on_verdict selected mailbox verdict) answers ≡ Some turn → Met (Calls k n) w turn.events v → SaysVerdict k.uidvalidity tag verdict turn.bytes
-verdict_says k n mailbox (verdicts.Stored uid) tag t selected now w answers turn v e met = stored_says k n mailbox uid tag t selected now w answers turn v e met
-verdict_says k n mailbox (verdicts.Refused why) tag t selected now w answers turn v e met = (only_done tag (response_text (refused_text why)) Go now answers turn e).bytes
+verdict_says : (k : Config) (n : ℕ) (origin : Origin) (mailbox : ℕ) (verdict : Verdict) (tag : List ℕ) → IsWord tag
+    → (selected : Option Selected) (now : Standing) (w : World) (answers : List Answer) (turn : Turn) (v : World)
+    → played tag now (on_verdict selected origin mailbox verdict) answers ≡ Some turn → Met (Calls k n) w turn.events v
+    → SaysVerdict k.uidvalidity origin tag verdict turn.bytes
+verdict_says k n origin mailbox (verdicts.Stored uid) tag t selected now w answers turn v e met =
+    stored_says k n origin mailbox uid tag t selected now w answers turn v e met
+verdict_says k n origin mailbox (verdicts.Refused why) tag t selected now w answers turn v e met =
+    (only_done tag (response_text (refused_text why)) Go now answers turn e).bytes
 
 -- ---- a turn
 
 -- what is said to a verdict, of a session that waits for one
 abbrev pub SaysSent : (uidvalidity : ℕ) → Verdict → List ℕ → Sent → Type 0
-SaysSent uidvalidity verdict bytes sent = SaysVerdict uidvalidity sent.tag verdict bytes
+SaysSent uidvalidity verdict bytes sent = SaysVerdict uidvalidity sent.origin sent.tag verdict bytes
 
 abbrev pub TurnTells : (uidvalidity : ℕ) → Standing → Happening → List ℕ → Type 0
 TurnTells uidvalidity now (Heard verdict answers) bytes = IfSome now.mailing.sent (SaysSent uidvalidity verdict bytes)
@@ -195,11 +247,11 @@ TurnTells uidvalidity now happening bytes = TellsOfNone bytes
 heard_tells : (k : Config) (n : ℕ) (sent : Option Sent) (now : Standing) (verdict : Verdict) (w : World) (answers : List Answer) (turn : Turn) (v : World) → IfSome sent (λ (s : Sent). IsWord s.tag)
     → turn_with sent now verdict answers ≡ Some turn → Met (Calls k n) w turn.events v → IfSome sent (SaysSent k.uidvalidity verdict turn.bytes)
 heard_tells k n None now verdict w answers turn v t e met = tt
-heard_tells k n (Some sent) now verdict w answers turn v t e met = verdict_says k n sent.append.mailbox verdict sent.tag t now.selected (without_sent now) w answers turn v e met
+heard_tells k n (Some sent) now verdict w answers turn v t e met = verdict_says k n sent.origin sent.append.mailbox verdict sent.tag t now.selected (without_sent now) w answers turn v e met
 
 pub turn_tells : (k : Config) (n : ℕ) (now : Standing) (happening : Happening) (w : World) (turn : Turn) (v : World) → AreTagsOf IsWord now → leads_to now happening ≡ Some turn → Met (Calls k n) w turn.events v → TurnTells k.uidvalidity now happening turn.bytes
 turn_tells k n now (Line line answers) w turn v t e met = some_tells_none (turn_of now line answers) turn (line_fine now line answers t) e
-turn_tells k n now LongLine w turn v t e met = subst (λ (x : Turn). TellsOfNone x.bytes) (ap (the_turn turn) e) (apart_tells_none tells_uid _ (long_line_apart tells_uid uid_spares now t))
-turn_tells k n now (Turned answers) w turn v t e met = some_tells_none (idle_turn_in now.selected (is_idling now) now answers) turn (idle_fine tells_uid now.selected (is_idling now) now answers) e
-turn_tells k n now (Literal kept bytes) w turn v t e met = subst (λ (x : Turn). TellsOfNone x.bytes) (ap (the_turn turn) e) (silence_tells_none tells_uid [] refl)
+turn_tells k n now LongLine w turn v t e met = subst (λ (x : Turn). TellsOfNone x.bytes) (ap (the_turn turn) e) (apart_tells_none tells_stored _ (long_line_apart tells_stored uid_spares now t))
+turn_tells k n now (Turned answers) w turn v t e met = some_tells_none (idle_turn_in now.selected (is_idling now) now answers) turn (idle_fine tells_stored now.selected (is_idling now) now answers) e
+turn_tells k n now (Literal kept bytes) w turn v t e met = subst (λ (x : Turn). TellsOfNone x.bytes) (ap (the_turn turn) e) (silence_tells_none tells_stored [] refl)
 turn_tells k n now (Heard verdict answers) w turn v t e met = heard_tells k n now.mailing.sent now verdict w answers turn v t.2 e met

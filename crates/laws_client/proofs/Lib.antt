@@ -35,6 +35,9 @@ pub mod RecordKnown
 pub mod Living
 pub mod RecordCurrent
 mod LastLines
+mod Decimals
+mod CopyWords
+mod Moves
 mod LastRests
 mod LastWords
 mod LastTurns

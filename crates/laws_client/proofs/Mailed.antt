@@ -27,7 +27,7 @@ use Rattle.imap_session.specs.declared.standing.After.TheVariants as afters
 use Rattle.imap_session.specs.declared.standing.Selected.{Selected}
 use Rattle.imap_session.specs.Exchange.{Answer, Entered, Looked, Found, Counted, Altered, Expunged, Fed, Left, Refused, Starved, Exchange, ForDone, ForLiteral, ForVerdict, ForNothing, Done, Wait, Write, Put, Enter, Look, Read, Count, Alter, Expunge, Feed, Leave, Folder, Mailing, Standing, Turn, PendingLiteral, Sent, Waiting, closed, having, played, refusal_after, refusal_text, refused, saying, tagged, waiting, unkept, Asked, Dropped, Unasked, bye}
 use Rattle.imap_session.proofs.Unkept.{unkept_by}
-use Rattle.imap_session.specs.Commands.{appending, closing, completed, counting, entering, expunge_set, fault_text, fetch_messages, fetched, fetching, folder_of, idle_turn_in, if_writable, in_writable, is_over, kept_text, last_number, messages_done, most_unasked, nowhere, number_named, on_chosen, on_command, on_folder, on_found, on_idle_line, on_read, on_rest, on_set, on_text, on_verdict, only_says, over, says, selecting, showing, store_messages, stored, storing, taking, turn_of, turn_of_long_line, turn_of_verdict, turn_with, unlimited, wanting, wanting_for, with_bytes, without_begun, without_sent, wrong_state, asking, coming, entered_text, logged_in, subscribing, telling_recent, found_in, search_done, search_known, search_messages, searching, on_text_line, flags_for, mailbox_for}
+use Rattle.imap_session.specs.Commands.{appending, closing, completed, counting, entering, expunge_set, fault_text, fetch_messages, fetched, fetching, folder_of, idle_turn_in, if_writable, in_writable, is_over, kept_text, last_number, messages_done, most_unasked, nowhere, number_named, on_chosen, on_command, on_folder, on_found, on_idle_line, on_read, on_rest, on_set, on_text, on_verdict, only_says, over, says, selecting, showing, store_messages, stored, storing, taking, turn_of, turn_of_long_line, turn_of_verdict, turn_with, unlimited, wanting, wanting_for, with_bytes, without_begun, without_sent, wrong_state, asking, coming, entered_text, logged_in, subscribing, telling_recent, found_in, search_done, search_known, search_messages, searching, on_text_line, flags_for, mailbox_for, told_stored, moving, copied_words, most_copied, most_return_path}
 use Rattle.delivery_token.specs.declared.Verdict.{Verdict}
 use Rattle.delivery_token.specs.declared.Verdict.TheVariants as verdicts
 use Rattle.laws_client.proofs.Turns.{the_turn}
@@ -42,18 +42,22 @@ use Rattle.imap_grammar.specs.declared.view.Named.{Named}
 use Rattle.imap_grammar.specs.Keys.{all_messages}
 use Rattle.imap_session.proofs.Parts.{text_line_has, IsPart, tells_part, ends_part, asks_part, comes_part, challenge_part}
 use Rattle.laws_client.proofs.WholeLines.{turn_has}
+use Rattle.imap_session.specs.declared.standing.Origin.{Origin}
+use Rattle.imap_session.specs.declared.standing.Origin.TheVariants.{Client, Copied}
+use Rattle.imap_grammar.specs.declared.command.CopyMessages.{CopyMessages}
+use Rattle.exactly_once.proofs.Copying.{copies_so}
 
--- what it has of messages: of one that is announced no more than was, and of one that was submitted no more than it takes
+-- What it has of messages: of one that is announced no more than was, and of one that was submitted no more than it takes, and the line of a return path.
 pub record IsMailShort (most : ℕ) (m : Mailing) : Type 0 where
   pub takes : m.most ≡ Some most
   pub begun : IfSome m.begun (λ a. IfSome a.text (λ text. length text + a.due ≤ a.size))
-  pub sent : IfSome m.sent (λ sent. length sent.append.text ≤ most)
+  pub sent : IfSome m.sent (λ sent. length sent.append.text ≤ most + most_return_path)
 
 abbrev pub Kept : ℕ → Turn → Type 0
 Kept most turn = IsMailShort most turn.standing.mailing
 
 abbrev WaitFits : ℕ → Waiting → Type 0
-WaitFits most (ForVerdict mailbox flags text) = length text ≤ most
+WaitFits most (ForVerdict origin mailbox flags text) = length text ≤ most + most_return_path
 WaitFits most w = Unit {0}
 
 -- wherever a message is submitted it is no longer than that
@@ -96,7 +100,7 @@ waiting_keeps most tag now ForDone p k = k
 waiting_keeps most tag now (ForLiteral Asked purpose size) p k = record { takes = k.takes; begun = omega arith; sent = k.sent }
 waiting_keeps most tag now (ForLiteral Unasked purpose size) p k = record { takes = k.takes; begun = omega arith; sent = k.sent }
 waiting_keeps most tag now (ForLiteral Dropped purpose size) p k = record { takes = k.takes; begun = tt; sent = k.sent }
-waiting_keeps most tag now (ForVerdict mailbox flags text) p k = record { takes = k.takes; begun = k.begun; sent = p }
+waiting_keeps most tag now (ForVerdict origin mailbox flags text) p k = record { takes = k.takes; begun = k.begun; sent = p }
 waiting_keeps most tag now ForNothing p k = k
 
 -- memory is refused to who was to wait
@@ -226,47 +230,54 @@ fit_append most o folders a =
     (λ mailbox. fit_if most (is_over o a.literal.size) (over o) (asking mailbox a.flags a.literal.size) (fit_over most o) tt) tt)
     (fit_if most (nat_lt most_unasked a.literal.size) (Wait (bye (response_text texts.LiteralTooBig)) ForNothing) (coming (number_named a.name folders) a.flags a.literal.size) tt tt)
 
-fit_command : (most : ℕ) (now : Standing) (command : Command) → TextsFit most (on_command now command)
-fit_command most now commands.Noop = fit_showing most now.selected (completed commands.Noop) tt
-fit_command most now (commands.Select name) = fit_selecting most now false name
-fit_command most now (commands.Examine name) = fit_selecting most now true name
-fit_command most now (commands.List reference pattern) = fit_showing most now.selected (completed (commands.List reference pattern)) tt
-fit_command most now (commands.Lsub reference pattern) = fit_showing most now.selected (completed (commands.Lsub reference pattern)) tt
-fit_command most now (commands.Subscribe name) = fit_subscribing most now.folders name (commands.Subscribe name)
-fit_command most now (commands.Unsubscribe name) = fit_subscribing most now.folders name (commands.Unsubscribe name)
-fit_command most now commands.Check = fit_showing most now.selected (completed commands.Check) tt
-fit_command most now (commands.Status name items) =
+over_most : (most : ℕ) (o : Option ℕ) (size : ℕ) → o ≡ Some most → is_over o size ≡ false → size ≤ most
+over_most most o size e h = not_over most size (sym (ap (λ (x : Option ℕ). is_over x size) e) ∙ h)
+
+fit_copy : (most : ℕ) (now : Standing) (copy : CopyMessages) → now.mailing.most ≡ Some most → TextsFit most (on_command now (commands.Copy copy))
+fit_copy most now copy takes =
+    copies_so (TextsFit most)
+    (record { told = λ text. tt; wanted = λ x p. p; looked = λ by_uid set next p. p; found = λ uid mark next p. p }) now copy
+    (λ source mailbox row copied. over_most (most + most_return_path) (most_copied now.mailing.most) (length row.text) (ap most_copied takes) copied.fits)
+
+fit_command : (most : ℕ) (now : Standing) (command : Command) → now.mailing.most ≡ Some most → TextsFit most (on_command now command)
+fit_command most now commands.Noop takes = fit_showing most now.selected (completed commands.Noop) tt
+fit_command most now (commands.Select name) takes = fit_selecting most now false name
+fit_command most now (commands.Examine name) takes = fit_selecting most now true name
+fit_command most now (commands.List reference pattern) takes = fit_showing most now.selected (completed (commands.List reference pattern)) tt
+fit_command most now (commands.Lsub reference pattern) takes = fit_showing most now.selected (completed (commands.Lsub reference pattern)) tt
+fit_command most now (commands.Subscribe name) takes = fit_subscribing most now.folders name (commands.Subscribe name)
+fit_command most now (commands.Unsubscribe name) takes = fit_subscribing most now.folders name (commands.Unsubscribe name)
+fit_command most now commands.Check takes = fit_showing most now.selected (completed commands.Check) tt
+fit_command most now (commands.Status name items) takes =
     fit_found most (counting now.selected name items) (says (response_text texts.NoSuchMailbox)) (folder_of name now.folders) (λ folder status. fit_showing most now.selected (completed (commands.Status name items)) tt) tt
-fit_command most now commands.Close = fit_found most (λ (selected : Selected). Leave (not selected.read_only) (completed commands.Close)) wrong_state now.selected (λ s. tt) tt
-fit_command most now commands.Unselect = fit_found most (λ (selected : Selected). Leave false (completed commands.Unselect)) wrong_state now.selected (λ s. tt) tt
-fit_command most now commands.Expunge = fit_writable most now (Expunge None (Feed unlimited (completed commands.Expunge))) tt
-fit_command most now (commands.UidExpunge set) =
+fit_command most now commands.Close takes = fit_found most (λ (selected : Selected). Leave (not selected.read_only) (completed commands.Close)) wrong_state now.selected (λ s. tt) tt
+fit_command most now commands.Unselect takes = fit_found most (λ (selected : Selected). Leave false (completed commands.Unselect)) wrong_state now.selected (λ s. tt) tt
+fit_command most now commands.Expunge takes = fit_writable most now (Expunge None (Feed unlimited (completed commands.Expunge))) tt
+fit_command most now (commands.UidExpunge set) takes =
     fit_writable most now (expunge_set set) (fit_chosen most true set (λ view uids. wanting_for uids (Expunge (Some uids) (Feed unlimited (completed (commands.UidExpunge set))))) (λ view. elim [ [] ↦ tt | uid ∷ uids ↦ tt ]))
-fit_command most now (commands.Fetch fetch) = fit_found most (fetch_messages fetch) wrong_state now.selected
+fit_command most now (commands.Fetch fetch) takes = fit_found most (fetch_messages fetch) wrong_state now.selected
     (λ (selected : Selected). fit_chosen most fetch.by_uid fetch.set
     (λ view uids. fetching fetch (list_any marks_seen fetch.items && not selected.read_only) view (messages_done (commands.Fetch fetch) fetch.by_uid) uids false)
     (λ view uids. fit_fetching most fetch (list_any marks_seen fetch.items && not selected.read_only) view (messages_done (commands.Fetch fetch) fetch.by_uid) uids false (λ b. fit_messages most (commands.Fetch fetch) fetch.by_uid b))) tt
-fit_command most now (commands.Search search) =
+fit_command most now (commands.Search search) takes =
     fit_found most (search_known search) wrong_state now.selected
     (λ s. fit_if most search.known_charset (search_messages search) (says (response_text texts.BadCharset))
     (fit_chosen most true all_messages (λ view uids. wanting (searching search (named_at view (last_uid uids)) view (search_done search) uids []))
     (λ view uids. fit_searching most search (named_at view (last_uid uids)) view uids [])) tt) tt
-fit_command most now (commands.Store store) = fit_writable most now (store_messages store)
+fit_command most now (commands.Store store) takes = fit_writable most now (store_messages store)
     (fit_chosen most store.by_uid store.set (λ view uids. storing store view (messages_done (commands.Store store) store.by_uid) uids false)
     (λ view uids. fit_storing most store view (messages_done (commands.Store store) store.by_uid) uids false (λ b. fit_messages most (commands.Store store) store.by_uid b)))
-fit_command most now (commands.Append append) = fit_append most now.mailing.most now.folders append
-fit_command most now _ = tt
+fit_command most now (commands.Append append) takes = fit_append most now.mailing.most now.folders append
+fit_command most now (commands.Copy copy) takes = fit_copy most now copy takes
+fit_command most now _ takes = tt
 
 -- ---- what stands behind a literal
-
-over_most : (most : ℕ) (o : Option ℕ) (size : ℕ) → o ≡ Some most → is_over o size ≡ false → size ≤ most
-over_most most o size e h = not_over most size (sym (ap (λ (x : Option ℕ). is_over x size) e) ∙ h)
 
 fit_rest : (most : ℕ) (mailing : Mailing) (a : PendingLiteral) (empty : Bool) → mailing.most ≡ Some most → IfSome a.text (λ text. length text + a.due ≤ a.size) → TextsFit most (on_rest mailing a empty)
 fit_rest most mailing a empty takes short = kept a.text short
   where
     by : (text : List ℕ) (mailbox : ℕ) (x y z : Bool) → is_over mailing.most a.size ≡ x → length text + a.due ≤ a.size
-        → TextsFit most (if x then over mailing.most else if y then says (response_text texts.NulByte) else if z then says (response_text texts.MailboxSpent) else wanting (Wait [] (ForVerdict mailbox (flags_for a.purpose) text)))
+        → TextsFit most (if x then over mailing.most else if y then says (response_text texts.NulByte) else if z then says (response_text texts.MailboxSpent) else wanting (Wait [] (ForVerdict Client mailbox (flags_for a.purpose) text)))
     by text mailbox true y z e few = fit_over most mailing.most
     by text mailbox false true z e few = tt
     by text mailbox false false true e few = tt
@@ -288,9 +299,17 @@ fit_rest most mailing a empty takes short = kept a.text short
 fit_idle_line : (most : ℕ) (selected : Option Selected) (line : List ℕ) → TextsFit most (on_idle_line selected line)
 fit_idle_line most selected line = fit_if most (is_done line) (showing selected (completed commands.Idle)) (says (response_text texts.ExpectedDone)) (fit_showing most selected (completed commands.Idle) tt) tt
 
-fit_verdict : (most : ℕ) (selected : Option Selected) (mailbox : ℕ) (verdict : Verdict) → TextsFit most (on_verdict selected mailbox verdict)
-fit_verdict most selected mailbox (verdicts.Stored uid) = λ status. fit_showing most selected _ tt
-fit_verdict most selected mailbox (verdicts.Refused why) = tt
+fit_stored : (most : ℕ) (selected : Option Selected) (origin : Origin) (uidvalidity uid : ℕ)
+    → TextsFit most (told_stored selected origin uidvalidity uid)
+fit_stored most selected Client uidvalidity uid = fit_showing most selected _ tt
+fit_stored most selected (Copied source) uidvalidity uid =
+    fit_if most source.moves (moving source uidvalidity uid) (showing selected (says (copied_words uidvalidity source.uid uid))) (λ flags. tt)
+    (fit_showing most selected _ tt)
+
+fit_verdict : (most : ℕ) (selected : Option Selected) (origin : Origin) (mailbox : ℕ) (verdict : Verdict)
+    → TextsFit most (on_verdict selected origin mailbox verdict)
+fit_verdict most selected origin mailbox (verdicts.Stored uid) = λ status. fit_stored most selected origin status.uidvalidity uid
+fit_verdict most selected origin mailbox (verdicts.Refused why) = tt
 
 -- ---- lines, literals and verdicts
 
@@ -301,7 +320,7 @@ fault_keeps most now text (answer ∷ more) turn k e = absurd (none-some turn e)
 read_keeps : (most : ℕ) (now : Standing) (r : Result (List ℕ × Command) ImapFault) (answers : List Answer) (turn : Turn) → IsMailShort most now.mailing → on_read now r answers ≡ Some turn → Kept most turn
 read_keeps most now (Ok line) answers turn k e =
     line_case (Kept most turn) now line.0 line.1 answers turn (λ logs d. mail_stays most line.0 (logged_in now) (completed line.1) answers turn tt k d)
-    (λ text is d. mail_stays most line.0 now (says (response_text text)) answers turn tt k d) (λ d. mail_stays most line.0 now (on_command now line.1) answers turn (fit_command most now line.1) k d) e
+    (λ text is d. mail_stays most line.0 now (says (response_text text)) answers turn tt k d) (λ d. mail_stays most line.0 now (on_command now line.1) answers turn (fit_command most now line.1 k.takes) k d) e
 read_keeps most now (Err fault) answers turn k e = fault_keeps most now (fault_text now.profile fault) answers turn k e
 
 -- a line that isn't whole yet, or is given up
@@ -322,7 +341,7 @@ none_begun most now k = record { takes = k.takes; begun = tt; sent = k.sent }
 heard_keeps : (most : ℕ) (sent : Option Sent) (now : Standing) (verdict : Verdict) (answers : List Answer) (turn : Turn) → IsMailShort most now.mailing → turn_with sent now verdict answers ≡ Some turn → Kept most turn
 heard_keeps most None now verdict answers turn k e = absurd (none-some turn e)
 heard_keeps most (Some sent) now verdict answers turn k e =
-    mail_stays most sent.tag (without_sent now) (on_verdict now.selected sent.append.mailbox verdict) answers turn (fit_verdict most now.selected sent.append.mailbox verdict) (record { takes = k.takes; begun = tt; sent = tt }) e
+    mail_stays most sent.tag (without_sent now) (on_verdict now.selected sent.origin sent.append.mailbox verdict) answers turn (fit_verdict most now.selected sent.origin sent.append.mailbox verdict) (record { takes = k.takes; begun = tt; sent = tt }) e
 
 pub line_mail : (most : ℕ) (now : Standing) (line : List ℕ) (answers : List Answer) (turn : Turn) → IsMailShort most now.mailing → turn_of now line answers ≡ Some turn → Kept most turn
 line_mail most now line answers turn k e =

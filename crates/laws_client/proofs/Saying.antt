@@ -13,7 +13,7 @@ use Rattle.imap_answers.specs.declared.list.Listing.{Listing}
 use Rattle.imap_answers.specs.declared.list.Listing.TheVariants.{All, Subscribed}
 use Rattle.imap_grammar.specs.Reading.{read, is_done}
 use Rattle.imap_grammar.specs.Sets.{named_in, last_uid, named_at}
-use Rattle.imap_grammar.specs.Verbs.{verb_of}
+use Rattle.imap_grammar.specs.Verbs.{verb_of, copy_verb}
 use Rattle.imap_grammar.specs.declared.set.SeqRange.{SeqRange}
 use Rattle.imap_grammar.specs.declared.command.Command.{Command}
 use Rattle.imap_grammar.specs.declared.command.Command.TheVariants as commands
@@ -27,7 +27,7 @@ use Rattle.imap_grammar.specs.declared.command.ImapFault.{ImapFault}
 use Rattle.imap_session.specs.declared.standing.After.TheVariants.{Go}
 use Rattle.imap_session.specs.declared.standing.Selected.{Selected}
 use Rattle.imap_session.specs.Exchange.{Alter, Altered, Answer, PendingLiteral, Exchange, Expunge, Feed, Folder, ForNothing, ForVerdict, Found, Mailing, Read, Sent, Standing, Turn, Wait, Write, bye, kept_behind}
-use Rattle.imap_session.specs.Commands.{turn_of, turn_of_verdict, appended_words, appending, last_number, most_unasked, nowhere, number_named, on_rest, on_text, on_verdict, is_over, over, turn_with, wanting, wanting_for, without_begun, without_sent, completed, counting, expunge_set, fault_text, fetch_messages, fetched, fetching, folder_of, in_selected, in_writable, messages_done, on_chosen, on_command, on_found, on_idle_line, on_read, on_set, only_says, says, showing, store_messages, stored, storing, subscribing, unlimited, wrong_state, asking, coming, logged_in, refused_text, found_in, search_done, search_known, search_messages, searching, on_text_line, flags_for, mailbox_for}
+use Rattle.imap_session.specs.Commands.{turn_of, turn_of_verdict, appended_words, appending, last_number, most_unasked, nowhere, number_named, on_rest, on_text, on_verdict, is_over, over, turn_with, wanting, wanting_for, without_begun, without_sent, completed, counting, expunge_set, fault_text, fetch_messages, fetched, fetching, folder_of, in_selected, in_writable, messages_done, on_chosen, on_command, on_found, on_idle_line, on_read, on_set, only_says, says, showing, store_messages, stored, storing, subscribing, unlimited, wrong_state, asking, coming, logged_in, refused_text, found_in, search_done, search_known, search_messages, searching, on_text_line, flags_for, mailbox_for, told_stored, moving, copied_words}
 use Rattle.laws_client.specs.ListTurns.{IsPlain, IsTag}
 use Rattle.laws_client.specs.Fetches.{AreToldParts, IsNumbered}
 use Rattle.laws_client.specs.Commands.{AreNames, IsFollowed, IsPrinted, MayAnswer, MayAsk, MayCome}
@@ -56,6 +56,12 @@ use Rattle.imap_grammar.specs.Keys.{all_messages}
 use Rattle.laws_client.proofs.Sought.{found_tells_nothing}
 use Rattle.imap_session.proofs.Parts.{IsPart, tells_part, ends_part, asks_part, comes_part, challenge_part, is_parting}
 use Rattle.laws_client.proofs.WholeLines.{turn_has, text_has}
+use Rattle.imap_session.specs.declared.standing.Origin.{Origin}
+use Rattle.imap_session.specs.declared.standing.Origin.TheVariants.{Client, Copied}
+use Rattle.imap_session.specs.declared.standing.Source.{Source}
+use Rattle.laws_client.proofs.CopyWords.{copied_plain, moved_tells_nothing}
+use Rattle.exactly_once.proofs.Copying.{copies_so}
+use Rattle.imap_grammar.specs.declared.command.CopyMessages.{CopyMessages}
 
 pub refusals : (tag : List ℕ) → IsTag tag → Refusals tag
 refusals tag t p fault = leaves p _ (refusal_tells_nothing tag fault t)
@@ -271,7 +277,7 @@ rest_says : (tag : List ℕ) (p : Point) (mailing : Mailing) (a : PendingLiteral
 rest_says tag p mailing a empty t = kept a.text
   where
     text_says : (big nul spent : Bool) (text : List ℕ) (mailbox : ℕ)
-        → SaysFlags tag p (if big then over mailing.most else if nul then says (response_text texts.NulByte) else if spent then says (response_text texts.MailboxSpent) else wanting (Wait [] (ForVerdict mailbox (flags_for a.purpose) text)))
+        → SaysFlags tag p (if big then over mailing.most else if nul then says (response_text texts.NulByte) else if spent then says (response_text texts.MailboxSpent) else wanting (Wait [] (ForVerdict Client mailbox (flags_for a.purpose) text)))
     text_says true nul spent text mailbox = over_says tag p mailing.most t
     text_says false true spent text mailbox = last tag p texts.NulByte t
     text_says false false true text mailbox = last tag p texts.MailboxSpent t
@@ -290,11 +296,38 @@ rest_says tag p mailing a empty t = kept a.text
     kept None = last tag p texts.OutOfMemory t
     kept (Some text) = ended empty text
 
-verdict_says : (tag : List ℕ) (p : Point) (selected : Option Selected) (mailbox : ℕ) (verdict : Verdict) → IsTag tag → IsPrinted verdict → SaysFlags tag p (on_verdict selected mailbox verdict)
-verdict_says tag p selected mailbox (verdicts.Stored uid) t u = λ status r s.
-    shows_then tag r selected (says (appended_words status.uidvalidity uid))
-    (λ q. leaves q _ (tagged_tells_nothing tag (appended_words status.uidvalidity uid) t (stored_plain status.uidvalidity uid s.sees.fits.uidvalidity u)))
-verdict_says tag p selected mailbox (verdicts.Refused why) t u = last tag p (refused_text why) t
+-- COPY and MOVE tell nothing before the verdict
+copy_says : (tag : List ℕ) (now : Standing) (copy : CopyMessages) → IsTag tag → (p : Point) → SaysFlags tag p (on_command now (commands.Copy copy))
+copy_says tag now copy t =
+    copies_so (λ x. (p : Point) → SaysFlags tag p x) (record {
+      told = λ text p. last tag p text t;
+      wanted = λ x h p. (nothing_leaves p, h p);
+      looked = λ by_uid set next h p copied q sees. h copied q;
+      found = λ uid mark next h p row q sees. h row q;
+    }) now copy
+    (λ source mailbox row copied p. (nothing_leaves p, nothing_leaves p))
+
+-- of a copy, and before and behind a message that is moved
+copied_says : (tag : List ℕ) (p : Point) (selected : Option Selected) (source : Source) (moves : Bool) (uidvalidity uid : ℕ) → IsTag tag
+    → SaysFlags tag p (if moves then moving source uidvalidity uid else showing selected (says (copied_words uidvalidity source.uid uid)))
+copied_says tag p selected source true uidvalidity uid t =
+    (leaves p _ (moved_tells_nothing uidvalidity source.uid uid), λ flags r sees q newer. last tag newer (texts.Completed (copy_verb source.by_uid true)) t)
+copied_says tag p selected source false uidvalidity uid t =
+    shows_then tag p selected (says (copied_words uidvalidity source.uid uid))
+    (λ q. leaves q _ (tagged_tells_nothing tag (copied_words uidvalidity source.uid uid) t (copied_plain uidvalidity source.uid uid)))
+
+told_says : (tag : List ℕ) (p : Point) (selected : Option Selected) (origin : Origin) (uidvalidity uid : ℕ) → IsTag tag → uidvalidity < 2 ^ 64
+    → uid < 2 ^ 64 → SaysFlags tag p (told_stored selected origin uidvalidity uid)
+told_says tag p selected Client uidvalidity uid t v u =
+    shows_then tag p selected (says (appended_words uidvalidity uid))
+    (λ q. leaves q _ (tagged_tells_nothing tag (appended_words uidvalidity uid) t (stored_plain uidvalidity uid v u)))
+told_says tag p selected (Copied source) uidvalidity uid t v u = copied_says tag p selected source source.moves uidvalidity uid t
+
+verdict_says : (tag : List ℕ) (p : Point) (selected : Option Selected) (origin : Origin) (mailbox : ℕ) (verdict : Verdict) → IsTag tag
+    → IsPrinted verdict → SaysFlags tag p (on_verdict selected origin mailbox verdict)
+verdict_says tag p selected origin mailbox (verdicts.Stored uid) t u =
+    λ status r s. told_says tag r selected origin status.uidvalidity uid t s.sees.fits.uidvalidity u
+verdict_says tag p selected origin mailbox (verdicts.Refused why) t u = last tag p (refused_text why) t
 
 -- ---- all of them
 
@@ -323,6 +356,7 @@ command_says tag p now (commands.Fetch fetch) t may = selected_says tag p now.se
 command_says tag p now (commands.Store store) t may = writable tag p now.selected now (store_messages store) refl t (store_says tag p store t may.numbered)
 command_says tag p now (commands.Search search) t may = selected_says tag p now.selected now (search_known search) refl t (λ selected. search_says tag p search selected t)
 command_says tag p now (commands.Append append) t may = append_says tag p now.mailing.most now.folders append t
+command_says tag p now (commands.Copy copy) t may = copy_says tag now copy t p
 command_says tag p now commands.Capability t may = (leaves p _ (capable_tells_nothing now.profile), last tag p (texts.Completed verbs.Capability) t)
 command_says tag p now commands.Namespace t may = (leaves p _ (λ messages. refl), last tag p (texts.Completed verbs.Namespace) t)
 command_says tag p now commands.Id t may = (leaves p _ (λ messages. refl), last tag p (texts.Completed verbs.Id) t)
@@ -401,8 +435,8 @@ heard_follows : (sent : Option Sent) (now : Standing) (verdict : Verdict) (p : P
     → IfSome sent (λ s. IsTag s.tag) → IsPrinted verdict → turn_with sent now verdict answers ≡ Some turn → SeesAllMoments p turn.events q → LeadsFlags p turn.bytes q
 heard_follows None now verdict p answers turn q t u e sees = absurd (none-some turn e)
 heard_follows (Some sent) now verdict p answers turn q t u e sees =
-    turn_tells sent.tag (refusals sent.tag t) p (without_sent now) (on_verdict now.selected sent.append.mailbox verdict) answers turn q e
-    (verdict_says sent.tag p now.selected sent.append.mailbox verdict t u) sees
+    turn_tells sent.tag (refusals sent.tag t) p (without_sent now) (on_verdict now.selected sent.origin sent.append.mailbox verdict) answers turn q e
+    (verdict_says sent.tag p now.selected sent.origin sent.append.mailbox verdict t u) sees
 
 pub verdict_tells : (now : Standing) (verdict : Verdict) (p : Point) (answers : List Answer) (turn : Turn) (q : Point)
     → IfSome now.mailing.sent (λ sent. IsTag sent.tag) → IsPrinted verdict → turn_of_verdict now verdict answers ≡ Some turn → SeesAllMoments p turn.events q → LeadsFlags p turn.bytes q

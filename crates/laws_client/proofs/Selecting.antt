@@ -15,7 +15,7 @@ use Rattle.imap_session.specs.declared.standing.After.TheVariants as afters
 use Rattle.imap_session.specs.declared.standing.Selected.{Selected}
 use Rattle.imap_session.specs.Exchange.{Answer, Entered, Looked, Found, Counted, Altered, Expunged, Fed, Left, Refused, Starved, Exchange, ForDone, ForLiteral, ForVerdict, ForNothing, Done, Wait, Write, Put, Enter, Look, Read, Count, Alter, Expunge, Feed, Leave, Standing, Turn, PendingLiteral, Sent, Waiting, closed, having, played, refusal_after, refusal_text, refused, saying, tagged, waiting, Folder, Mailing, is_idling, unkept, bye}
 use Rattle.imap_session.proofs.Unkept.{unkept_by}
-use Rattle.imap_session.specs.Commands.{idle_turn_in, turn_of, fault_text, on_command, on_idle_line, on_read, on_rest, on_verdict, only_says, turn_with, without_begun, without_sent, appending, closing, completed, counting, entering, expunge_set, fetch_messages, fetched, fetching, folder_of, if_writable, in_writable, is_over, last_number, messages_done, most_unasked, nowhere, number_named, on_chosen, on_folder, on_found, on_set, on_text, over, says, selecting, showing, store_messages, stored, storing, unlimited, wanting, wanting_for, wrong_state, opened, asking, coming, logged_in, subscribing, telling_recent, entered_text, found_in, search_done, search_known, search_messages, searching, on_text_line, flags_for, mailbox_for}
+use Rattle.imap_session.specs.Commands.{idle_turn_in, turn_of, fault_text, on_command, on_idle_line, on_read, on_rest, on_verdict, only_says, turn_with, without_begun, without_sent, appending, closing, completed, counting, entering, expunge_set, fetch_messages, fetched, fetching, folder_of, if_writable, in_writable, is_over, last_number, messages_done, most_unasked, nowhere, number_named, on_chosen, on_folder, on_found, on_set, on_text, over, says, selecting, showing, store_messages, stored, storing, unlimited, wanting, wanting_for, wrong_state, opened, asking, coming, logged_in, subscribing, telling_recent, entered_text, found_in, search_done, search_known, search_messages, searching, on_text_line, flags_for, mailbox_for, told_stored, moving, copied_words}
 use Rattle.delivery_token.specs.declared.Verdict.{Verdict}
 use Rattle.std.specs.List.{list_any}
 use Rattle.change_ring.specs.declared.change.Flags.{Flags}
@@ -55,6 +55,10 @@ use Rattle.imap_grammar.specs.declared.view.Named.{Named}
 use Rattle.imap_grammar.specs.Keys.{all_messages}
 use Rattle.imap_session.proofs.Parts.{IsPart, tells_part, ends_part, asks_part, comes_part, challenge_part}
 use Rattle.laws_client.proofs.WholeLines.{unfinished_asks, turn_has, text_has}
+use Rattle.imap_session.specs.declared.standing.Origin.{Origin}
+use Rattle.imap_session.specs.declared.standing.Origin.TheVariants as origins
+use Rattle.imap_grammar.specs.declared.command.CopyMessages.{CopyMessages}
+use Rattle.exactly_once.proofs.Copying.{copies_so}
 
 -- no mailbox is entered or left
 abbrev pub StaysIn : Exchange → Type 0
@@ -98,7 +102,7 @@ given_up tag now fault turn e = told now (saying (refusal_text tag fault)) (λ s
 waiting_keeps : (tag : List ℕ) (now : Standing) (w : Waiting) → (waiting tag w now).selected ≡ now.selected
 waiting_keeps tag now ForDone = refl
 waiting_keeps tag now (ForLiteral coming purpose size) = refl
-waiting_keeps tag now (ForVerdict mailbox flags text) = refl
+waiting_keeps tag now (ForVerdict origin mailbox flags text) = refl
 waiting_keeps tag now ForNothing = refl
 
 -- memory is refused to who was to wait
@@ -212,6 +216,11 @@ in_append o folders a =
 in_subscribing : (folders : List Folder) (name : List ℕ) (command : Command) → StaysIn (subscribing folders name command)
 in_subscribing folders name command = in_found (λ (folder : Folder). completed command) (says (response_text texts.NoSuchMailbox)) (folder_of name folders) (λ folder. tt) tt
 
+in_copy : (now : Standing) (copy : CopyMessages) → StaysIn (on_command now (commands.Copy copy))
+in_copy now copy =
+    copies_so StaysIn (record { told = λ text. tt; wanted = λ x p. p; looked = λ by_uid set next p. p; found = λ uid mark next p. p }) now copy
+    (λ source mailbox row copied. tt)
+
 pub in_command : (now : Standing) (command : Command) → stays command ≡ true → StaysIn (on_command now command)
 in_command now commands.Noop e = in_showing now.selected (completed commands.Noop) tt
 in_command now (commands.Select name) e = absurd (false≢true e)
@@ -241,6 +250,7 @@ in_command now (commands.Store store) e = stay_writable now (store_messages stor
     (in_chosen store.by_uid store.set (λ view uids. storing store view (messages_done (commands.Store store) store.by_uid) uids false)
     (λ view uids. in_storing store view (messages_done (commands.Store store) store.by_uid) uids false (λ b. in_messages (commands.Store store) store.by_uid b)))
 in_command now (commands.Append append) e = in_append now.mailing.most now.folders append
+in_command now (commands.Copy copy) e = in_copy now copy
 in_command now _ e = tt
 
 pub in_rest : (mailing : Mailing) (a : PendingLiteral) (empty : Bool) → StaysIn (on_rest mailing a empty)
@@ -251,7 +261,7 @@ in_rest mailing a empty =
     submits : (text : List ℕ) (mailbox : ℕ) → StaysIn (on_text mailing a text mailbox)
     submits text mailbox = by (is_over mailing.most a.size) (list_any (λ b. b == 0) text) (nat_le last_number mailing.number)
       where
-        by : (x y z : Bool) → StaysIn (if x then over mailing.most else if y then says (response_text texts.NulByte) else if z then says (response_text texts.MailboxSpent) else wanting (Wait [] (ForVerdict mailbox (flags_for a.purpose) text)))
+        by : (x y z : Bool) → StaysIn (if x then over mailing.most else if y then says (response_text texts.NulByte) else if z then says (response_text texts.MailboxSpent) else wanting (Wait [] (ForVerdict origins.Client mailbox (flags_for a.purpose) text)))
         by true y z = in_over mailing.most
         by false true z = tt
         by false false true = tt
@@ -260,9 +270,15 @@ in_rest mailing a empty =
 pub in_idle_line : (selected : Option Selected) (line : List ℕ) → StaysIn (on_idle_line selected line)
 in_idle_line selected line = in_if (is_done line) (showing selected (completed commands.Idle)) (says (response_text texts.ExpectedDone)) (in_showing selected (completed commands.Idle) tt) tt
 
-in_verdict : (selected : Option Selected) (mailbox : ℕ) (verdict : Verdict) → StaysIn (on_verdict selected mailbox verdict)
-in_verdict selected mailbox (verdicts.Stored uid) = λ status. in_showing selected _ tt
-in_verdict selected mailbox (verdicts.Refused why) = tt
+in_stored : (selected : Option Selected) (origin : Origin) (uidvalidity uid : ℕ) → StaysIn (told_stored selected origin uidvalidity uid)
+in_stored selected origins.Client uidvalidity uid = in_showing selected _ tt
+in_stored selected (origins.Copied source) uidvalidity uid =
+    in_if source.moves (moving source uidvalidity uid) (showing selected (says (copied_words uidvalidity source.uid uid))) (λ flags. tt)
+    (in_showing selected _ tt)
+
+in_verdict : (selected : Option Selected) (origin : Origin) (mailbox : ℕ) (verdict : Verdict) → StaysIn (on_verdict selected origin mailbox verdict)
+in_verdict selected origin mailbox (verdicts.Stored uid) = λ status. in_stored selected origin status.uidvalidity uid
+in_verdict selected origin mailbox (verdicts.Refused why) = tt
 
 -- ---- turns while it idles
 
@@ -427,7 +443,7 @@ line_sel now line answers turn client e k =
 
 pub verdict_sel : (sent : Option Sent) (now : Standing) (verdict : Verdict) (answers : List Answer) (turn : Turn) → turn_with sent now verdict answers ≡ Some turn → turn.standing.selected ≡ now.selected
 verdict_sel None now verdict answers turn e = absurd (none-some turn e)
-verdict_sel (Some sent) now verdict answers turn e = selected_stays sent.tag (without_sent now) (on_verdict now.selected sent.append.mailbox verdict) answers turn (in_verdict now.selected sent.append.mailbox verdict) e
+verdict_sel (Some sent) now verdict answers turn e = selected_stays sent.tag (without_sent now) (on_verdict now.selected sent.origin sent.append.mailbox verdict) answers turn (in_verdict now.selected sent.origin sent.append.mailbox verdict) e
 
 pub turn_sel : (now : Standing) (happening : Happening) (turn : Turn) (client : Option Client) → leads_to now happening ≡ Some turn → Known_selected client now → Known_selected (hears client (told_of now happening turn.bytes)) turn.standing
 turn_sel now (Line line answers) turn client e k = line_sel now line answers turn client e k

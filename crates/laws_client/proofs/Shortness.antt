@@ -19,7 +19,7 @@ use Rattle.house_peers.specs.Caller.{Caller, Proceeds, Terms, Works, copies_of, 
 use Rattle.imap_session.specs.declared.standing.After.{After}
 use Rattle.imap_session.specs.Exchange as calls
 use Rattle.imap_session.specs.Exchange.{PendingLiteral, Sent, Standing, is_idling}
-use Rattle.imap_session.specs.Commands.{due_of}
+use Rattle.imap_session.specs.Commands.{due_of, most_return_path}
 use Rattle.imap_session.specs.Store.{Met}
 use Rattle.imap_session.specs.Dialogue as imap
 use Rattle.imap_session.specs.Dialogue.{AnswersLine, AnswersOne, Converses, Sends, goes_on, parts as ends_with, reads, silent, too_long}
@@ -35,14 +35,14 @@ use Rattle.house.specs.declared.event.Event as house
 use Rattle.house.specs.declared.event.Event.TheVariants.{Bytes, Vanish, Put, Take, Deliver, Answer, Hear, End, Close, Enter, Say, Idle, Leave}
 use Rattle.house.proofs.Carried.{speaks_carried}
 use Rattle.exactly_once.specs.Promise.{Entry, IsRecord, text_of}
-use Rattle.laws_client.proofs.Dialogues.{AreTextsShort, IsSenderShort, dialogue_fine, event_fine, most_more}
+use Rattle.laws_client.proofs.Dialogues.{AreTextsShort, IsSenderShort, dialogue_fine, event_fine}
 use Rattle.laws_client.proofs.Mailed.{IsMailShort, bytes_mail, idle_mail, line_mail, long_mail, verdict_mail}
 use Rattle.laws_client.proofs.Moved.{Calls, Moved, moved, rested, stepped}
 use Rattle.laws_client.proofs.Texts.{AreShort, IsJobShort, PutsShort, short_empty, short_step}
 
 -- ---- copies
 
-fits : (most n : ℕ) → most < 2 ^ 31 → n ≤ most + most_more → n < 2 ^ 32
+fits : (most n : ℕ) → most < 2 ^ 31 → n ≤ most + most_return_path → n < 2 ^ 32
 fits most n small h = omega (arith, small, h)
 
 copies_short : (keys : List CopyKey) (mailboxes text : List ℕ) (flags : Flags) → length text < 2 ^ 32 → Every IsJobShort (copies keys mailboxes text flags)
@@ -138,9 +138,9 @@ converses_short step most (silent now old) k = k
 converses_short step most (ends_with now next one old new said how stops a) k = one_short step most now one old new said how next a k
 converses_short step most (goes_on now between next one others old mid new first second how follows a more) k = converses_short step most more (one_short step most now one old mid first _ between a k)
 
-sent_short : (most seat serial : ℕ) (sent : Option Sent) → most < 2 ^ 31 → IfSome sent (λ s. length s.append.text ≤ most) → Every IsJobShort (seated.copies_of seat serial sent)
+sent_short : (most seat serial : ℕ) (sent : Option Sent) → most < 2 ^ 31 → IfSome sent (λ s. length s.append.text ≤ most + most_return_path) → Every IsJobShort (seated.copies_of seat serial sent)
 sent_short most seat serial None small h = tt
-sent_short most seat serial (Some s) small h = copies_short (seated.keys_of seat serial (Some s)) (s.append.mailbox ∷ []) s.append.text s.append.flags (omega (arith, small, h))
+sent_short most seat serial (Some s) small h = copies_short (seated.keys_of seat serial (Some s)) (s.append.mailbox ∷ []) s.append.text s.append.flags (fits most (length s.append.text) small h)
 
 session_works : {S : Type 0} (step : S → calls.Call → calls.Answer → S → Type 0) (most seat : ℕ) (v : SeatedVisitor) (old new : S) (after : SeatedVisitor) (said : List ℕ) → most < 2 ^ 31 → IsMailShort most v.session.standing.mailing
     → seated.Works step seat v old new after said → SessionShort most after

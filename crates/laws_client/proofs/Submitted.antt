@@ -22,10 +22,10 @@ use Rattle.house_peers.proofs.Rising.{idles_keep}
 use Rattle.laws_client.specs.Talks.{Happening, Line, LongLine, Turned, Literal, Heard, leads_to}
 use Rattle.laws_client.proofs.IdleTags.{Keeps, played_keeps}
 use Rattle.laws_client.proofs.Turns.{the_turn}
-use Rattle.laws_client.specs.Appends.{IsSentAs, IsSpelled, as_it_stands, with_literal, with_response}
+use Rattle.laws_client.specs.Appends.{IsSentAs, IsSpelled, as_it_stands, with_literal, with_response, CameAs, CameBy, IsCopyOf}
 use Rattle.laws_client.specs.Lives.{IsSentFor}
 use Rattle.laws_client.proofs.Moved.{Calls}
-use Rattle.laws_client.proofs.Waiting.{ForItsArgument, ForItsLiteral, ForItsResponse, ForItsVerdict, IsMail, IsNoAppend, append_mail, argument_mail, given_mail, response_mail, idling_mail, other_mail, rest_mail, verdict_mail}
+use Rattle.laws_client.proofs.Waiting.{ForItsArgument, ForItsLiteral, ForItsResponse, ForItsVerdict, IsMail, SubmitsNone, append_mail, argument_mail, given_mail, response_mail, idling_mail, other_mail, rest_mail, verdict_mail, ForItsCopy, copy_mail}
 use Rattle.laws_client.proofs.Barred.{line_case}
 use Rattle.imap_session.specs.Texts.{response_text}
 use Rattle.change_ring.specs.declared.change.Flags.{Flags}
@@ -34,6 +34,10 @@ use Rattle.imap_grammar.specs.Literals.{announced, quoted}
 use Rattle.laws_client.specs.Commands.{whole_line, whole_in, whole_behind, if_kept}
 use Rattle.imap_session.proofs.Parts.{text_line_has}
 use Rattle.laws_client.proofs.WholeLines.{turn_given, text_awaits, turn_has}
+use Rattle.imap_session.specs.declared.standing.Origin.{Origin}
+use Rattle.imap_session.specs.declared.standing.Origin.TheVariants.{Client, Copied}
+use Rattle.imap_session.specs.declared.standing.Source.{Source}
+use Rattle.imap_grammar.specs.declared.command.CopyMessages.{CopyMessages}
 
 -- ---- what stays so behind a line
 
@@ -69,7 +73,7 @@ folders_wait : (folders : List Folder) (tag : List ℕ) (now : Standing) (w : Wa
 unfolding HasFolders
 folders_wait folders tag now ForDone k = k
 folders_wait folders tag now (ForLiteral coming purpose size) k = k
-folders_wait folders tag now (ForVerdict mailbox flags text) k = k
+folders_wait folders tag now (ForVerdict origin mailbox flags text) k = k
 folders_wait folders tag now ForNothing k = k
 
 folders_keep : (folders : List Folder) (tag : List ℕ) → Keeps (HasFolders folders) tag
@@ -133,10 +137,11 @@ IsBegunAs folders sent a = (text : List ℕ) → a.text ≡ Some text → IsBegu
 pub record Mailed (folders : List Folder) (sent : List ℕ) (now : Standing) : Type 0 where
   pub same : now.folders ≡ folders
   pub begun : IfSome now.mailing.begun (IsBegunAs folders sent)
-  pub waits : IfSome now.mailing.sent (IsSentAs folders sent)
+  pub waits : IfSome now.mailing.sent (CameAs folders sent)
 
-pub sent_more : (folders : List Folder) (sent bytes : List ℕ) (message : Sent) → IsSentAs folders sent message → IsSentAs folders (sent ++ bytes) message
-sent_more folders sent bytes message h = record {
+appended_more : (folders : List Folder) (sent bytes : List ℕ) (message : Sent) → IsSentAs folders sent message
+    → IsSentAs folders (sent ++ bytes) message
+appended_more folders sent bytes message h = record {
   front = h.front;
   bytes = h.bytes;
   line = h.line;
@@ -150,7 +155,32 @@ sent_more folders sent bytes message h = record {
   whole = ap (λ (x : List ℕ). x ++ bytes) h.whole ∙ append_assoc (h.front ++ (h.bytes ++ crlf) ++ message.append.text ++ crlf) h.behind bytes;
 }
 
-waits_more : (folders : List Folder) (sent bytes : List ℕ) (o : Option Sent) → IfSome o (IsSentAs folders sent) → IfSome o (IsSentAs folders (sent ++ bytes))
+copied_more : (folders : List Folder) (sent bytes : List ℕ) (message : Sent) (source : Source) → IsCopyOf folders sent message source
+    → IsCopyOf folders (sent ++ bytes) message source
+copied_more folders sent bytes message source h = record {
+  front = h.front;
+  bytes = h.bytes;
+  line = h.line;
+  behind = h.behind ++ bytes;
+  copy = h.copy;
+  view = h.view;
+  spelled = h.spelled;
+  reads = h.reads;
+  named = h.named;
+  by_uid = h.by_uid;
+  moves = h.moves;
+  one = h.one;
+  whole = ap (λ (x : List ℕ). x ++ bytes) h.whole ∙ append_assoc (h.front ++ (h.bytes ++ crlf)) h.behind bytes;
+}
+
+pub sent_more : (folders : List Folder) (sent bytes : List ℕ) (message : Sent) → CameAs folders sent message → CameAs folders (sent ++ bytes) message
+sent_more folders sent bytes message h = by message.origin h
+  where
+    by : (origin : Origin) → CameBy origin folders sent message → CameBy origin folders (sent ++ bytes) message
+    by Client h = appended_more folders sent bytes message h
+    by (Copied source) h = copied_more folders sent bytes message source h
+
+waits_more : (folders : List Folder) (sent bytes : List ℕ) (o : Option Sent) → IfSome o (CameAs folders sent) → IfSome o (CameAs folders (sent ++ bytes))
 waits_more folders sent bytes None h = tt
 waits_more folders sent bytes (Some message) h = sent_more folders sent bytes message h
 
@@ -159,13 +189,15 @@ same_mail : (folders : List Folder) (sent bytes : List ℕ) (now next : Standing
 same_mail folders sent bytes now next m same waits begun = record {
   same = same ∙ m.same;
   begun = subst (λ (o : Option PendingLiteral). IfSome o (IsBegunAs folders (sent ++ bytes))) (sym begun) tt;
-  waits = subst (λ (o : Option Sent). IfSome o (IsSentAs folders (sent ++ bytes))) (sym waits) (waits_more folders sent bytes now.mailing.sent m.waits);
+  waits = subst (λ (o : Option Sent). IfSome o (CameAs folders (sent ++ bytes))) (sym waits) (waits_more folders sent bytes now.mailing.sent m.waits);
 }
 
-command_case : {X : Type 0} (command : Command) → ((append : Append) → command ≡ commands.Append append → X) → (IsNoAppend command → X) → X
-command_case commands.Noop f g = g tt
-command_case (commands.Append append) f g = f append refl
-command_case _ f g = g tt
+command_case : {X : Type 0} (command : Command) → ((append : Append) → command ≡ commands.Append append → X)
+    → ((copy : CopyMessages) → command ≡ commands.Copy copy → X) → (SubmitsNone command → X) → X
+command_case commands.Noop f h g = g tt
+command_case (commands.Append append) f h g = f append refl
+command_case (commands.Copy copy) f h g = h copy refl
+command_case _ f h g = g tt
 
 no_bytes : (line : List ℕ) → (length line == 0) ≡ true → line ≡ []
 no_bytes [] e = refl
@@ -199,7 +231,7 @@ begun_mail : (folders : List Folder) (sent bytes : List ℕ) (now next : Standin
 begun_mail folders sent bytes now next a m same waits begun h = record {
   same = same ∙ m.same;
   begun = subst (λ (o : Option PendingLiteral). IfSome o (IsBegunAs folders (sent ++ bytes))) (sym begun) h;
-  waits = subst (λ (o : Option Sent). IfSome o (IsSentAs folders (sent ++ bytes))) (sym waits) (waits_more folders sent bytes now.mailing.sent m.waits);
+  waits = subst (λ (o : Option Sent). IfSome o (CameAs folders (sent ++ bytes))) (sym waits) (waits_more folders sent bytes now.mailing.sent m.waits);
 }
 
 -- a literal whose bytes are to come, for this
@@ -208,12 +240,12 @@ coming tag purpose size = record { tag = tag; purpose = purpose; size = size; du
 
 -- it waits so for its literal
 waits_for_it : (A : Waiting → Type 0) (folders : List Folder) (sent bytes tag : List ℕ) (now next : Standing) → Mailed folders sent now → next.folders ≡ now.folders → (A ForDone → ⊥)
-    → ((mailbox : ℕ) (flags : Flags) (text : List ℕ) → A (ForVerdict mailbox flags text) → ⊥)
+    → ((origin : Origin) (mailbox : ℕ) (flags : Flags) (text : List ℕ) → A (ForVerdict origin mailbox flags text) → ⊥)
     → ((p : Purpose) (size : ℕ) → A (ForLiteral Asked p size) → IsBegunAs folders (sent ++ bytes) (coming tag p size)) → ((p : Purpose) (size : ℕ) → A (ForLiteral Unasked p size) → IsBegunAs folders (sent ++ bytes) (coming tag p size))
     → IsMail A tag (without_begun now).mailing next.mailing → Mailed folders (sent ++ bytes) next
 waits_for_it A folders sent bytes tag now next m same no_done no_verdict asked unasked (inl e) = same_mail folders sent bytes now next m same (ap (λ (x : Mailing). x.sent) e) (ap (λ (x : Mailing). x.begun) e)
 waits_for_it A folders sent bytes tag now next m same no_done no_verdict asked unasked (inr (ForDone, p, e)) = absurd (no_done p)
-waits_for_it A folders sent bytes tag now next m same no_done no_verdict asked unasked (inr (ForVerdict mailbox flags text, p, e)) = absurd (no_verdict mailbox flags text p)
+waits_for_it A folders sent bytes tag now next m same no_done no_verdict asked unasked (inr (ForVerdict origin mailbox flags text, p, e)) = absurd (no_verdict origin mailbox flags text p)
 waits_for_it A folders sent bytes tag now next m same no_done no_verdict asked unasked (inr (ForNothing, p, e)) = same_mail folders sent bytes now next m same (ap (λ (x : Mailing). x.sent) e) (ap (λ (x : Mailing). x.begun) e)
 waits_for_it A folders sent bytes tag now next m same no_done no_verdict asked unasked (inr (ForLiteral Dropped q size, p, e)) =
     begun_mail folders sent bytes now next (record { tag = tag; purpose = q; size = size; due = size; text = None }) m same (ap (λ (x : Mailing). x.sent) e) (ap (λ (x : Mailing). x.begun) e) (dropped folders (sent ++ bytes) _ refl)
@@ -226,7 +258,7 @@ waits_for_it A folders sent bytes tag now next m same no_done no_verdict asked u
 append_begins : (folders : List Folder) (sent bytes line tag : List ℕ) (append : Append) (now next : Standing) → Mailed folders sent now → next.folders ≡ now.folders → SaysLine (sent ++ bytes) line → read line ≡ Ok (tag, commands.Append append)
     → IsMail (ForItsLiteral (number_named append.name now.folders) append) tag (without_begun now).mailing next.mailing → Mailed folders (sent ++ bytes) next
 append_begins folders sent bytes line tag append now next m same says reads mail =
-    waits_for_it (ForItsLiteral (number_named append.name now.folders) append) folders sent bytes tag now next m same (λ p. p) (λ mailbox flags text p. p)
+    waits_for_it (ForItsLiteral (number_named append.name now.folders) append) folders sent bytes tag now next m same (λ p. p) (λ origin mailbox flags text p. p)
     (λ p size h. begins p size h.0 h.1) (λ p size h. begins p size h.0 h.1) mail
   where
     begins : (purpose : Purpose) (size : ℕ) → purpose ≡ Message (number_named append.name now.folders) append.flags → size ≡ append.literal.size → IsBegunAs folders (sent ++ bytes) (coming tag purpose size)
@@ -248,7 +280,7 @@ append_begins folders sent bytes line tag append now next m same says reads mail
 argument_begins : (folders : List Folder) (sent bytes line tag : List ℕ) (found : ℕ × Announced) (now next : Standing) → Mailed folders sent now → next.folders ≡ now.folders → SaysLine (sent ++ bytes) line → announced line ≡ Some found
     → IsMail (ForItsArgument line found) tag (without_begun now).mailing next.mailing → Mailed folders (sent ++ bytes) next
 argument_begins folders sent bytes line tag found now next m same says announces mail =
-    waits_for_it (ForItsArgument line found) folders sent bytes tag now next m same (λ p. p) (λ mailbox flags text p. p) (λ p size h. begins p size h.0 h.1) (λ p size h. begins p size h.0 h.1) mail
+    waits_for_it (ForItsArgument line found) folders sent bytes tag now next m same (λ p. p) (λ origin mailbox flags text p. p) (λ p size h. begins p size h.0 h.1) (λ p size h. begins p size h.0 h.1) mail
   where
     begins : (purpose : Purpose) (size : ℕ) → purpose ≡ Argument (take found.0 line) → size ≡ found.1.size → IsBegunAs folders (sent ++ bytes) (coming tag purpose size)
     begins purpose size p s =
@@ -268,7 +300,7 @@ argument_begins folders sent bytes line tag found now next m same says announces
 response_begins : (folders : List Folder) (sent bytes line tag said : List ℕ) (a : Authenticate) (now next : Standing) → Mailed folders sent now → next.folders ≡ now.folders → SaysLine (sent ++ bytes) line → read line ≡ Ok (said, commands.Authenticate a)
     → IsMail (ForItsResponse line) tag (without_begun now).mailing next.mailing → Mailed folders (sent ++ bytes) next
 response_begins folders sent bytes line tag said a now next m same says reads mail =
-    waits_for_it (ForItsResponse line) folders sent bytes tag now next m same (λ p. p) (λ mailbox flags text p. p) (λ p size h. begins p size h.0 h.1) (λ p size h. begins p size h.0 h.1) mail
+    waits_for_it (ForItsResponse line) folders sent bytes tag now next m same (λ p. p) (λ origin mailbox flags text p. p) (λ p size h. begins p size h.0 h.1) (λ p size h. begins p size h.0 h.1) mail
   where
     begins : (purpose : Purpose) (size : ℕ) → purpose ≡ Response line → size ≡ 0 → IsBegunAs folders (sent ++ bytes) (coming tag purpose size)
     begins purpose size p s =
@@ -282,6 +314,36 @@ response_begins folders sent bytes line tag said a now next m same says reads ma
           size = omega (arith, s);
           whole = says.whole ∙ sym (append-nil (says.front ++ (says.bytes ++ crlf)));
         }) p
+
+-- COPY and MOVE wait for the verdict at once
+copy_waits : (folders : List Folder) (sent bytes line tag : List ℕ) (copy : CopyMessages) (now next : Standing) → Mailed folders sent now
+    → next.folders ≡ now.folders → SaysLine (sent ++ bytes) line → read line ≡ Ok (tag, commands.Copy copy)
+    → IsMail (ForItsCopy (number_named copy.name now.folders) copy) tag (without_begun now).mailing next.mailing → Mailed folders (sent ++ bytes) next
+copy_waits folders sent bytes line tag copy now next m same says reads (inl e) =
+    same_mail folders sent bytes now next m same (ap (λ (x : Mailing). x.sent) e) (ap (λ (x : Mailing). x.begun) e)
+copy_waits folders sent bytes line tag copy now next m same says reads (inr (ForDone, p, e)) = absurd p
+copy_waits folders sent bytes line tag copy now next m same says reads (inr (ForNothing, p, e)) = absurd p
+copy_waits folders sent bytes line tag copy now next m same says reads (inr (ForLiteral coming q size, p, e)) = absurd p
+copy_waits folders sent bytes line tag copy now next m same says reads (inr (ForVerdict Client mailbox flags text, p, e)) = absurd p.1
+copy_waits folders sent bytes line tag copy now next m same says reads (inr (ForVerdict (Copied source) mailbox flags text, p, e)) = record {
+  same = same ∙ m.same;
+  begun = subst (λ (x : Mailing). IfSome x.begun (IsBegunAs folders (sent ++ bytes))) (sym e) tt;
+  waits = subst (λ (x : Mailing). IfSome x.sent (CameAs folders (sent ++ bytes))) (sym e) (record {
+    front = says.front;
+    bytes = says.bytes;
+    line = line;
+    behind = [];
+    copy = copy;
+    view = p.1.view;
+    spelled = says.spelled;
+    reads = reads;
+    named = ap (number_named copy.name) (sym m.same) ∙ p.0;
+    by_uid = p.1.by_uid;
+    moves = p.1.moves;
+    one = p.1.one;
+    whole = says.whole ∙ sym (append-nil (says.front ++ (says.bytes ++ crlf)));
+  });
+}
 
 -- ---- its bytes come, and then the rest of the line
 
@@ -335,13 +397,14 @@ rest_comes folders sent line a to with now next m same begun purpose due (inl e)
 rest_comes folders sent line a to with now next m same begun purpose due (inr (ForDone, p, e)) = absurd p
 rest_comes folders sent line a to with now next m same begun purpose due (inr (ForNothing, p, e)) = absurd p
 rest_comes folders sent line a to with now next m same begun purpose due (inr (ForLiteral coming q size, p, e)) = absurd p
-rest_comes folders sent line a to with now next m same begun purpose due (inr (ForVerdict mailbox flags text, p, e)) =
+rest_comes folders sent line a to with now next m same begun purpose due (inr (ForVerdict origin mailbox flags text, p, e)) =
     let h : IsBegunAs folders sent a = subst (λ (o : Option PendingLiteral). IfSome o (IsBegunAs folders sent)) begun m.begun in
     let b : MessageWith folders sent to with a text = subst (λ (q : Purpose). IsBegunFor q folders sent a text) purpose (h text p.2) in
-    let empty : line ≡ [] = no_bytes line p.3 in record {
+    let empty : line ≡ [] = no_bytes line p.3 in
+    let message : Sent = record { tag = a.tag; append = record { message = now.mailing.number; mailbox = mailbox; text = text; flags = flags }; origin = origin } in record {
       same = same ∙ m.same;
       begun = subst (λ (x : Mailing). IfSome x.begun (IsBegunAs folders (sent ++ (line ++ crlf)))) (sym e) tt;
-      waits = subst (λ (x : Mailing). IfSome x.sent (IsSentAs folders (sent ++ (line ++ crlf)))) (sym e) (record {
+      waits = subst (λ (x : Mailing). IfSome x.sent (CameAs folders (sent ++ (line ++ crlf)))) (sym e) (subst (λ (o : Origin). CameBy o folders (sent ++ (line ++ crlf)) message) (sym p.4) (record {
         front = b.front;
         bytes = b.bytes;
         line = b.line;
@@ -353,7 +416,7 @@ rest_comes folders sent line a to with now next m same begun purpose due (inr (F
         flags = p.1 ∙ ap flags_for purpose ∙ b.flags;
         size = omega (arith, b.size, due);
         whole = ap (λ (x : List ℕ). sent ++ (x ++ crlf)) empty ∙ ap (λ (x : List ℕ). x ++ crlf) b.whole ∙ sym (append-nil (((b.front ++ (b.bytes ++ crlf)) ++ text) ++ crlf));
-      });
+      }));
     }
 
 -- ---- what its client sent as a command
@@ -434,6 +497,9 @@ text_mailed folders sent bytes line now answers turn m says same e =
         (λ append same_command.
         let as_append : on_line (logs_in_as now.login (commands.Append append)) bare l.0 (commands.Append append) answers ≡ Some turn = subst (λ (c : Command). on_line (logs_in_as now.login c) bare l.0 c answers ≡ Some turn) same_command e in
         append_begins folders sent bytes line l.0 append now turn.standing m same says (subst (λ (c : Command). read line ≡ Ok (l.0, c)) same_command is) (append_mail l.0 bare append answers turn as_append))
+        (λ copy same_command.
+        let as_copy : on_line (logs_in_as now.login (commands.Copy copy)) bare l.0 (commands.Copy copy) answers ≡ Some turn = subst (λ (c : Command). on_line (logs_in_as now.login c) bare l.0 c answers ≡ Some turn) same_command e in
+        copy_waits folders sent bytes line l.0 copy now turn.standing m same says (subst (λ (c : Command). read line ≡ Ok (l.0, c)) same_command is) (copy_mail l.0 bare copy answers turn as_copy))
         (λ other. only (other_mail l.0 bare l.1 answers turn other e))
 
 line_mailed : (folders : List Folder) (sent line : List ℕ) (now : Standing) (answers : List Answer) (turn : Turn) → Mailed folders sent now → due_of now.mailing.begun ≡ 0 → turn_of now line answers ≡ Some turn → Mailed folders (sent ++ (line ++ crlf)) turn.standing
@@ -468,7 +534,7 @@ idle_folders now answers turn e = turned_folders now.selected (is_idling now) no
 
 verdict_folders : (s : Sent) (now : Standing) (verdict : Verdict) (answers : List Answer) (turn : Turn) → turn_with (Some s) now verdict answers ≡ Some turn → turn.standing.folders ≡ now.folders
 unfolding HasFolders
-verdict_folders s now verdict answers turn e = played_keeps (HasFolders now.folders) s.tag (folders_keep now.folders s.tag) (without_sent now) (on_verdict now.selected s.append.mailbox verdict) answers turn refl e
+verdict_folders s now verdict answers turn e = played_keeps (HasFolders now.folders) s.tag (folders_keep now.folders s.tag) (without_sent now) (on_verdict now.selected s.origin s.append.mailbox verdict) answers turn refl e
 
 pub mail_turn : (k : Config) (n : ℕ) (folders : List Folder) (sent bytes : List ℕ) (now : Standing) (w : World) (happening : Happening) (turn : Turn) (v : World) → Mailed folders sent now → ComesInTurn now happening → IsSentFor happening bytes
     → leads_to now happening ≡ Some turn → Met (Calls k n) w turn.events v → Mailed folders (sent ++ bytes) turn.standing
@@ -481,7 +547,7 @@ mail_turn k n folders sent bytes now w (Turned answers) turn v m due is e met =
     subst (λ (x : List ℕ). Mailed folders x turn.standing) (sym (ap (λ (x : List ℕ). sent ++ x) is ∙ append-nil sent)) (record {
       same = idle_folders now answers turn e ∙ m.same;
       begun = subst (λ (x : Mailing). IfSome x.begun (IsBegunAs folders sent)) (sym mailing) m.begun;
-      waits = subst (λ (x : Mailing). IfSome x.sent (IsSentAs folders sent)) (sym mailing) m.waits;
+      waits = subst (λ (x : Mailing). IfSome x.sent (CameAs folders sent)) (sym mailing) m.waits;
     })
 mail_turn k n folders sent bytes now w (Literal kept literal) turn v m few is e met =
     subst (λ (t : Turn). Mailed folders (sent ++ bytes) t.standing) (ap (the_turn turn) e)
@@ -495,8 +561,8 @@ mail_turn k n folders sent bytes now w (Heard verdict answers) turn v m due is e
     by : (o : Option Sent) → turn_with o now verdict answers ≡ Some turn → Mailed folders (sent ++ bytes) turn.standing
     by None e = absurd (none-some turn e)
     by (Some s) e =
-        let mailing = verdict_mail s.tag (without_sent now) now.selected s.append.mailbox verdict answers turn e in record {
+        let mailing = verdict_mail s.tag (without_sent now) now.selected s.origin s.append.mailbox verdict answers turn e in record {
           same = verdict_folders s now verdict answers turn e ∙ m.same;
           begun = subst (λ (x : Mailing). IfSome x.begun (IsBegunAs folders (sent ++ bytes))) (sym mailing) tt;
-          waits = subst (λ (x : Mailing). IfSome x.sent (IsSentAs folders (sent ++ bytes))) (sym mailing) tt;
+          waits = subst (λ (x : Mailing). IfSome x.sent (CameAs folders (sent ++ bytes))) (sym mailing) tt;
         }

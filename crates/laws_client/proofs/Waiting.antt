@@ -25,7 +25,7 @@ use Rattle.imap_session.specs.declared.standing.After.TheVariants as afters
 use Rattle.imap_session.specs.declared.standing.Selected.{Selected}
 use Rattle.imap_session.specs.Exchange as ex
 use Rattle.imap_session.specs.Exchange.{Answer, PendingLiteral, Asked, Call, Dropped, Entered, Looked, Found, Counted, Altered, Expunged, Fed, Left, Refused, Starved, Exchange, Folder, ForDone, ForLiteral, ForNothing, ForVerdict, Mailing, Standing, Turn, Unasked, Waiting, bye, closed, having, played, refusal_after, saying, text_before, unkept, waiting, where_long, refused, Argument, Message, Response, Purpose, nameless}
-use Rattle.imap_session.specs.Commands.{appending, asking, closing, coming, completed, counting, entering, expunge_set, fetch_messages, fetching, folder_of, if_writable, is_over, last_number, messages_done, most_unasked, notice, noticing, nowhere, number_named, on_chosen, on_command, on_found, on_idle_line, on_rest, on_text, on_verdict, over, says, showing, store_messages, storing, telling_recent, unlimited, wanting, wanting_for, wrong_state, entered_text, logged_in, logs_in_as, on_line, found_in, search_done, search_known, search_messages, searching, awaiting_argument, comes_unasked, flags_for, mailbox_for, awaiting_response, given_up, most_line}
+use Rattle.imap_session.specs.Commands.{appending, asking, closing, coming, completed, counting, entering, expunge_set, fetch_messages, fetching, folder_of, if_writable, is_over, last_number, messages_done, most_unasked, notice, noticing, nowhere, number_named, on_chosen, on_command, on_found, on_idle_line, on_rest, on_text, on_verdict, over, says, showing, store_messages, storing, telling_recent, unlimited, wanting, wanting_for, wrong_state, entered_text, logged_in, logs_in_as, on_line, found_in, search_done, search_known, search_messages, searching, awaiting_argument, comes_unasked, flags_for, mailbox_for, awaiting_response, given_up, most_line, told_stored, moving, copied_words}
 use Rattle.imap_session.specs.declared.texts.ResponseText.TheVariants as texts
 use Rattle.imap_session.specs.Texts.{response_text}
 use Rattle.imap_session.specs.declared.standing.Profile.{Profile}
@@ -37,6 +37,11 @@ use Rattle.imap_grammar.specs.Keys.{all_messages}
 use Rattle.imap_session.specs.declared.texts.ResponseText.{ResponseText}
 use Rattle.imap_grammar.specs.declared.command.Literal.{Literal}
 use Rattle.imap_grammar.specs.Literals.{announced}
+use Rattle.imap_session.specs.declared.standing.Origin.{Origin}
+use Rattle.imap_session.specs.declared.standing.Origin.TheVariants.{Client, Copied}
+use Rattle.imap_grammar.specs.declared.command.CopyMessages.{CopyMessages}
+use Rattle.exactly_once.proofs.Copying.{copies_so}
+use Rattle.imap_session.specs.declared.standing.Source.{Source}
 
 -- ---- an exchange
 
@@ -63,13 +68,13 @@ Drops A = (purpose : Purpose) (size : ℕ) → A (ForLiteral Unasked purpose siz
 abbrev pub waiting_mail : List ℕ → Waiting → Mailing → Mailing
 waiting_mail tag ForDone m = m
 waiting_mail tag (ForLiteral coming purpose size) m = record m { begun = Some (record { tag = tag; purpose = purpose; size = size; due = size; text = text_before coming }) }
-waiting_mail tag (ForVerdict mailbox flags text) m = record m { number = m.number + 1; sent = Some (record { tag = tag; append = record { message = m.number; mailbox = mailbox; text = text; flags = flags } }) }
+waiting_mail tag (ForVerdict origin mailbox flags text) m = record m { number = m.number + 1; sent = Some (record { tag = tag; append = record { message = m.number; mailbox = mailbox; text = text; flags = flags }; origin = origin }) }
 waiting_mail tag ForNothing m = m
 
 waiting_is : (tag : List ℕ) (w : Waiting) (now : Standing) → (waiting tag w now).mailing ≡ waiting_mail tag w now.mailing
 waiting_is tag ForDone now = refl
 waiting_is tag (ForLiteral coming purpose size) now = refl
-waiting_is tag (ForVerdict mailbox flags text) now = refl
+waiting_is tag (ForVerdict origin mailbox flags text) now = refl
 waiting_is tag ForNothing now = refl
 
 -- it is as before, or it waits so
@@ -117,8 +122,8 @@ unkept_mail A drops tag (ForLiteral Unasked purpose size) now (suc zero) p = lon
 unkept_mail A drops tag (ForLiteral Unasked purpose size) now (suc (suc n)) p = tt
 unkept_mail A drops tag (ForLiteral Dropped purpose size) now zero p = tt
 unkept_mail A drops tag (ForLiteral Dropped purpose size) now (suc n) p = tt
-unkept_mail A drops tag (ForVerdict mailbox flags text) now zero p = tt
-unkept_mail A drops tag (ForVerdict mailbox flags text) now (suc n) p = tt
+unkept_mail A drops tag (ForVerdict origin mailbox flags text) now zero p = tt
+unkept_mail A drops tag (ForVerdict origin mailbox flags text) now (suc n) p = tt
 unkept_mail A drops tag ForNothing now zero p = tt
 unkept_mail A drops tag ForNothing now (suc n) p = tt
 
@@ -343,16 +348,17 @@ ForItsDone ForDone = Unit {0}
 ForItsDone ForNothing = Unit {0}
 ForItsDone w = ⊥
 
--- a command that is no APPEND
-abbrev pub IsNoAppend : Command → Type 0
-IsNoAppend (commands.Append append) = ⊥
-IsNoAppend command = Unit {0}
+-- a command that submits no message: no APPEND, COPY or MOVE
+abbrev pub SubmitsNone : Command → Type 0
+SubmitsNone (commands.Append append) = ⊥
+SubmitsNone (commands.Copy copy) = ⊥
+SubmitsNone command = Unit {0}
 
 notice_waits : (A : Waiting → Type 0) (said : Option (List ℕ)) (x : Exchange) → WaitsAs A x → WaitsAs A (noticing said x)
 notice_waits A None x p = p
 notice_waits A (Some words) x p = p
 
-command_waits : (now : Standing) (command : Command) → IsNoAppend command → WaitsAs ForItsDone (on_command now command)
+command_waits : (now : Standing) (command : Command) → SubmitsNone command → WaitsAs ForItsDone (on_command now command)
 command_waits now commands.Noop other = in_showing ForItsDone now.selected (completed commands.Noop) tt
 command_waits now commands.Logout other = tt
 command_waits now commands.Idle other = tt
@@ -389,6 +395,7 @@ command_waits now (commands.Search search) other =
     (λ view. in_chosen ForItsDone (named_in true all_messages view) (λ uids. wanting (searching search (named_at view (last_uid uids)) view (search_done search) uids []))
     (λ uids. in_searching ForItsDone search (named_at view (last_uid uids)) view uids [] tt)) tt) tt now.selected
 command_waits now (commands.Append append) other = absurd other
+command_waits now (commands.Copy copy) other = absurd other
 command_waits now command other = notice_waits ForItsDone (notice now.profile command) (completed command) tt
 
 done_mail : (tag : List ℕ) (m next : Mailing) → IsMail ForItsDone tag m next → next ≡ m
@@ -396,7 +403,7 @@ done_mail tag m next (inl e) = e
 done_mail tag m next (inr (ForDone, p, e)) = e
 done_mail tag m next (inr (ForNothing, p, e)) = e
 done_mail tag m next (inr (ForLiteral coming purpose size, p, e)) = absurd p
-done_mail tag m next (inr (ForVerdict mailbox flags text, p, e)) = absurd p
+done_mail tag m next (inr (ForVerdict origin mailbox flags text, p, e)) = absurd p
 
 done_drops : Drops ForItsDone
 done_drops purpose size p = absurd p
@@ -412,7 +419,7 @@ so_mail tag now x answers turn w e = done_mail tag now.mailing turn.standing.mai
 pub refused_mail : (tag words : List ℕ) (now : Standing) (answers : List Answer) (turn : Turn) → played tag now (says words) answers ≡ Some turn → turn.standing.mailing ≡ now.mailing
 refused_mail tag words now answers turn e = so_mail tag now (says words) answers turn tt e
 
-pub other_mail : (tag : List ℕ) (now : Standing) (command : Command) (answers : List Answer) (turn : Turn) → IsNoAppend command → on_line (logs_in_as now.login command) now tag command answers ≡ Some turn → turn.standing.mailing ≡ now.mailing
+pub other_mail : (tag : List ℕ) (now : Standing) (command : Command) (answers : List Answer) (turn : Turn) → SubmitsNone command → on_line (logs_in_as now.login command) now tag command answers ≡ Some turn → turn.standing.mailing ≡ now.mailing
 other_mail tag now command answers turn other e =
     line_case (turn.standing.mailing ≡ now.mailing) now tag command answers turn (λ logs d. so_mail tag (logged_in now) (completed command) answers turn tt d)
     (λ text is d. refused_mail tag (response_text text) now answers turn d) (λ d. so_mail tag now (on_command now command) answers turn (command_waits now command other) d) e
@@ -424,6 +431,44 @@ append_mail tag now append answers turn e =
     line_case (IsMail A tag now.mailing turn.standing.mailing) now tag (commands.Append append) answers turn (λ logs d. inl (so_mail tag (logged_in now) (completed (commands.Append append)) answers turn tt d))
     (λ text is d. inl (refused_mail tag (response_text text) now answers turn d))
     (λ d. some_mail A tag now.mailing _ turn (played_mail A (literal_drops (number_named append.name now.folders) append) tag now (on_command now (commands.Append append)) answers (append_waits now.mailing.most now.folders append)) d) e
+
+-- ---- COPY and MOVE
+
+-- a copy by this command, in its form, of the one message that it names in a view
+pub record IsCopyBy (copy : CopyMessages) (source : Source) : Type 0 where
+  pub view : List ℕ
+  pub one : named_in copy.by_uid copy.set view ≡ Some (source.uid ∷ [])
+  pub by_uid : copy.by_uid ≡ source.by_uid
+  pub moves : copy.moves ≡ source.moves
+
+abbrev pub ComesOf : CopyMessages → Origin → Type 0
+ComesOf copy Client = ⊥
+ComesOf copy (Copied source) = IsCopyBy copy source
+
+-- it waits for the verdict on a copy, in the mailbox that it named
+abbrev pub ForItsCopy : Option ℕ → CopyMessages → Waiting → Type 0
+ForItsCopy found copy (ForVerdict origin mailbox flags text) = (found ≡ Some mailbox) × ComesOf copy origin
+ForItsCopy found copy w = ⊥
+
+copy_drops : (found : Option ℕ) (copy : CopyMessages) → Drops (ForItsCopy found copy)
+copy_drops found copy purpose size p = absurd p
+
+copy_waits : (now : Standing) (copy : CopyMessages)
+    → WaitsAs (ForItsCopy (number_named copy.name now.folders) copy) (on_command now (commands.Copy copy))
+copy_waits now copy =
+    copies_so (WaitsAs (ForItsCopy (number_named copy.name now.folders) copy))
+    (record { told = λ text. tt; wanted = λ x p. p; looked = λ by_uid set next p. p; found = λ uid mark next p. p }) now copy
+    (λ source mailbox row copied. (copied.named, record { view = copied.view; one = copied.one; by_uid = copied.by_uid; moves = copied.moves }))
+
+pub copy_mail : (tag : List ℕ) (now : Standing) (copy : CopyMessages) (answers : List Answer) (turn : Turn)
+    → on_line (logs_in_as now.login (commands.Copy copy)) now tag (commands.Copy copy) answers ≡ Some turn
+    → IsMail (ForItsCopy (number_named copy.name now.folders) copy) tag now.mailing turn.standing.mailing
+copy_mail tag now copy answers turn e =
+    let A : Waiting → Type 0 = ForItsCopy (number_named copy.name now.folders) copy in
+    line_case (IsMail A tag now.mailing turn.standing.mailing) now tag (commands.Copy copy) answers turn
+    (λ logs d. inl (so_mail tag (logged_in now) (completed (commands.Copy copy)) answers turn tt d))
+    (λ text is d. inl (refused_mail tag (response_text text) now answers turn d))
+    (λ d. some_mail A tag now.mailing _ turn (played_mail A (copy_drops (number_named copy.name now.folders) copy) tag now (on_command now (commands.Copy copy)) answers (copy_waits now copy)) d) e
 
 -- ---- lines that aren't whole yet, and those that are given up
 
@@ -471,16 +516,24 @@ idling_waits selected line = in_either ForItsDone (is_done line) (showing select
 pub idling_mail : (tag : List ℕ) (now : Standing) (selected : Option Selected) (line : List ℕ) (answers : List Answer) (turn : Turn) → played tag now (on_idle_line selected line) answers ≡ Some turn → turn.standing.mailing ≡ now.mailing
 idling_mail tag now selected line answers turn e = so_mail tag now (on_idle_line selected line) answers turn (idling_waits selected line) e
 
-verdict_waits : (selected : Option Selected) (mailbox : ℕ) (verdict : Verdict) → WaitsAs ForItsDone (on_verdict selected mailbox verdict)
-verdict_waits selected mailbox (verdicts.Stored uid) = λ status. in_showing ForItsDone selected _ tt
-verdict_waits selected mailbox (verdicts.Refused why) = tt
+stored_waits : (selected : Option Selected) (origin : Origin) (uidvalidity uid : ℕ) → WaitsAs ForItsDone (told_stored selected origin uidvalidity uid)
+stored_waits selected Client uidvalidity uid = in_showing ForItsDone selected _ tt
+stored_waits selected (Copied source) uidvalidity uid =
+    in_either ForItsDone source.moves (moving source uidvalidity uid) (showing selected (says (copied_words uidvalidity source.uid uid)))
+    (λ flags. tt) (in_showing ForItsDone selected _ tt)
 
-pub verdict_mail : (tag : List ℕ) (now : Standing) (selected : Option Selected) (mailbox : ℕ) (verdict : Verdict) (answers : List Answer) (turn : Turn) → played tag now (on_verdict selected mailbox verdict) answers ≡ Some turn → turn.standing.mailing ≡ now.mailing
-verdict_mail tag now selected mailbox verdict answers turn e = so_mail tag now (on_verdict selected mailbox verdict) answers turn (verdict_waits selected mailbox verdict) e
+verdict_waits : (selected : Option Selected) (origin : Origin) (mailbox : ℕ) (verdict : Verdict)
+    → WaitsAs ForItsDone (on_verdict selected origin mailbox verdict)
+verdict_waits selected origin mailbox (verdicts.Stored uid) = λ status. stored_waits selected origin status.uidvalidity uid
+verdict_waits selected origin mailbox (verdicts.Refused why) = tt
+
+pub verdict_mail : (tag : List ℕ) (now : Standing) (selected : Option Selected) (origin : Origin) (mailbox : ℕ) (verdict : Verdict) (answers : List Answer) (turn : Turn) → played tag now (on_verdict selected origin mailbox verdict) answers ≡ Some turn → turn.standing.mailing ≡ now.mailing
+verdict_mail tag now selected origin mailbox verdict answers turn e =
+    so_mail tag now (on_verdict selected origin mailbox verdict) answers turn (verdict_waits selected origin mailbox verdict) e
 
 -- behind a literal it waits for the verdict on that message
 abbrev pub ForItsVerdict : PendingLiteral → Bool → Waiting → Type 0
-ForItsVerdict a empty (ForVerdict mailbox flags text) = (mailbox_for a.purpose ≡ Some mailbox) × (flags ≡ flags_for a.purpose) × (a.text ≡ Some text) × (empty ≡ true)
+ForItsVerdict a empty (ForVerdict origin mailbox flags text) = (mailbox_for a.purpose ≡ Some mailbox) × (flags ≡ flags_for a.purpose) × (a.text ≡ Some text) × (empty ≡ true) × (origin ≡ Client)
 ForItsVerdict a empty w = ⊥
 
 verdict_drops : (a : PendingLiteral) (empty : Bool) → Drops (ForItsVerdict a empty)
@@ -495,7 +548,7 @@ text_waits mailing a empty text mailbox m t e =
     let A : Waiting → Type 0 = ForItsVerdict a empty in
     in_either A (is_over mailing.most a.size) (over mailing.most) _ (over_so A mailing.most)
     (in_either A (list_any (λ b. b == 0) text) (says (response_text texts.NulByte)) _ tt
-    (in_either A (nat_le last_number mailing.number) (says (response_text texts.MailboxSpent)) (wanting (ex.Wait [] (ForVerdict mailbox (flags_for a.purpose) text))) tt (m, refl, t, e)))
+    (in_either A (nat_le last_number mailing.number) (says (response_text texts.MailboxSpent)) (wanting (ex.Wait [] (ForVerdict Client mailbox (flags_for a.purpose) text))) tt (m, refl, t, e, refl)))
 
 rest_waits : (mailing : Mailing) (a : PendingLiteral) (empty : Bool) → WaitsAs (ForItsVerdict a empty) (on_rest mailing a empty)
 rest_waits mailing a empty = by_text a.text refl

@@ -1,5 +1,5 @@
--- What the answers to a client tell of the messages that it appended (RFC 9051, 6.3.12; RFC 4315, 3).
-use Rattle.std.specs.Prelude.{◌≡◌, ◌⊎◌, ◌==◌, ℕ, false, true, codes, drop, length, reverse, take, List, [], ◌∷◌, ◌++◌, AllPairs, Contains, filter_map, Ok, Option, Some, None, if◌then◌else◌}
+-- What the answers to a client tell of the messages that it appended or had copied (RFC 9051, 6.3.12 and 6.4.7; RFC 4315, 3; RFC 6851).
+use Rattle.std.specs.Prelude.{◌≡◌, ◌⊎◌, ◌==◌, ℕ, false, true, codes, drop, length, reverse, take, List, [], ◌∷◌, ◌++◌, AllPairs, Contains, filter_map, Ok, Option, Some, None, if◌then◌else◌, Bool, ◌||◌}
 use Rattle.delivery_token.specs.Keys.{Below}
 use Rattle.delivery_token.specs.declared.CopyKey.{CopyKey}
 use Rattle.delivery_token.specs.declared.Job.{Job}
@@ -16,8 +16,8 @@ use Rattle.imap_grammar.specs.declared.command.Append.{Append}
 use Rattle.imap_grammar.specs.declared.command.Authenticate.{Authenticate}
 use Rattle.imap_grammar.specs.declared.command.Literal.{Literal}
 use Rattle.imap_grammar.specs.declared.command.Command.TheVariants as commands
-use Rattle.imap_session.specs.Commands.{appended_words, number_named, refused_text, response_in}
-use Rattle.imap_session.specs.Exchange.{Folder, Sent, refusal_text, tagged}
+use Rattle.imap_session.specs.Commands.{appended_words, copied_words, moved_words, number_named, refused_text, response_in}
+use Rattle.imap_session.specs.Exchange.{Folder, Sent, refusal_text, tagged, untagged}
 use Rattle.imap_session.specs.Telling.{tells_uid}
 use Rattle.world.specs.Law.{StandsOnce, pairs}
 use Rattle.world.specs.World.{World}
@@ -29,6 +29,14 @@ use Rattle.exactly_once.specs.Promise.{Entry, IsRecord}
 use Rattle.laws_client.specs.Clients.{Told, bytes_in}
 use Rattle.laws_client.specs.ClientRecords.{IsPrintable, KeepsUp, KeptUp, sent_by_then, serial_by_then, stays_by_then, user_by_then}
 use Rattle.imap_session.specs.Texts.{response_text}
+use Rattle.imap_grammar.specs.Sets.{named_in}
+use Rattle.imap_grammar.specs.Verbs.{copy_verb}
+use Rattle.imap_grammar.specs.declared.command.CopyMessages.{CopyMessages}
+use Rattle.imap_session.specs.declared.standing.Origin.{Origin}
+use Rattle.imap_session.specs.declared.standing.Origin.TheVariants.{Client, Copied}
+use Rattle.imap_session.specs.declared.standing.Source.{Source}
+use Rattle.imap_session.specs.declared.texts.ResponseText.TheVariants as texts
+use Rattle.std.specs.Str.{bytes_eq}
 
 -- ---- how an answer ends
 
@@ -46,9 +54,17 @@ pub record EndsWith (tag words bytes : List ℕ) : Type 0 where
   pub chosen : is_word_of is_tag tag ≡ true
   pub last : last_line bytes ≡ tag ++ codes " " ++ words
 
+-- the words behind the tag begin as those that tell the UID of a message that was copied, and of its copy
+abbrev pub tells_copy : List ℕ → Bool
+tells_copy words = bytes_eq (take 12 words) (codes "OK [COPYUID ")
+
+-- they tell under which UID a message was stored
+abbrev pub tells_stored : List ℕ → Bool
+tells_stored words = tells_uid words || tells_copy words
+
 -- it doesn't end in a line that tells a UID, whatever the tag
 abbrev pub TellsOfNone : List ℕ → Type 0
-TellsOfNone bytes = (tag words : List ℕ) → EndsWith tag words bytes → tells_uid words ≡ false
+TellsOfNone bytes = (tag words : List ℕ) → EndsWith tag words bytes → tells_stored words ≡ false
 
 -- ---- which message it was
 
@@ -76,19 +92,63 @@ pub record IsSentAs (folders : List Folder) (sent : List ℕ) (message : Sent) :
   pub size : length message.append.text ≡ append.literal.size
   pub whole : sent ≡ front ++ (bytes ++ crlf) ++ message.append.text ++ crlf ++ behind
 
+-- A client had this message copied so (RFC 9051, 6.4.7; RFC 6851): by a COPY or MOVE under its tag, which names the mailbox of the copy,
+-- and one message of a view, that with this UID.
+pub record IsCopyOf (folders : List Folder) (sent : List ℕ) (message : Sent) (source : Source) : Type 0 where
+  pub front : List ℕ
+  pub bytes : List ℕ
+  pub line : List ℕ
+  pub behind : List ℕ
+  pub copy : CopyMessages
+  pub view : List ℕ
+  pub spelled : IsSpelled bytes line
+  pub reads : read line ≡ Ok (message.tag, commands.Copy copy)
+  pub named : number_named copy.name folders ≡ Some message.append.mailbox
+  pub by_uid : copy.by_uid ≡ source.by_uid
+  pub moves : copy.moves ≡ source.moves
+  pub one : named_in copy.by_uid copy.set view ≡ Some (source.uid ∷ [])
+  pub whole : sent ≡ front ++ (bytes ++ crlf) ++ behind
+
+-- by where the message comes from
+abbrev pub CameBy : Origin → List Folder → List ℕ → Sent → Type 0
+CameBy Client folders sent message = IsSentAs folders sent message
+CameBy (Copied source) folders sent message = IsCopyOf folders sent message source
+
+abbrev pub CameAs : List Folder → List ℕ → Sent → Type 0
+CameAs folders sent message = CameBy message.origin folders sent message
+
 -- ---- what is said to a verdict
+
+-- Of a MOVE, once the copy was stored: first of all one untagged line tells its UID, and that of the message which is moved.
+-- The last line is the OK, or what is said where the store refuses.
+pub record SaysMoved (uidvalidity uid : ℕ) (source : Source) (tag bytes : List ℕ) : Type 0 where
+  pub behind : List ℕ
+  pub tells : bytes ≡ untagged (moved_words uidvalidity source.uid uid) ++ behind
+  pub ends : EndsWith tag (response_text (texts.Completed (copy_verb source.by_uid true))) bytes
+      ⊎ ((fault : MailFault) × (last_line bytes ≡ last_line (refusal_text tag fault)))
+
+-- of a COPY the OK tells both UIDs
+abbrev pub SaysCopied : (moves : Bool) → (uidvalidity uid : ℕ) → Source → (tag : List ℕ) → List ℕ → Type 0
+SaysCopied true uidvalidity uid source tag bytes = SaysMoved uidvalidity uid source tag bytes
+SaysCopied false uidvalidity uid source tag bytes = EndsWith tag (copied_words uidvalidity source.uid uid) bytes
+
+-- of an APPEND the OK tells its UID
+abbrev pub SaysStored : Origin → (uidvalidity uid : ℕ) → (tag : List ℕ) → List ℕ → Type 0
+SaysStored Client uidvalidity uid tag bytes = EndsWith tag (appended_words uidvalidity uid) bytes
+SaysStored (Copied source) uidvalidity uid tag bytes = SaysCopied source.moves uidvalidity uid source tag bytes
 
 -- Where the message was stored: the OK that tells its UID, behind this UIDVALIDITY, or one line, where the store refuses to count its mailbox or to show what is pending.
 -- Where it was refused: a NO.
-abbrev pub SaysVerdict : (uidvalidity : ℕ) (tag : List ℕ) → Verdict → List ℕ → Type 0
-SaysVerdict uidvalidity tag (Stored uid) bytes = EndsWith tag (appended_words uidvalidity uid) bytes ⊎ ((fault : MailFault) × (bytes ≡ refusal_text tag fault))
-SaysVerdict uidvalidity tag (Refused why) bytes = bytes ≡ tagged tag (response_text (refused_text why))
+abbrev pub SaysVerdict : (uidvalidity : ℕ) → Origin → (tag : List ℕ) → Verdict → List ℕ → Type 0
+SaysVerdict uidvalidity origin tag (Stored uid) bytes =
+    SaysStored origin uidvalidity uid tag bytes ⊎ ((fault : MailFault) × (bytes ≡ refusal_text tag fault))
+SaysVerdict uidvalidity origin tag (Refused why) bytes = bytes ≡ tagged tag (response_text (refused_text why))
 
 -- the copy of a message, under this key
 abbrev pub copy_under : CopyKey → Sent → Job
 copy_under key message = record { key = key; mailbox = message.append.mailbox; text = message.append.text; flags = message.append.flags }
 
--- Who appended: the session with this serial at a place, with these mailboxes, to which its client sent all this.
+-- Whose messages they are: the session with this serial at a place, with these mailboxes, to which its client sent all this.
 pub record Author : Type 0 where
   pub place : ℕ
   pub serial : ℕ
@@ -101,13 +161,13 @@ pub record AnswersNoted (k : Setup) (w : World) (author : Author) (bytes : List 
   pub seat : noted.key.seat ≡ session_seat k author.place
   pub own : noted.key.serial ≡ author.serial
   pub heard : Contains (w.heard noted.key.seat) noted
-  -- of a message that its client sent so, and they have the tag of that APPEND
+  -- of a message that its client sent so, or had copied so, and they have the tag of that APPEND, COPY or MOVE
   pub message : Sent
   pub number : noted.key.message ≡ message.append.message
-  pub came : IsSentAs author.folders author.sent message
+  pub came : CameAs author.folders author.sent message
   pub chosen : is_word_of is_tag message.tag ≡ true
-  pub says : SaysVerdict k.config.uidvalidity message.tag noted.verdict bytes
-  -- a copy that was stored under a UID stands exactly once in the history of the mailbox that was named, under that UID, and with the text and the flags that were sent
+  pub says : SaysVerdict k.config.uidvalidity message.origin message.tag noted.verdict bytes
+  -- a copy that was stored under a UID stands exactly once in the history of the mailbox that was named, under that UID, and with the text and the flags of that message
   pub stands : (uid : ℕ) → noted.verdict ≡ Stored uid → StandsOnce (pairs (w.box noted.mailbox).accepted) noted.key uid
   pub stored : (uid : ℕ) → noted.verdict ≡ Stored uid → (noted.mailbox ≡ message.append.mailbox) × Contains (w.box noted.mailbox).accepted (copy_under noted.key message, uid)
 
@@ -129,11 +189,12 @@ AreAnswered k w author (one ∷ told) (verdict ∷ verdicts) = IsAnswered k w au
 abbrev pub as_it_is : Option Noted → Option Noted
 as_it_is verdict = verdict
 
--- These words, under this tag, are the OK for one copy of this session: of a message that its client sent under that tag. They tell the house's UIDVALIDITY and the UID under which it
+-- These words, under this tag, are the OK for one copy of this session: of a message that its client appended under that tag. They tell the house's UIDVALIDITY and the UID under which it
 -- stands, once, as its seat has heard: in the mailbox that was named, with the text and the flags that were sent.
 pub record TellsKept (k : Setup) (w : World) (author : Author) (tag said : List ℕ) (noted : Noted) : Type 0 where
   pub message : Sent
   pub number : noted.key.message ≡ message.append.message
+  pub origin : message.origin ≡ Client
   pub came : IsSentAs author.folders author.sent message
   pub under : tag ≡ message.tag
   pub uid : ℕ
@@ -146,21 +207,45 @@ pub record TellsKept (k : Setup) (w : World) (author : Author) (tag said : List 
   pub mailbox : noted.mailbox ≡ message.append.mailbox
   pub copy : Contains (w.box noted.mailbox).accepted (copy_under noted.key message, uid)
 
+-- These words, under this tag, are the OK for one copy of this session: of a message that its client had copied by a COPY under that tag.
+-- They tell the house's UIDVALIDITY, that message's UID, and the UID under which the copy stands, once, as its seat has heard: in the mailbox
+-- that was named.
+pub record TellsCopied (k : Setup) (w : World) (author : Author) (tag said : List ℕ) (noted : Noted) : Type 0 where
+  pub message : Sent
+  pub source : Source
+  pub number : noted.key.message ≡ message.append.message
+  pub origin : message.origin ≡ Copied source
+  pub stays : source.moves ≡ false
+  pub came : IsCopyOf author.folders author.sent message source
+  pub under : tag ≡ message.tag
+  pub uid : ℕ
+  pub words : said ≡ copied_words k.config.uidvalidity source.uid uid
+  pub seat : noted.key.seat ≡ session_seat k author.place
+  pub own : noted.key.serial ≡ author.serial
+  pub heard : Contains (w.heard noted.key.seat) noted
+  pub stored : noted.verdict ≡ Stored uid
+  pub once : StandsOnce (pairs (w.box noted.mailbox).accepted) noted.key uid
+  pub mailbox : noted.mailbox ≡ message.append.mailbox
+  pub copy : Contains (w.box noted.mailbox).accepted (copy_under noted.key message, uid)
+
 -- the session with this serial at a place, behind a record
 abbrev pub author_at : Setup → List Entry → (place serial : ℕ) → Author
 author_at k entries place serial = record { place = place; serial = serial; folders = folders_of k.directory (user_by_then place [] entries); sent = sent_by_then place [] entries }
 
--- What is known of all that a session told its client: of the messages that it appended.
+-- What is known of all that a session told its client: of the messages that it appended or had copied.
 pub record TellsOfAppends (k : Setup) (w : World) (author : Author) (told : List Told) : Type 0 where
   -- the verdicts that its answers were said to, answer by answer
   pub verdicts : List (Option Noted)
   pub each : AreAnswered k w author told verdicts
-  -- on messages in the order in which they were appended, so none is told twice
+  -- on messages in the order in which they were submitted, so none is told twice
   pub in_order : AllPairs (λ a b. Below a.key b.key) (filter_map as_it_is verdicts)
   -- So where an answer ends with `OK [APPENDUID ` behind any tag, that is for one copy of this session, which stands so;
   pub kept : (before after : List Told) (one : Told) (tag words : List ℕ) → told ≡ before ++ one ∷ after → EndsWith tag words (bytes_in one) → tells_uid words ≡ true
       → (noted : Noted) × TellsKept k w author tag words noted
-  -- and two such answers are for two copies, of which the first was appended first.
+  -- where it ends with `OK [COPYUID `, that is for one copy of a message that its client had copied, which stands so;
+  pub copied : (before after : List Told) (one : Told) (tag words : List ℕ) → told ≡ before ++ one ∷ after → EndsWith tag words (bytes_in one)
+      → tells_copy words ≡ true → (noted : Noted) × TellsCopied k w author tag words noted
+  -- and two answers of the first kind are for two copies, of which the first was appended first.
   pub apart : (before mid after : List Told) (one two : Told) (tag words other_tag other_words : List ℕ) → told ≡ before ++ one ∷ (mid ++ two ∷ after) → EndsWith tag words (bytes_in one) → tells_uid words ≡ true
       → EndsWith other_tag other_words (bytes_in two) → tells_uid other_words ≡ true
       → (a : Noted) × (b : Noted) × TellsKept k w author tag words a × TellsKept k w author other_tag other_words b × Below a.key b.key

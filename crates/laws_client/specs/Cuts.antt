@@ -92,14 +92,15 @@ EndsItself tag bytes = (front : List ℕ) × (words : List ℕ) × (bytes ≡ fr
 abbrev pub SaysBye : List ℕ → Type 0
 SaysBye bytes = (front : List ℕ) × (words : List ℕ) × (bytes ≡ front ++ bye words)
 
--- behind these commands the client goes on before the tagged line comes: with DONE, with its message, or with its response
+-- behind these commands the tagged line comes later: behind DONE, behind the message or the response, or behind the verdict on a copy
 abbrev pub leaves_open : Command → Bool
 leaves_open commands.Idle = true
 leaves_open (commands.Append append) = true
+leaves_open (commands.Copy copy) = true
 leaves_open (commands.Authenticate a) = is_plain a.mechanism && not (is_some a.initial)
 leaves_open command = false
 
--- The answer to a command ends with the tagged line of the command's own tag. Where it has no tagged line the session has said BYE, or it is IDLE, APPEND, or AUTHENTICATE PLAIN without a response.
+-- The answer to a command ends with the tagged line of the command's own tag. Where it has no tagged line the session has said BYE, or it is IDLE, APPEND, COPY, MOVE, or AUTHENTICATE PLAIN without a response.
 abbrev pub IsAnswered : (tag : List ℕ) → Command → List ℕ → Type 0
 IsAnswered tag command bytes = ((is_ended bytes ≡ true) × EndsItself tag bytes) ⊎ ((is_ended bytes ≡ false) × ((leaves_open command ≡ true) ⊎ SaysBye bytes))
 

@@ -110,7 +110,7 @@ pub fn lists_are_current()
     // DONE ends an IDLE with such an OK, too.
     ensures entries { AnswersMakeCurrent }
 
-    // And at each entry at which a session puts a message that its client appended, or hears the verdict on it: behind the OK of an APPEND.
+    // And at each entry at which a session puts a message that its client appended or had copied, or hears the verdict on it: behind the OK of that.
     ensures verdicts { VerdictsMakeCurrent }
 {}
 
@@ -136,12 +136,13 @@ pub fn clients_keep_up()
     ensures settings { SettingsCanBePrinted }
 {}
 
-/// What a client may conclude of the messages that it appended, by the answers that its session gave it, over any record of a house
+/// What a client may conclude of the messages that it appended or had copied, by the answers that its session gave it, over any record of a house
 /// that was new. Where the last line of an answer begins `OK [APPENDUID ` behind a tag, that is the tag of an APPEND that it sent, and
 /// the line tells the house's UIDVALIDITY and the UID under which one copy of this very session stands in the history of the mailbox
 /// that this APPEND named, exactly once, with the text that was sent as its literal: its seat has heard so (RFC 9051, 6.3.12; RFC 4315,
 /// 3). Such answers are about different messages, in the order in which they were appended; and to each verdict that says that the
-/// message is stored the session answers that OK, unless the store refuses.
+/// message is stored the session answers that OK, unless the store refuses. What it answers to the verdict on a copy (6.4.7; RFC 6851) tells both UIDs,
+/// and the copy stands so too.
 pub fn appends_are_told()
     // Beside each answer of a session that is there stands the verdict that it was said to, or none; and it says what is said to that.
     ensures there { AppendsAreTold }

@@ -1,15 +1,18 @@
 -- How answers end, which numbers their last lines tell, and how a client cuts what it reads.
-use Rattle.std.specs.Prelude.{◌≡◌, ℕ, List, true, false, codes, [], ◌∷◌}
+use Rattle.std.specs.Prelude.{◌≡◌, ℕ, List, true, false, codes, [], ◌∷◌, Bool}
 use Rattle.imap_grammar.specs.Literals.{announced}
 use Rattle.imap_grammar.specs.Reading.{read}
 use Rattle.imap_session.specs.Exchange.{Sent}
 use Rattle.std.specs.Fmt.{digits}
-use Rattle.std.proofs.Common.{refl}
-use Rattle.imap_session.specs.Commands.{appended_words}
+use Rattle.std.proofs.Common.{refl, inl}
+use Rattle.imap_session.specs.Commands.{appended_words, copied_words}
 use Rattle.imap_session.specs.Telling.{tells_uid}
-use Rattle.laws_client.specs.Appends.{EndsWith, IsSentAs, IsSpelled, as_it_stands, last_line, with_literal, with_response}
+use Rattle.laws_client.specs.Appends.{EndsWith, IsSentAs, IsSpelled, as_it_stands, last_line, with_literal, with_response, IsCopyOf, SaysMoved}
 use Rattle.laws_client.specs.Clients.{Answer, Words}
 use Rattle.laws_client.specs.Cuts.{amid, between, cut_between, cuts, is_ended}
+use Rattle.imap_session.specs.declared.standing.Origin.TheVariants.{Client, Copied}
+use Rattle.imap_session.specs.declared.standing.Source.{Source}
+use Rattle.imap_grammar.specs.declared.set.SeqNumber.TheVariants.{Number}
 
 -- ---- the last line
 
@@ -37,7 +40,7 @@ not_of_a_fetch = refl
 -- ---- which message was sent
 
 abbrev a_message : (mailbox : ℕ) → (text : List ℕ) → Sent
-a_message mailbox text = record { tag = codes "a1"; append = record { message = 0; mailbox = mailbox; flags = record { answered = false; flagged = false; deleted = false; seen = true; draft = false }; text = text } }
+a_message mailbox text = record { tag = codes "a1"; append = record { message = 0; mailbox = mailbox; flags = record { answered = false; flagged = false; deleted = false; seen = true; draft = false }; text = text }; origin = Client }
 
 -- a client that may first have said something else, and goes on behind
 sent_so : IsSentAs (record { name = codes "INBOX"; mailbox = 4 } ∷ []) (codes "a0 NOOP\r\na1 APPEND INBOX (\\Seen) {3}\r\nx\r\n\r\na2 LOGOUT\r\n") (a_message 4 (codes "x\r\n"))
@@ -72,6 +75,40 @@ sent_by_literals = record {
   size = refl;
   whole = refl;
 }
+
+-- a copy of the second message that the client was told of, which has the UID 7
+abbrev of_the_second : Bool → Source
+of_the_second moves = record { uid = 7; by_uid = false; moves = moves }
+
+abbrev a_copy : (mailbox : ℕ) → (text : List ℕ) → Sent
+a_copy mailbox text = record (a_message mailbox text) { origin = Copied (of_the_second false) }
+
+copied_so : IsCopyOf (record { name = codes "INBOX"; mailbox = 4 } ∷ record { name = codes "Archive"; mailbox = 5 } ∷ []) (codes "a0 NOOP\r\na1 COPY 2 Archive\r\n") (a_copy 5 (codes "x\r\n")) (of_the_second false)
+unfolding read
+copied_so = record {
+  front = codes "a0 NOOP\r\n";
+  bytes = codes "a1 COPY 2 Archive";
+  line = codes "a1 COPY 2 Archive";
+  behind = [];
+  copy = record { by_uid = false; moves = false; set = record { from = Number 2; to = Number 2 } ∷ []; name = codes "Archive" };
+  view = 3 ∷ 7 ∷ [];
+  spelled = as_it_stands (codes "a1 COPY 2 Archive");
+  reads = refl;
+  named = refl;
+  by_uid = refl;
+  moves = refl;
+  one = refl;
+  whole = refl;
+}
+
+told_of_a_copy : EndsWith (codes "a1") (copied_words 8 7 1) (codes "* 3 EXISTS\r\na1 OK [COPYUID 8 7 1] COPY completed\r\n")
+unfolding digits
+told_of_a_copy = record { chosen = refl; last = refl }
+
+-- of a MOVE, where the message is removed
+moved_so : SaysMoved 8 1 (of_the_second true) (codes "a1") (codes "* OK [COPYUID 8 7 1] Moved\r\n* 2 EXPUNGE\r\na1 OK MOVE completed\r\n")
+unfolding digits
+moved_so = record { behind = codes "* 2 EXPUNGE\r\na1 OK MOVE completed\r\n"; tells = refl; ends = inl (record { chosen = refl; last = refl }) }
 
 -- two literals, and a response
 spelled_twice : IsSpelled (codes "a LOGIN {2+}\r\nme {3+}\r\na\"b") (codes "a LOGIN \"me\" \"a\\\"b\"")

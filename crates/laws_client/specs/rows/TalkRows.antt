@@ -16,6 +16,7 @@ use Rattle.laws_client.specs.Clients.{Answer, Words}
 use Rattle.laws_client.specs.Commands.{whole_line}
 use Rattle.laws_client.specs.RecordTurns.{told_of}
 use Rattle.laws_client.specs.Talks.{Heard, Line, Literal, Talks}
+use Rattle.imap_session.specs.declared.standing.Origin.TheVariants.{Client}
 
 abbrev pub selected : Standing
 selected = record (begun_with (record { most = Some 10; profile = Standard; login = None }) []) { selected = Some (record { mailbox = 0; read_only = false }) }
@@ -44,7 +45,7 @@ abbrev pub come : Standing
 come = with_bytes true (codes "x") due
 
 abbrev pub submitted : Standing
-submitted = waiting (codes "a1") (ForVerdict 0 no_flags (codes "x")) (without_begun come)
+submitted = waiting (codes "a1") (ForVerdict Client 0 no_flags (codes "x")) (without_begun come)
 
 -- what came as a command with a line: where an argument goes before it, a response is asked for, or a message; and where memory was refused to the argument
 abbrev pub goes_on : Purpose → (text : Option (List ℕ)) → Standing
