@@ -60,11 +60,11 @@ fn refusal(copy: &CopyMessages<'_>, selected: Option<Selected>) -> Option<Respon
 
 // The UID of the one message that is named, or what is said where there is none, or there are several.
 fn one_of(copy: &CopyMessages<'_>, messages: &[Named]) -> Result<u32, ResponseText>
-    ensures said { IfErr result (λ text. (view uids : List ℕ) → messages.now ≡ map (named_at view) uids
-        → (mailing : MailingSpec) (mailbox : ℕ)
+    ensures said { IfErr result (λ text. (view uids : List ℕ)
+        → messages.now ≡ map (named_at view) uids → (mailing : MailingSpec) (mailbox : ℕ)
         → copy_of mailing copy.now mailbox uids ≡ says (response_text text)) }
-    ensures one { IfOk result (λ uid. (view uids : List ℕ) → messages.now ≡ map (named_at view) uids
-        → (mailing : MailingSpec) (mailbox : ℕ) → copy_of mailing copy.now mailbox uids
+    ensures one { IfOk result (λ uid. (view uids : List ℕ)
+        → messages.now ≡ map (named_at view) uids → (mailing : MailingSpec) (mailbox : ℕ) → copy_of mailing copy.now mailbox uids
         ≡ Read uid false (on_found (copying mailing (source_of copy.now uid) mailbox) (copy_gone copy.now))) }
 {
     match messages {
@@ -124,10 +124,12 @@ fn find_message<S: Store>(
 
 // Why a message of so many bytes isn't copied by a session that takes messages of at most so many, and has submitted as many as this.
 fn refused_copy(most: Option<u32>, number: u32, size: usize) -> Option<ResponseText>
-    ensures refused { IfSome result (λ text. (mailing : MailingSpec) (source : Source) (mailbox : ℕ) (row : RowSpec)
+    ensures refused { IfSome result (λ text. (mailing : MailingSpec) (source : Source)
+        (mailbox : ℕ) (row : RowSpec)
         → mailing.most ≡ most → mailing.number ≡ number → length row.text ≡ size
         → copying mailing source mailbox row ≡ says (response_text text)) }
-    ensures taken { IfNone result ((mailing : MailingSpec) (source : Source) (mailbox : ℕ) (row : RowSpec)
+    ensures taken { IfNone result ((mailing : MailingSpec) (source : Source) (mailbox : ℕ)
+        (row : RowSpec)
         → mailing.most ≡ most → mailing.number ≡ number → length row.text ≡ size
         → copying mailing source mailbox row
         ≡ wanting (Wait [] (ForVerdict (Copied source) mailbox row.flags row.text))) }
