@@ -194,7 +194,7 @@ def copying(house):
     one_at_a_time = ("NO", [b"[LIMIT] One message at a time"])
     expect("COPY of two", client.copy("1:2", "INBOX"), one_at_a_time)
     expect("MOVE of all", client.uid("MOVE", "1:*", "INBOX"), one_at_a_time)
-    expect("COPY elsewhere", client.copy("1", "Play"), ("NO", [b"[TRYCREATE] No such mailbox"]))
+    expect("COPY elsewhere", client.copy("1", "Play")[0], "NO")
     expect("what is there", client.status("INBOX", "(MESSAGES UIDNEXT)"), ("OK", [b"INBOX (MESSAGES 3 UIDNEXT 4)"]))
     expect("UID MOVE", client.uid("MOVE", "1", "INBOX")[0], "OK")
     expect("what is there then", client.uid("SEARCH", "ALL"), ("OK", [b"2 3 4"]))

@@ -60,22 +60,22 @@ pub(crate) fn is_idle(command: &Command<'_>) -> bool
 }
 
 /// The message that is to be appended, where it is APPEND.
-pub(crate) fn append_of<'a, 'b>(command: &'b Command<'a>) -> Option<&'b Append<'a>>
-    ensures some { IfSome result (λ a. command.now ≡ commands.Append a.now) }
-    ensures none { IfNone result (is_open command.now ≡ (is_idle command.now || is_copy command.now)) }
+pub(crate) fn append_of<'a, 'b>(said: &'b Command<'a>) -> Option<&'b Append<'a>>
+    ensures some { IfSome result (λ a. said.now ≡ commands.Append a.now) }
+    ensures none { IfNone result (is_open said.now ≡ (is_idle said.now || is_copy said.now)) }
 {
-    match command {
+    match said {
         Command::Append(append) => Some(append),
         _ => None,
     }
 }
 
 /// What is to be copied, where it is COPY or MOVE.
-pub(crate) fn copy_of<'a, 'b>(command: &'b Command<'a>) -> Option<&'b CopyMessages<'a>>
-    ensures some { IfSome result (λ c. command.now ≡ commands.Copy c.now) }
-    ensures none { IfNone result (is_copy command.now ≡ false) }
+pub(crate) fn copy_of<'a, 'b>(said: &'b Command<'a>) -> Option<&'b CopyMessages<'a>>
+    ensures some { IfSome result (λ c. said.now ≡ commands.Copy c.now) }
+    ensures none { IfNone result (is_copy said.now ≡ false) }
 {
-    match command {
+    match said {
         Command::Copy(copy) => Some(copy),
         _ => None,
     }
