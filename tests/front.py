@@ -428,8 +428,6 @@ def mail_through_the_front(alice, bob, front):
 def what_is_refused(alice, bob, front):
     with front.reader("alice") as client:
         before = [client.status(name, "(MESSAGES)") for name in ("INBOX", "Work")]
-        refused("COPY", lambda: client.copy("1", "Work"), CANNOT)
-        refused("MOVE", lambda: client.uid("MOVE", "1", "Work"), CANNOT)
         refused("a keyword", lambda: client.store("1", "+FLAGS", "($Forwarded)"), b"[CANNOT] Can't create new keywords")
         refused("CREATE", lambda: client.create("Trash"), CANNOT)
         refused("RENAME", lambda: client.rename("Work", "Play"), CANNOT)
@@ -484,7 +482,7 @@ CHECKS = (
     ("one transaction of LMTP for both users and a folder", mail_through_the_front),
     ("twelve clients of a user, and one more that is refused", too_many),
     ("no error in Dovecot's log so far", no_errors),
-    ("COPY, MOVE, keywords, CREATE, RENAME, DELETE are refused, and nothing is lost", what_is_refused),
+    ("keywords, CREATE, RENAME, DELETE are refused, and nothing is lost", what_is_refused),
     ("a server that is away and comes again", a_server_that_is_away),
     ("LOGIN with another's password, and as nobody who is known", wrong_passwords),
 )
