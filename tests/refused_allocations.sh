@@ -5,10 +5,10 @@
 # - with status 0, and what was written is that up to a first line `451 4.3.0 Out of memory` of a connection, `NO Out of memory` under a
 #   tag of a session, or `* BYE Out of memory`, behind which the script goes on;
 # - with status 0 and the whole output, where the program could do without that memory.
-# And where a copy was answered `Delivered`, or `OK` with APPENDUID, and the script came to its TAIL, the mailbox has it, under the UID that was told. Each case
+# And where a copy was answered `Delivered`, or `OK` with APPENDUID or COPYUID, and the script came to its TAIL, the mailbox has it, under the UID that was told. Each case
 # ends with a TAIL for that. Whatever was refused, the text of a literal is never answered as a command: such texts have tags that begin with x.
 # Where a SELECT or EXAMINE isn't answered OK no mailbox is selected, as the next CLOSE tells; and one behind another tells first that the other is closed.
-# One case is of the compatible profile: there a literal may be an argument of any command, and a response comes on a line of its own.
+# Two cases are of the compatible profile: there a literal may be an argument of any command, a response comes on a line of its own, and messages are copied.
 # With no argument it builds the program; else the argument is the program.
 set -eu
 top=$(CDPATH= cd -- "$(dirname -- "$0")/.." && pwd)
@@ -54,15 +54,15 @@ is_right() {
     esac
 }
 
-# Whether each copy that was answered as delivered, or as appended, stands in the mailbox, where the script came that far: the UIDs that were told are UIDs of
+# Whether each copy that was answered as delivered, or that a client appended or had copied, stands in the mailbox, where the script came that far: the UIDs that were told are UIDs of
 # messages that were added, none is told twice, and no more copies are answered than were added.
 is_kept() {
     grep -q '^T alice total' "$room/out" || return 0
     awk '
         /^L1 250 2\.1\.5 Delivered$/ { answered++ }
-        $1 == "I1" && $3 == "OK" && $4 == "[APPENDUID" {
+        $1 == "I1" && $3 == "OK" && ($4 == "[APPENDUID" || $4 == "[COPYUID") {
             answered++
-            uid = $6
+            uid = $4 == "[COPYUID" ? $7 : $6
             sub(/\]$/, "", uid)
             if ($5 != 7 || uid in told) wrong = 1
             told[uid] = 1
@@ -126,14 +126,14 @@ try_case() {
 }
 
 passed=0 failed=0
-for case in first-message two-recipients-one-unknown select-and-list select-behind-another expunge partial-and-seen idle append commands-in-literals literals-in-commands; do
+for case in first-message two-recipients-one-unknown select-and-list select-behind-another expunge partial-and-seen idle append commands-in-literals literals-in-commands copies; do
     input=$top/tests/cases/$case.stdin want=$top/tests/cases/$case.stdout
     # The first message is what the program's stored run reads.
     if test "$case" = first-message; then
         input=$top/crates/post_house/stdin want=$top/crates/post_house/stdout
     fi
     words=$standard
-    if test "$case" = literals-in-commands; then words=$compatible; fi
+    case $case in literals-in-commands | copies) words=$compatible ;; esac
     try_case
 done
 echo "$passed passed, $failed failed"
