@@ -183,6 +183,7 @@ def copying(house):
     client = connect(house.imap_ports[1])
     client.login("bob", "")
     expect("his mail", client.select(), ("OK", [b"1"]))
+    client.response("EXISTS")
     expect("a flag", client.store("1", "+FLAGS", r"(\Flagged)")[0], "OK")
     expect("COPY", client.copy("1", "inbox"), ("OK", [b"[COPYUID 7 1 2] COPY completed"]))
     expect("what it showed", client.response("EXISTS"), ("EXISTS", [b"2"]))
