@@ -57,6 +57,10 @@ seen_logged false rows uid = []
 abbrev pub removals : (ℕ → Bool) → List Row → List Change
 removals test rows = map (λ (r : Row). Gone r.uid) (filter (λ (r : Row). r.flags.deleted && test r.uid) rows)
 
+-- what discarding messages logs: a Gone for each row that passes the test, whatever its flags, in the order of the rows
+abbrev pub discards : (ℕ → Bool) → List Row → List Change
+discards test rows = map (λ (r : Row). Gone r.uid) (filter (λ (r : Row). test r.uid) rows)
+
 -- what leaving a mailbox logs: all removals, if they are wanted
 abbrev pub removals_if : Bool → List Row → List Change
 removals_if true rows = removals (λ uid. true) rows

@@ -3,7 +3,7 @@ use Rattle.std.specs.Prelude.{ℕ, ◌+◌, ◌==◌, ◌&&◌, ◌||◌, Bool, 
 use Rattle.std.specs.List.{filter_map}
 use Rattle.change_ring.specs.declared.change.Change.{Change}
 use Rattle.change_ring.specs.Log.{Row, rows_of}
-use Rattle.change_ring.specs.Logged.{arrival, flags_logged, removals, removals_if, seen_logged}
+use Rattle.change_ring.specs.Logged.{arrival, discards, flags_logged, removals, removals_if, seen_logged}
 use Rattle.delivery_token.specs.declared.CopyKey.{CopyKey}
 use Rattle.delivery_token.specs.declared.Job.{Job}
 use Rattle.delivery_token.specs.declared.Verdict.{Verdict}
@@ -12,7 +12,7 @@ use Rattle.mailbox.specs.Events.{in_set}
 use Rattle.house_history.specs.declared.event.Event.{Event}
 use Rattle.house_history.specs.declared.event.Event.TheVariants.{Sent, Withdrawn, Judged, Changed}
 use Rattle.house_history.specs.declared.event.Step.{Step}
-use Rattle.house_history.specs.declared.event.Step.TheVariants.{Read, Alter, Expunge, Leave}
+use Rattle.house_history.specs.declared.event.Step.TheVariants.{Read, Alter, Expunge, Leave, Discard}
 
 -- whose part an event is: mailbox m is owner m, seat p is owner 256 + p, and the copy that has ticket t is owner 512 + t
 abbrev pub seat_key : ℕ → ℕ
@@ -96,6 +96,7 @@ logged (Read uid mark) rows = seen_logged mark rows uid
 logged (Alter uid op) rows = flags_logged rows uid op
 logged (Expunge uids) rows = removals (in_set uids) rows
 logged (Leave remove) rows = removals_if remove rows
+logged (Discard uids) rows = discards (in_set (Some uids)) rows
 
 -- what a verdict on a copy logs
 abbrev pub arrives : Job → Verdict → List Change

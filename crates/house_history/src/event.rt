@@ -14,6 +14,8 @@ pub enum Step {
     Expunge(Option<LinkedList<u32>>),
     /// A client left; those with \Deleted were to be removed, or not.
     Leave(bool),
+    /// The messages of these UIDs were removed, whatever their flags.
+    Discard(LinkedList<u32>),
 }
 
 /// What happened. The last number of each is the copy's ticket.

@@ -36,6 +36,8 @@ pub data Call : Type 0 where
   -- at most so many changes
   Feed : ℕ → Call
   Leave : (remove : Bool) → Call
+  -- these of a mailbox, whatever their flags, whether the session entered it or not
+  Discard : (mailbox : ℕ) (uids : List ℕ) → Call
 
 -- what the store answers
 pub data Answer : Type 0 where
@@ -49,6 +51,7 @@ pub data Answer : Type 0 where
   -- to a Feed: the view that it met, and the changes that it showed
   Fed : (view : List ℕ) → List Change → Answer
   Left : ℕ → Answer
+  Discarded : Answer
   Refused : MailFault → Answer
   -- no call was made: the session wrote so many more pieces, and then memory was refused to it
   Starved : ℕ → Answer
@@ -229,6 +232,7 @@ pub data Exchange : Type 0 where
   Expunge : Option (List ℕ) → Exchange → Exchange
   Feed : ℕ → Exchange → Exchange
   Leave : Bool → Exchange → Exchange
+  Discard : (mailbox : ℕ) (uids : List ℕ) → Exchange → Exchange
 
 -- what one line leads to
 pub record Turn : Type 0 where
@@ -344,4 +348,6 @@ played tag now (Feed limit x) (Refused fault ∷ []) = Some (having (Feed limit)
 played tag now (Leave remove x) (Left gone ∷ more) =
     option_map (having (Leave remove) (Left gone)) (played tag (record now { selected = None }) x more)
 played tag now (Leave remove x) (Refused fault ∷ []) = Some (having (Leave remove) (Refused fault) (refused tag now fault))
+played tag now (Discard mailbox uids x) (Discarded ∷ more) = option_map (having (Discard mailbox uids) Discarded) (played tag now x more)
+played tag now (Discard mailbox uids x) (Refused fault ∷ []) = Some (having (Discard mailbox uids) (Refused fault) (refused tag now fault))
 played tag now x answers = None

@@ -11,7 +11,7 @@ use Rattle.delivery_token.specs.declared.Verdict.{Verdict}
 use Rattle.change_ring.specs.Log.{replay}
 use Rattle.cursor_set.specs.Lines.{lines}
 use Rattle.imap_session.specs.declared.standing.After.{After}
-use Rattle.imap_session.specs.Exchange.{Message, PendingLiteral, Purpose, Call, Answer, Entered, Looked, Expunged, Fed, Left, Refused, Event, Feed, Sent, Standing}
+use Rattle.imap_session.specs.Exchange.{Message, PendingLiteral, Purpose, Call, Answer, Entered, Looked, Expunged, Fed, Left, Discarded, Refused, Event, Feed, Sent, Standing}
 use Rattle.imap_session.specs.Commands.{count_shown, idle_turn, most_changes, most_line, turn_of, turn_of_verdict, with_bytes}
 
 -- ---- answers of the code
@@ -46,6 +46,11 @@ abbrev pub Expunges : (Answer → Type 0) → List ℕ → List ℕ → Result �
 Expunges step before after (Ok n) =
     (view : List ℕ) × (changes : List Change) × step (Expunged view changes n) × (after ≡ before ++ lines view changes)
 Expunges step before after (Err fault) = step (Refused fault) × (after ≡ before)
+
+-- what a Discard did
+abbrev pub Discards : (Answer → Type 0) → Result (Unit {0}) MailFault → Type 0
+Discards step (Ok done) = step Discarded
+Discards step (Err fault) = step (Refused fault)
 
 -- ---- runs of the store
 

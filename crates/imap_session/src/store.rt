@@ -4,8 +4,8 @@
 ghost use Rattle.std.specs.Prelude.{◌≡◌, ◌≢◌, ◌≤◌, IfErr, ◌⊎◌};
 ghost use Rattle.std.specs.Option.{option_copied};
 ghost use Rattle.std.specs.Vec.{vec_capacity};
-ghost use Rattle.imap_session.specs.Exchange.{Call, Enter, Look, Read, Count, Alter, Expunge, Feed, Leave, Answer, Entered, Found, Counted, Altered, Left};
-ghost use Rattle.imap_session.specs.Store.{answer, Chooses, Feeds, Expunges};
+ghost use Rattle.imap_session.specs.Exchange.{Call, Enter, Look, Read, Count, Alter, Expunge, Feed, Leave, Discard, Answer, Entered, Found, Counted, Altered, Left};
+ghost use Rattle.imap_session.specs.Store.{answer, Chooses, Discards, Feeds, Expunges};
 
 use change_ring::{FlagOp, Flags};
 use imap_grammar::{Named, SeqSet};
@@ -75,4 +75,10 @@ pub trait Store {
     /// Leaves the mailbox, with its messages that have \Deleted removed or not. Answers how many went.
     fn leave(&mut self, remove: bool) -> Result<usize, MailFault>
         ensures { step self.old (Leave remove) (answer Left result) self.new };
+
+    /// Removes the messages of these UIDs from the mailbox of this number, whatever their flags, whether the session
+    /// entered it or not. UIDs that no message has are passed over. It shows nothing, and takes no memory.
+    fn discard(&mut self, mailbox: u8, uids: &[u32]) -> Result<(), MailFault>
+        ensures event { Discards (λ a. step self.old (Discard mailbox uids.now) a self.new) result }
+        ensures faults { IfErr result (λ f. (f ≡ MailFault.Stranger) ⊎ (f ≡ MailFault.Spent)) };
 }

@@ -23,7 +23,7 @@ use Rattle.house_history.specs.declared.event.Step.TheVariants as steps
 use Rattle.house_history.specs.Legal.{HasText}
 use Rattle.locked_mailbox.specs.Locking.{Knows, LockedMailbox}
 use Rattle.workers_sync.specs.Holds.{Alters, Counts, Enters, EntersNot, Expunges, Feeds, IsRefused, HasCursor, Leaves, LeavesNot, Reads, UnderLock}
-use Rattle.imap_session.specs.Exchange.{Call, Answer, Enter, Look, Read, Count, Alter, Expunge, Feed, Leave, Entered, Looked, Found, Counted, Altered, Expunged, Fed, Left, Refused}
+use Rattle.imap_session.specs.Exchange.{Call, Answer, Enter, Look, Read, Count, Alter, Expunge, Feed, Leave, Discard, Entered, Looked, Found, Counted, Altered, Expunged, Fed, Left, Discarded, Refused}
 use Rattle.session_thread.specs.declared.locked_store.Entry.{Entry}
 
 -- What a session knows between two calls: how many mailboxes there are, the handle that it has in one of them, and how the house's history begins, as
@@ -94,6 +94,12 @@ pub data StaysOut (selection : LockedStore) (mailbox : ℕ) (fault : MailFault) 
 abbrev pub DoesCountAt : ℕ → Mailbox → Result Status MailFault → Mailbox → Type 0
 DoesCountAt number found (Ok status) left = (found.number ≡ number) × (left ≡ found) × Counts found status
 DoesCountAt number found (Err fault) left = (found.number ≢ number) × (left ≡ found) × (fault ≡ Stranger)
+
+-- the messages of these UIDs were removed from the mailbox of this number, or its log has no room for that; or another was found. What isn't done changes nothing
+abbrev pub DoesDiscardAt : ℕ → List ℕ → Mailbox → Result Unit MailFault → Mailbox → Type 0
+DoesDiscardAt number uids found (Ok done) left = (found.number ≡ number) × Discards found uids left
+DoesDiscardAt number uids found (Err Stranger) left = (found.number ≢ number) × (left ≡ found)
+DoesDiscardAt number uids found (Err fault) left = (found.number ≡ number) × DoesDiscard found uids (Err fault) left
 
 -- Why a look at a mailbox that was entered told of no messages: the handle is a stranger, or memory was refused. That is wanted only where the set names
 -- a message of the view.
@@ -166,6 +172,10 @@ Holds old (Leave remove) (Refused fault) new =
     (new ≡ old)
     × ((old.entered ≡ None) × (fault ≡ Stranger)
     ⊎ In old (λ here. UnderLock (λ found left. IsKept found × (left ≡ found) × LeavesNot fault found here.handle (removals_if remove (rows found)))))
+Holds old (Discard m uids) Discarded new =
+    (new ≡ seeing old new.history) × (m < old.mailboxes) × Held old.history new.history (says (steps.Discard uids)) (λ found left. DoesDiscardAt m uids found (Ok ()) left)
+Holds old (Discard m uids) (Refused fault) new =
+    (new ≡ old) × ((old.mailboxes ≤ m) × (fault ≡ Stranger) ⊎ (m < old.mailboxes) × UnderLock (λ found left. DoesDiscardAt m uids found (Err fault) left))
 Holds old call answer new = ⊥
 
 -- how many changes the session was shown since it entered

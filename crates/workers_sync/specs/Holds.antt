@@ -241,6 +241,20 @@ abbrev pub DoesDeliver : Mailbox → Job → Result Receipt Refusal → Mailbox 
 DoesDeliver found job (Ok receipt) left = Delivers found job receipt left
 DoesDeliver found job (Err refusal) left = IsKept found × (left ≡ found) × DeliversNot refusal job.flags found
 
+-- The messages of these UIDs were removed, whatever their flags, and that was logged.
+pub record Discards (found : Mailbox) (uids : List ℕ) (left : Mailbox) : Type 0 where
+  pub kept : IsKept found
+  pub logs : Logs found left (discards (in_set (Some uids)) (rows found))
+  pub window : Moves found.cursors found.window left.window (discards (in_set (Some uids)) (rows found))
+  pub messages : left.messages ≡ without (in_set (Some uids)) found.messages
+  pub same : left ≡ record found { messages = left.messages; window = left.window }
+
+-- it is refused where the log has no room for that, and nowhere else
+abbrev pub DoesDiscard : Mailbox → List ℕ → Result Unit MailFault → Mailbox → Type 0
+DoesDiscard found uids (Ok done) left = Discards found uids left
+DoesDiscard found uids (Err Spent) left = IsKept found × (left ≡ found) × IsTooMany found (discards (in_set (Some uids)) (rows found))
+DoesDiscard found uids (Err fault) left = ⊥
+
 -- The view was looked at, or the handle is a stranger. It is no event, and takes no memory.
 abbrev pub DoesLook : Mailbox → CursorHandle → Result (List ℕ) MailFault → Type 0
 DoesLook found handle (Ok view) = IsKept found × HasCursor found handle view

@@ -16,7 +16,7 @@ use Rattle.change_ring.specs.Log.{rows_of}
 use Rattle.change_ring.specs.Window.{BaseAfter}
 use Rattle.change_ring.specs.declared.change.Change.{Change}
 use Rattle.change_ring.specs.declared.change.Flags.{Flags}
-use Rattle.change_ring.specs.Logged.{arrival, flags_logged, seen_logged, removals, removals_if}
+use Rattle.change_ring.specs.Logged.{arrival, flags_logged, seen_logged, removals, removals_if, discards}
 pub use Rattle.world.specs.declared.hand.Hand.{Hand}
 pub use Rattle.world.specs.declared.hand.Hand.TheVariants.{Empty, Taken, Done}
 
@@ -107,6 +107,7 @@ pub data Event : Type 0 where
   Expunge : (session : ℕ) → (may_go : ℕ → Bool) → Event
   Feed : (session limit : ℕ) → Event
   Leave : (session : ℕ) → (removing : Bool) → Event
+  Discard : (mailbox : ℕ) → (goes : ℕ → Bool) → Event
 
 -- Lanes
 
@@ -260,6 +261,11 @@ pub data LeaveStep (k : Config) (w : World) (n : ℕ) (s : Session) (changes : L
       → v ≡ record w { box = set_at w.box s.mailbox b; session = set_at w.session n None } → LeaveStep k w n s changes v
   leave_spent : most_changes < length (w.box s.mailbox).log + length changes → v ≡ w → LeaveStep k w n s changes v
 
+-- Mailbox m logs some changes for nobody's session, unless its log has no room for them.
+pub data DiscardStep (k : Config) (w : World) (m : ℕ) (changes : List Change) (v : World) : Type 0 where
+  discards_them : (b : Box) → m < k.mailboxes → Logs k (w.box m) changes [] b → v ≡ record w { box = set_at w.box m b } → DiscardStep k w m changes v
+  discard_spent : m < k.mailboxes → most_changes < length (w.box m).log + length changes → v ≡ w → DiscardStep k w m changes v
+
 -- session n has selected, and what is said of it holds
 abbrev pub Selected : World → ℕ → (Session → Type 0) → Type 0
 Selected w n P = (s : Session) × (w.session n ≡ Some s) × P s
@@ -279,6 +285,7 @@ Step k w (Store n u op) v = Selected w n (λ s. MailStep k w n s false [] (flags
 Step k w (Expunge n may_go) v = Selected w n (λ s. MailStep k w n s true (pending (w.box s.mailbox) s) (removals may_go (rows_of (w.box s.mailbox).log)) v)
 Step k w (Feed n limit) v = Selected w n (λ s. MailStep k w n s true (take limit (pending (w.box s.mailbox) s)) [] v)
 Step k w (Leave n removing) v = Selected w n (λ s. LeaveStep k w n s (removals_if removing (rows_of (w.box s.mailbox).log)) v)
+Step k w (Discard m goes) v = DiscardStep k w m (discards goes (rows_of (w.box m).log)) v
 
 -- Some events, one after another, may lead from world w to world v.
 abbrev pub Steps : Config → World → List Event → World → Type 0
@@ -304,3 +311,4 @@ Allowed k w (Store n u op) = (s : Session) × (w.session n ≡ Some s)
 Allowed k w (Expunge n may_go) = (s : Session) × (w.session n ≡ Some s)
 Allowed k w (Feed n limit) = (s : Session) × (w.session n ≡ Some s)
 Allowed k w (Leave n removing) = (s : Session) × (w.session n ≡ Some s)
+Allowed k w (Discard m goes) = m < k.mailboxes
