@@ -77,6 +77,10 @@ message_with uid (m ∷ ms) = if m.uid == uid then Some m else message_with uid 
 abbrev pub flagged : ℕ → FlagOp → List Message → List Message
 flagged uid op messages = map (λ (m : Message). if m.uid == uid then record m { flags = flags_after op m.flags } else m) messages
 
+-- the messages that are left where those go that pass the test, whatever their flags
+abbrev pub without : (ℕ → Bool) → List Message → List Message
+without test messages = filter (λ (m : Message). not (test m.uid)) messages
+
 -- the messages that are left where those go that are marked as deleted and pass the test
 abbrev pub remaining : (ℕ → Bool) → List Message → List Message
 remaining test messages = filter (λ (m : Message). not (m.flags.deleted && test m.uid)) messages

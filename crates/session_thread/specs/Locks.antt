@@ -96,7 +96,7 @@ DoesCountAt number found (Ok status) left = (found.number ≡ number) × (left �
 DoesCountAt number found (Err fault) left = (found.number ≢ number) × (left ≡ found) × (fault ≡ Stranger)
 
 -- the messages of these UIDs were removed from the mailbox of this number, or its log has no room for that; or another was found. What isn't done changes nothing
-abbrev pub DoesDiscardAt : ℕ → List ℕ → Mailbox → Result Unit MailFault → Mailbox → Type 0
+abbrev pub DoesDiscardAt : ℕ → List ℕ → Mailbox → Result (Unit {0}) MailFault → Mailbox → Type 0
 DoesDiscardAt number uids found (Ok done) left = (found.number ≡ number) × Discards found uids left
 DoesDiscardAt number uids found (Err Stranger) left = (found.number ≢ number) × (left ≡ found)
 DoesDiscardAt number uids found (Err fault) left = (found.number ≡ number) × DoesDiscard found uids (Err fault) left
@@ -173,7 +173,7 @@ Holds old (Leave remove) (Refused fault) new =
     × ((old.entered ≡ None) × (fault ≡ Stranger)
     ⊎ In old (λ here. UnderLock (λ found left. IsKept found × (left ≡ found) × LeavesNot fault found here.handle (removals_if remove (rows found)))))
 Holds old (Discard m uids) Discarded new =
-    (new ≡ seeing old new.history) × (m < old.mailboxes) × Held old.history new.history (says (steps.Discard uids)) (λ found left. DoesDiscardAt m uids found (Ok ()) left)
+    (new ≡ seeing old new.history) × (m < old.mailboxes) × Held old.history new.history (says (steps.Discard uids)) (λ found left. DoesDiscardAt m uids found (Ok tt) left)
 Holds old (Discard m uids) (Refused fault) new =
     (new ≡ old) × ((old.mailboxes ≤ m) × (fault ≡ Stranger) ⊎ (m < old.mailboxes) × UnderLock (λ found left. DoesDiscardAt m uids found (Err fault) left))
 Holds old call answer new = ⊥

@@ -250,7 +250,7 @@ pub record Discards (found : Mailbox) (uids : List ℕ) (left : Mailbox) : Type 
   pub same : left ≡ record found { messages = left.messages; window = left.window }
 
 -- it is refused where the log has no room for that, and nowhere else
-abbrev pub DoesDiscard : Mailbox → List ℕ → Result Unit MailFault → Mailbox → Type 0
+abbrev pub DoesDiscard : Mailbox → List ℕ → Result (Unit {0}) MailFault → Mailbox → Type 0
 DoesDiscard found uids (Ok done) left = Discards found uids left
 DoesDiscard found uids (Err Spent) left = IsKept found × (left ≡ found) × IsTooMany found (discards (in_set (Some uids)) (rows found))
 DoesDiscard found uids (Err fault) left = ⊥
