@@ -1,5 +1,5 @@
 -- The answers that tell of messages and mailboxes (RFC 9051, 7).
-use Rattle.std.specs.Prelude.{◌≡◌, ◌≢◌, ℕ, Bool, true, false, codes, decimal, List, [], ◌∷◌, ◌++◌, length, take, drop, map, flat_map, Option, Some, None, is_some, ◌==◌, ◌&&◌, ◌||◌, not, if◌then◌else◌}
+use Rattle.std.specs.Prelude.{◌≡◌, ◌≢◌, ℕ, ◌+◌, Bool, true, false, codes, decimal, List, [], ◌∷◌, ◌++◌, length, take, drop, map, flat_map, Option, Some, None, is_some, ◌==◌, ◌&&◌, ◌||◌, not, if◌then◌else◌}
 use Rattle.std.specs.List.{list_any}
 use Rattle.std.specs.Str.{str_to_ascii_lowercase as lowercase, str_eq_ignore_ascii_case as is_same}
 use Rattle.change_ring.specs.declared.change.Flags.{Flags}
@@ -151,6 +151,22 @@ spaced_numbers numbers = flat_map (λ n. codes " " ++ decimal n) numbers
 -- the numbers of the messages that were found (RFC 3501, 7.2.5)
 abbrev pub search_answer : List ℕ → List ℕ
 search_answer numbers = codes "* SEARCH" ++ spaced_numbers numbers ++ codes "\r\n"
+
+-- ---- sets of UIDs
+
+-- the numbers from one to another (RFC 9051, 9: seq-range)
+abbrev pub range_text : (first last : ℕ) → List ℕ
+range_text first last = if first == last then decimal first else decimal first ++ codes ":" ++ decimal last
+
+-- what stands behind a run of numbers that follow one another: it goes on, or ends there
+abbrev pub runs_text : (first last : ℕ) → List ℕ → List ℕ
+runs_text first last [] = range_text first last
+runs_text first last (uid ∷ uids) = if uid == last + 1 then runs_text first uid uids else range_text first last ++ codes "," ++ runs_text uid uid uids
+
+-- a set of UIDs in their order, in which each run is one range (RFC 9051, 9: uid-set)
+abbrev pub uid_set : List ℕ → List ℕ
+uid_set [] = []
+uid_set (uid ∷ uids) = runs_text uid uid uids
 
 -- ---- STORE
 

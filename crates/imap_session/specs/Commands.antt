@@ -1,5 +1,5 @@
 -- What a session does about each line (RFC 9051, 6 and 7).
-use Rattle.std.specs.Prelude.{ℕ, ◌+◌, ◌-◌, ◌^◌, length, take, is_some, Bool, true, false, codes, decimal, List, [], ◌∷◌, ◌++◌, map, Option, Some, None, Result, Ok, Err, ◌&&◌, ◌||◌, ◌==◌, nat_le, nat_lt, not, if◌then◌else◌}
+use Rattle.std.specs.Prelude.{ℕ, ◌+◌, ◌-◌, ◌^◌, length, take, is_some, Bool, true, false, codes, decimal, List, [], ◌∷◌, ◌++◌, map, Option, Some, None, Result, Ok, Err, ◌&&◌, ◌||◌, ◌==◌, nat_le, nat_lt, not, slice_get, if◌then◌else◌}
 use Rattle.std.specs.Option.{option_map}
 use Rattle.std.specs.List.{list_any}
 use Rattle.std.specs.Str.{bytes_eq}
@@ -34,16 +34,11 @@ use Rattle.imap_grammar.specs.Sets.{last_uid, named_at, named_in}
 use Rattle.imap_grammar.specs.Verbs.{copy_verb, verb_of}
 use Rattle.imap_grammar.specs.Reading.{is_done, read}
 use Rattle.imap_grammar.specs.Items.{is_compatible, is_recent, marks_seen}
-use Rattle.imap_answers.specs.Answers.{flags_answer, is_inbox, list_answer, opening_text, row_answer, search_answer, status_answer}
+use Rattle.imap_answers.specs.Answers.{flags_answer, is_inbox, list_answer, opening_text, row_answer, search_answer, status_answer, uid_set}
 use Rattle.imap_session.specs.declared.standing.After.TheVariants.{Go, Bye}
 use Rattle.imap_session.specs.declared.standing.After.TheVariants as afters
 use Rattle.imap_session.specs.declared.standing.Selected.{Selected}
-use Rattle.imap_session.specs.declared.standing.Source.{Source}
-use Rattle.imap_session.specs.declared.standing.Origin.{Origin}
-use Rattle.imap_session.specs.declared.standing.Origin.TheVariants.{Client, Copied}
-use Rattle.change_ring.specs.declared.flag_op.FlagOp.{FlagOp}
-use Rattle.change_ring.specs.declared.flag_op.FlagOp.TheVariants.{Insert}
-use Rattle.imap_session.specs.Exchange.{Answer, PendingLiteral, Purpose, Message, Argument, Response, Mailing, Sent, Fed, Refused, having, saying, nothing_more, refused, is_idling, Turn, Standing, Folder, Exchange, ForDone, ForLiteral, ForVerdict, ForNothing, Done, Wait, Write, Put, Enter, Look, Read, Count, Alter, Expunge, Feed, Leave, tagged, bye, played, Asked, Unasked, untagged, continuing}
+use Rattle.imap_session.specs.Exchange.{Answer, Batch, Origin, Client, Copied, PendingLiteral, Purpose, Message, Argument, Response, Mailing, Sent, Fed, Refused, having, saying, nothing_more, refused, is_idling, Turn, Standing, Folder, Exchange, ForDone, ForLiteral, ForVerdict, ForNothing, Done, Wait, Write, Put, Enter, Look, Read, Count, Alter, Expunge, Feed, Leave, Discard, tagged, bye, played, Asked, Unasked, untagged, continuing}
 use Rattle.imap_session.specs.declared.texts.ResponseText.TheVariants as texts
 use Rattle.imap_session.specs.Texts.{response_text, server_text}
 use Rattle.imap_session.specs.declared.texts.ServerText.TheVariants as server
@@ -327,23 +322,48 @@ most_return_path = 337
 abbrev pub most_copied : Option ℕ → Option ℕ
 most_copied most = option_map (λ n. n + most_return_path) most
 
--- the message that was read goes to this mailbox as a copy of its own, which shares its text, with its flags
-abbrev pub copying : Mailing → Source → (mailbox : ℕ) → Row → Exchange
-copying mailing source mailbox row =
-    if is_over (most_copied mailing.most) (length row.text) then over (most_copied mailing.most)
-    else if nat_le last_number mailing.number then says (response_text texts.MailboxSpent)
-    else wanting (Wait [] (ForVerdict (Copied source) mailbox row.flags row.text))
+-- so many messages are copied by one command at most
+abbrev pub most_in_batch : ℕ
+most_in_batch = 32768
 
--- the message is gone that was named: by its UID it is as if none had been named (RFC 9051, 6.4.9)
-abbrev pub copy_gone : CopyMessages → Exchange
-copy_gone copy = if copy.by_uid then completed (commands.Copy copy) else says (response_text texts.MessagesGone)
+-- none is read yet
+abbrev pub empty_batch : CopyMessages → Batch
+empty_batch copy = record { by_uid = copy.by_uid; moves = copy.moves; uids = []; rows = []; copies = [] }
 
--- Of these messages to this mailbox: one is read, and of none there is nothing to do. Several are refused: either all copies of a command stand or none does (6.4.7), which one copy is by itself.
+abbrev pub with_message : (uid : ℕ) → Row → Batch → Batch
+with_message uid row batch = record batch { uids = batch.uids ++ uid ∷ []; rows = batch.rows ++ row ∷ [] }
+
+abbrev pub with_copy : (uid : ℕ) → Batch → Batch
+with_copy uid batch = record batch { copies = batch.copies ++ uid ∷ [] }
+
+-- the copies that were stored are removed again: all copies of a command stand or none does (6.4.7)
+abbrev pub taking_back : (mailbox : ℕ) → (copies : List ℕ) → Exchange → Exchange
+taking_back mailbox [] x = x
+taking_back mailbox (uid ∷ uids) x = Discard mailbox (uid ∷ uids) x
+
+-- a message goes to this mailbox as a copy of its own, which shares its text, with the flags that it was read with
+abbrev pub submitted : Mailing → Batch → (mailbox : ℕ) → Row → Exchange
+submitted mailing batch mailbox row =
+    if nat_le last_number mailing.number then taking_back mailbox batch.copies (says (response_text texts.MailboxSpent))
+    else Wait [] (ForVerdict (Copied batch) mailbox row.flags row.text)
+
+-- the first message goes whose copy isn't stored; once all are stored, what is done then
+abbrev pub submitting : Mailing → Batch → (mailbox : ℕ) → (done : Exchange) → Exchange
+submitting mailing batch mailbox done = on_found (submitted mailing batch mailbox) done (slice_get batch.rows (length batch.copies))
+
+-- Each of these messages is read, before the first copy is submitted, and then the copies go. One that is gone is passed over where it was named by its UID, as
+-- if it had not been named (6.4.9).
+abbrev pub gathering : Mailing → CopyMessages → (mailbox : ℕ) → (uids : List ℕ) → Batch → Exchange
+gathering mailing copy mailbox [] batch = submitting mailing batch mailbox (completed (commands.Copy copy))
+gathering mailing copy mailbox (uid ∷ uids) batch =
+    Read uid false (on_found (λ row. if is_over (most_copied mailing.most) (length row.text) then over (most_copied mailing.most) else gathering mailing copy mailbox uids (with_message uid row batch))
+    (if copy.by_uid then gathering mailing copy mailbox uids batch else says (response_text texts.MessagesGone)))
+
+-- Of these messages to this mailbox. Memory is wanted for what is known of each, and for the tag.
 abbrev pub copy_of : Mailing → CopyMessages → (mailbox : ℕ) → (uids : List ℕ) → Exchange
-copy_of mailing copy mailbox [] = completed (commands.Copy copy)
-copy_of mailing copy mailbox (uid ∷ []) =
-    Read uid false (on_found (copying mailing (record { uid = uid; by_uid = copy.by_uid; moves = copy.moves }) mailbox) (copy_gone copy))
-copy_of mailing copy mailbox (uid ∷ other ∷ uids) = says (response_text texts.OneAtATime)
+copy_of mailing copy mailbox uids =
+    if nat_lt most_in_batch (length uids) then says (response_text texts.TooManyMessages)
+    else wanting (gathering mailing copy mailbox uids (empty_batch copy))
 
 abbrev pub copy_to : Mailing → CopyMessages → (mailbox : ℕ) → Exchange
 copy_to mailing copy mailbox = on_set copy.by_uid copy.set (λ view uids. copy_of mailing copy mailbox uids)
@@ -354,39 +374,59 @@ copy_messages now copy selected =
     if copy.moves && selected.read_only then says (response_text texts.ReadOnly)
     else wanting (on_found (copy_to now.mailing copy) nowhere (number_named copy.name now.folders))
 
--- under which UID the copy of a message is, behind the UIDVALIDITY of the copy's mailbox and the message's own UID (RFC 4315, 3)
-abbrev pub copy_code : (uidvalidity uid copy_uid : ℕ) → List ℕ
-copy_code uidvalidity uid copy_uid = codes "OK [COPYUID " ++ decimal uidvalidity ++ codes " " ++ decimal uid ++ codes " " ++ decimal copy_uid ++ codes "] "
+-- under which UIDs the copies are, behind the UIDVALIDITY of their mailbox and the messages' own UIDs, in one order (RFC 4315, 3)
+abbrev pub copy_code : (uidvalidity : ℕ) → Batch → List ℕ
+copy_code uidvalidity batch =
+    codes "OK [COPYUID " ++ decimal uidvalidity ++ codes " " ++ uid_set batch.uids ++ codes " " ++ uid_set batch.copies ++ codes "] "
 
-abbrev pub copied_words : (uidvalidity uid copy_uid : ℕ) → List ℕ
-copied_words uidvalidity uid copy_uid = copy_code uidvalidity uid copy_uid ++ codes "COPY completed"
+abbrev pub copied_words : (uidvalidity : ℕ) → Batch → List ℕ
+copied_words uidvalidity batch = copy_code uidvalidity batch ++ codes "COPY completed"
 
--- of MOVE they stand in a line of their own, before the message is removed (RFC 6851, 4.3)
-abbrev pub moved_words : (uidvalidity uid copy_uid : ℕ) → List ℕ
-moved_words uidvalidity uid copy_uid = copy_code uidvalidity uid copy_uid ++ codes "Moved"
+-- of MOVE they stand in a line of their own, before the messages are removed (RFC 6851, 4.3)
+abbrev pub moved_words : (uidvalidity : ℕ) → Batch → List ℕ
+moved_words uidvalidity batch = copy_code uidvalidity batch ++ codes "Moved"
 
-abbrev pub deleting : FlagOp
-deleting = Insert (record no_flags { deleted = true })
+abbrev pub move_done : Batch → Exchange
+move_done batch = says (response_text (texts.Completed (copy_verb batch.by_uid true)))
 
--- The copy of a message that is moved stands. The message gets \Deleted and is removed, as by EXPUNGE of its UID. Where others took \Deleted away in between it stays.
-abbrev pub moving : Source → (uidvalidity copy_uid : ℕ) → Exchange
-moving source uidvalidity copy_uid =
-    Put (untagged (moved_words uidvalidity source.uid copy_uid))
-    (Alter source.uid deleting (λ flags.
-    Expunge (Some (source.uid ∷ [])) (Feed unlimited (says (response_text (texts.Completed (copy_verb source.by_uid true)))))))
+-- The copies of messages that are moved stand. The messages are removed, whatever their flags, and that is shown.
+abbrev pub moving : Option Selected → (uidvalidity : ℕ) → Batch → Exchange
+moving selected uidvalidity batch =
+    Put (untagged (moved_words uidvalidity batch))
+    (on_found (λ (s : Selected). Discard s.mailbox batch.uids (Feed unlimited (move_done batch))) (move_done batch) selected)
+
+-- what is told where all copies stand, in a mailbox of this UIDVALIDITY. What is pending in the selected mailbox is shown
+abbrev pub told_copied : Option Selected → Batch → (uidvalidity : ℕ) → Exchange
+told_copied selected batch uidvalidity =
+    if batch.moves then moving selected uidvalidity batch else showing selected (says (copied_words uidvalidity batch))
+
+abbrev pub told_appended : Option Selected → (uid uidvalidity : ℕ) → Exchange
+told_appended selected uid uidvalidity = showing selected (says (appended_words uidvalidity uid))
+
+-- a mailbox is counted for its UIDVALIDITY
+abbrev pub with_validity : (mailbox : ℕ) → (ℕ → Exchange) → Exchange
+with_validity mailbox next = Count mailbox (λ status. next status.uidvalidity)
 
 -- ---- verdicts on messages
 
--- what is told of a message that was stored, whose mailbox has this UIDVALIDITY. What is pending in the selected mailbox is shown
-abbrev pub told_stored : Option Selected → Origin → (uidvalidity uid : ℕ) → Exchange
-told_stored selected Client uidvalidity uid = showing selected (says (appended_words uidvalidity uid))
-told_stored selected (Copied source) uidvalidity uid =
-    if source.moves then moving source uidvalidity uid else showing selected (says (copied_words uidvalidity source.uid uid))
+-- one more copy of a batch stands
+abbrev pub copy_stored : Mailing → Option Selected → Batch → (mailbox : ℕ) → Exchange
+copy_stored mailing selected batch mailbox = submitting mailing batch mailbox (with_validity mailbox (told_copied selected batch))
 
--- The verdict on the message. Where it was stored, its mailbox is counted for its UIDVALIDITY.
-abbrev pub on_verdict : Option Selected → Origin → (mailbox : ℕ) → Verdict → Exchange
-on_verdict selected origin mailbox (verdicts.Stored uid) = Count mailbox (λ status. told_stored selected origin status.uidvalidity uid)
-on_verdict selected origin mailbox (verdicts.Refused why) = says (response_text (refused_text why))
+-- what is done where a message was stored under this UID
+abbrev pub on_stored : Mailing → Option Selected → Origin → (mailbox uid : ℕ) → Exchange
+on_stored mailing selected Client mailbox uid = with_validity mailbox (told_appended selected uid)
+on_stored mailing selected (Copied batch) mailbox uid = copy_stored mailing selected (with_copy uid batch) mailbox
+
+-- the copies that are removed again where a message is refused
+abbrev pub copies_of : Origin → List ℕ
+copies_of Client = []
+copies_of (Copied batch) = batch.copies
+
+-- the verdict on the message
+abbrev pub on_verdict : Mailing → Option Selected → Origin → (mailbox : ℕ) → Verdict → Exchange
+on_verdict mailing selected origin mailbox (verdicts.Stored uid) = on_stored mailing selected origin mailbox uid
+on_verdict mailing selected origin mailbox (verdicts.Refused why) = taking_back mailbox (copies_of origin) (says (response_text (refused_text why)))
 
 -- ---- what each command does
 
@@ -672,7 +712,7 @@ with_bytes kept bytes now = record now { mailing = record now.mailing { begun = 
 
 abbrev pub turn_with : Option Sent → Standing → Verdict → List Answer → Option Turn
 turn_with None now verdict answers = None
-turn_with (Some sent) now verdict answers = played sent.tag (without_sent now) (on_verdict now.selected sent.origin sent.append.mailbox verdict) answers
+turn_with (Some sent) now verdict answers = played sent.tag (without_sent now) (on_verdict now.mailing now.selected sent.origin sent.append.mailbox verdict) answers
 
 -- where the verdict leads that a session waits for, with these answers of the store
 abbrev pub turn_of_verdict : Standing → Verdict → List Answer → Option Turn

@@ -17,7 +17,6 @@ use Rattle.imap_session.specs.declared.standing.After.TheVariants as afters
 use Rattle.imap_session.specs.declared.standing.Profile.{Profile}
 use Rattle.imap_session.specs.declared.standing.Selected.{Selected}
 use Rattle.imap_session.specs.declared.standing.Append.{Append}
-use Rattle.imap_session.specs.declared.standing.Origin.{Origin}
 use Rattle.imap_session.specs.Texts.{response_text}
 use Rattle.imap_session.specs.declared.texts.ResponseText.TheVariants as texts
 
@@ -83,6 +82,21 @@ pub record PendingLiteral : Type 0 where
   -- so many bytes are still to come; and those that came, unless memory was refused to them
   pub due : ℕ
   pub text : Option (List ℕ)
+
+-- Messages of the selected mailbox that one command copies, one after another (RFC 9051, 6.4.7 to 6.4.9; RFC 6851): their UIDs, each as it was read before
+-- the first was submitted, and the UIDs of the copies that are stored, which are those of the first messages, in their order. Where it moves them they are
+-- removed once all copies are stored.
+pub record Batch : Type 0 where
+  pub by_uid : Bool
+  pub moves : Bool
+  pub uids : List ℕ
+  pub rows : List Row
+  pub copies : List ℕ
+
+-- where a message comes from that a session submits: its client appended it, or it is the next of these that is copied
+pub data Origin : Type 0 where
+  Client : Origin
+  Copied : Batch → Origin
 
 -- a message that was submitted, and waits for the verdict on its copy: the tag of its command, the message, and where it comes from
 pub record Sent : Type 0 where

@@ -1,6 +1,5 @@
 -- Where a session may show what others did to the mailbox (RFC 9051, 5.2 and 7.5.1).
 use Rattle.std.specs.Prelude.{◌≡◌, ◌⊎◌, ◌&&◌, ℕ, Bool, true, false, codes, decimal, is_some, take, map, List, [], ◌++◌, Option, Some, None}
-use Rattle.imap_grammar.specs.Verbs.{copy_verb}
 use Rattle.std.specs.Str.{bytes_eq}
 use Rattle.change_ring.specs.declared.change.Flags.{Flags}
 use Rattle.mailbox.specs.declared.clients.Opening.{Opening}
@@ -15,11 +14,8 @@ use Rattle.imap_answers.specs.Answers.{list_answer, opening_text, search_answer}
 use Rattle.imap_answers.specs.declared.list.Listing.TheVariants.{All, Subscribed}
 use Rattle.imap_session.specs.declared.standing.After.TheVariants.{Submit}
 use Rattle.imap_session.specs.declared.standing.Selected.{Selected}
-use Rattle.imap_session.specs.declared.standing.Source.{Source}
-use Rattle.imap_session.specs.declared.standing.Origin.{Origin}
-use Rattle.imap_session.specs.declared.standing.Origin.TheVariants.{Client, Copied}
-use Rattle.imap_session.specs.Exchange.{Exchange, Folder, Standing, Done, Wait, Write, Put, Enter, Look, Read, Count, Alter, Expunge, Feed, Leave, after_waiting, bye, untagged, continuing}
-use Rattle.imap_session.specs.Commands.{appended_words, completed, copied_words, moved_words, notice, says as last_line, unlimited}
+use Rattle.imap_session.specs.Exchange.{Batch, Origin, Client, Copied, Exchange, Folder, Standing, Done, Wait, Write, Put, Enter, Look, Read, Count, Alter, Expunge, Feed, Leave, Discard, after_waiting, bye, untagged, continuing}
+use Rattle.imap_session.specs.Commands.{appended_words, completed, copied_words, move_done, moved_words, notice, says as last_line, unlimited, with_copy}
 use Rattle.imap_session.specs.declared.texts.ResponseText.TheVariants as texts
 use Rattle.imap_session.specs.Texts.{response_text}
 
@@ -103,6 +99,7 @@ ShowsBefore ok says shows must removes (Alter uid op next) = (flags : Option Fla
 ShowsBefore ok says shows must removes (Expunge uids x) = (removes ≡ true) × ShowsBefore ok says shows must removes x
 ShowsBefore ok says shows must removes (Feed limit x) = (shows ≡ true) × (limit ≡ unlimited) × (x ≡ ok)
 ShowsBefore ok says shows must removes (Leave remove x) = ShowsBefore ok says shows must removes x
+ShowsBefore ok says shows must removes (Discard mailbox uids x) = ShowsBefore ok says shows must removes x
 
 -- A command shows changes before it ends, where a mailbox is selected, and there alone. IDLE itself shows none, nor does the line of an APPEND
 abbrev pub ShowsInOrder : Standing → Command → Exchange → Type 0
@@ -126,31 +123,38 @@ PartShowsNone (Wait bytes waits) = Unit {0}
 PartShowsNone (Write bytes x) = (bytes ≡ []) × PartShowsNone x
 PartShowsNone _ = ⊥
 
--- a last line that is no tagged OK, and nothing before it
+-- a last line that is no tagged OK; before it copies may be removed again, and nothing is said
 abbrev pub IsRefused : Exchange → Type 0
 IsRefused (Done words how) = IsNoOk words
+IsRefused (Discard mailbox uids x) = IsRefused x
 IsRefused _ = ⊥
 
--- the tagged OK of a MOVE
-abbrev pub moved : Source → Exchange
-moved source = last_line (response_text (texts.Completed (copy_verb source.by_uid true)))
+-- changes are shown right before the tagged OK that tells where a message was stored
+abbrev pub AppendShows : Option Selected → (uid uidvalidity : ℕ) → Exchange → Type 0
+AppendShows selected uid uidvalidity = ShowsBefore (last_line (appended_words uidvalidity uid)) (λ bytes. bytes ≡ []) true (is_some selected) false
 
--- changes are shown right before the tagged OK that tells where a message was stored, and of one that is moved also before it is removed
-abbrev pub CopyShows : Option Selected → Source → (moves : Bool) → (uidvalidity uid : ℕ) → Exchange → Type 0
-CopyShows selected source true uidvalidity uid = ShowsBefore (moved source) (λ bytes. bytes ≡ untagged (moved_words uidvalidity source.uid uid)) true true true
-CopyShows selected source false uidvalidity uid = ShowsBefore (last_line (copied_words uidvalidity source.uid uid)) (λ bytes. bytes ≡ []) true (is_some selected) false
+-- so they are before the one that tells where copies are, and before that of a MOVE, which tells that in a line of its own
+abbrev pub CopyShows : Option Selected → Batch → (moves : Bool) → (uidvalidity : ℕ) → Exchange → Type 0
+CopyShows selected batch true uidvalidity = ShowsBefore (move_done batch) (λ bytes. bytes ≡ untagged (moved_words uidvalidity batch)) true (is_some selected) false
+CopyShows selected batch false uidvalidity = ShowsBefore (last_line (copied_words uidvalidity batch)) (λ bytes. bytes ≡ []) true (is_some selected) false
 
-abbrev pub StoredShows : Option Selected → Origin → (uidvalidity uid : ℕ) → Exchange → Type 0
-StoredShows selected Client uidvalidity uid = ShowsBefore (last_line (appended_words uidvalidity uid)) (λ bytes. bytes ≡ []) true (is_some selected) false
-StoredShows selected (Copied source) uidvalidity uid = CopyShows selected source source.moves uidvalidity uid
+-- a mailbox is counted, and it goes on so with its UIDVALIDITY
+abbrev pub CountsThen : (ℕ → Exchange → Type 0) → Exchange → Type 0
+CountsThen P (Count mailbox next) = (status : Status) → P status.uidvalidity (next status)
+CountsThen P _ = ⊥
 
--- a mailbox is counted, and then changes are shown so, with its UIDVALIDITY
-abbrev pub CountsThenShows : Option Selected → Origin → ℕ → Exchange → Type 0
-CountsThenShows selected origin uid (Count mailbox next) = (status : Status) → StoredShows selected origin status.uidvalidity uid (next status)
-CountsThenShows selected origin uid _ = ⊥
+-- The next copy is submitted, and nothing is said; or it can't be, and there is no tagged OK; or all copies stand, and changes are shown so.
+abbrev pub CopyGoesOn : Option Selected → Batch → Exchange → Type 0
+CopyGoesOn selected batch (Wait bytes waits) = (bytes ≡ []) × (after_waiting waits ≡ Submit)
+CopyGoesOn selected batch (Count mailbox next) = CountsThen (CopyShows selected batch batch.moves) (Count mailbox next)
+CopyGoesOn selected batch x = IsRefused x
+
+abbrev pub StoredShows : Option Selected → Origin → ℕ → Exchange → Type 0
+StoredShows selected Client uid = CountsThen (AppendShows selected uid)
+StoredShows selected (Copied batch) uid = CopyGoesOn selected (with_copy uid batch)
 
 -- The verdict on a message shows changes right before its tagged OK, where a mailbox is selected. Where the message was refused there is no tagged
 -- OK, and none are shown.
 abbrev pub VerdictShowsInOrder : Option Selected → Origin → Verdict → Exchange → Type 0
-VerdictShowsInOrder selected origin (Stored uid) = CountsThenShows selected origin uid
+VerdictShowsInOrder selected origin (Stored uid) = StoredShows selected origin uid
 VerdictShowsInOrder selected origin (Refused why) = IsRefused

@@ -3,7 +3,7 @@ use Rattle.std.specs.Global.{Global}
 use Rattle.imap_grammar.specs.Sets.{messages_in}
 use Rattle.imap_grammar.specs.declared.set.SeqRange.{SeqRange}
 use Rattle.imap_grammar.specs.declared.view.Named.{Named}
-use Rattle.std.specs.Prelude.{◌≡◌, ◌<◌, ◌≤◌, ◌⊎◌, ◌+◌, length, min, IfSome, ℕ, Vec, Bool, false, List, [], ◌∷◌, ◌++◌, Option, Some, None, option_map, Result, Ok, Err}
+use Rattle.std.specs.Prelude.{◌≡◌, ◌<◌, ◌≤◌, ◌⊎◌, ◌+◌, ◌*◌, length, min, IfSome, ℕ, Vec, Bool, false, List, [], ◌∷◌, ◌++◌, Option, Some, None, option_map, Result, Ok, Err}
 use Rattle.change_ring.specs.declared.change.Change.{Change}
 use Rattle.mailbox.specs.declared.clients.MailFault.{MailFault}
 use Rattle.mailbox.specs.declared.clients.MailFault.TheVariants.{NoMemory}
@@ -11,7 +11,7 @@ use Rattle.delivery_token.specs.declared.Verdict.{Verdict}
 use Rattle.change_ring.specs.Log.{replay}
 use Rattle.cursor_set.specs.Lines.{lines}
 use Rattle.imap_session.specs.declared.standing.After.{After}
-use Rattle.imap_session.specs.Exchange.{Message, PendingLiteral, Purpose, Call, Answer, Entered, Looked, Expunged, Fed, Left, Discarded, Refused, Event, Feed, Sent, Standing}
+use Rattle.imap_session.specs.Exchange.{Message, PendingLiteral, Purpose, Call, Answer, Entered, Looked, Expunged, Fed, Left, Discarded, Refused, Event, Feed, Origin, Client, Copied, Sent, Standing}
 use Rattle.imap_session.specs.Commands.{count_shown, idle_turn, most_changes, most_line, turn_of, turn_of_verdict, with_bytes}
 
 -- ---- answers of the code
@@ -125,9 +125,14 @@ abbrev pub room_for : Standing → List ℕ → ℕ
 room_for now line = room_behind now.mailing.begun now.idling line
 
 -- The room that is reserved before a verdict is answered: for the tag, for the line that tells where a message was stored, and for the last one, where that is another.
+-- The sets of a COPY or MOVE want 11 bytes a number: ten digits, and a comma or colon.
+abbrev pub room_of_sets : Origin → ℕ
+room_of_sets Client = 0
+room_of_sets (Copied batch) = 22 * length batch.uids
+
 abbrev pub room_sent : Option Sent → ℕ
 room_sent None = 0
-room_sent (Some sent) = length sent.tag + 104
+room_sent (Some sent) = length sent.tag + (104 + room_of_sets sent.origin)
 
 abbrev pub room_for_verdict : Standing → ℕ
 room_for_verdict now = room_sent now.mailing.sent

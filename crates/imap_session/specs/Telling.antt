@@ -8,9 +8,7 @@ use Rattle.mailbox.specs.declared.mailbox.Status.{Status}
 use Rattle.delivery_token.specs.declared.Verdict.{Verdict}
 use Rattle.delivery_token.specs.declared.Verdict.TheVariants.{Stored, Refused}
 use Rattle.imap_session.specs.declared.standing.Selected.{Selected}
-use Rattle.imap_session.specs.declared.standing.Origin.{Origin}
-use Rattle.imap_session.specs.declared.standing.Origin.TheVariants.{Client, Copied}
-use Rattle.imap_session.specs.Exchange.{Exchange, Done, Wait, Write, Put, Enter, Look, Read, Count, Alter, Expunge, Feed, Leave, tagged}
+use Rattle.imap_session.specs.Exchange.{Origin, Client, Copied, Exchange, Done, Wait, Write, Put, Enter, Look, Read, Count, Alter, Expunge, Feed, Leave, Discard, tagged}
 use Rattle.imap_session.specs.Commands.{appended_words, says, showing}
 
 -- the words behind the tag begin as those that tell a UID
@@ -36,6 +34,7 @@ TellsNoUid (Alter uid op next) = (flags : Option Flags) → TellsNoUid (next fla
 TellsNoUid (Expunge uids x) = TellsNoUid x
 TellsNoUid (Feed limit x) = TellsNoUid x
 TellsNoUid (Leave remove x) = TellsNoUid x
+TellsNoUid (Discard mailbox uids x) = TellsNoUid x
 
 -- this mailbox is counted, what is pending is shown, and then the last line tells this UID, behind the UIDVALIDITY that was counted
 abbrev pub TellsUid : Option Selected → (mailbox uid : ℕ) → Exchange → Type 0
@@ -45,7 +44,7 @@ TellsUid selected mailbox uid _ = ⊥
 -- The last line tells the UID under which a message was stored that the client appended, and none where it was refused. Of a message that was copied it tells none so.
 abbrev pub StoredTellsUid : Option Selected → Origin → (mailbox uid : ℕ) → Exchange → Type 0
 StoredTellsUid selected Client mailbox uid = TellsUid selected mailbox uid
-StoredTellsUid selected (Copied source) mailbox uid = TellsNoUid
+StoredTellsUid selected (Copied batch) mailbox uid = TellsNoUid
 
 abbrev pub VerdictTellsUid : Option Selected → Origin → (mailbox : ℕ) → Verdict → Exchange → Type 0
 VerdictTellsUid selected origin mailbox (Stored uid) = StoredTellsUid selected origin mailbox uid

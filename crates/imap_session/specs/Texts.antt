@@ -8,7 +8,7 @@ use Rattle.imap_session.specs.declared.standing.Profile.TheVariants.{Standard, C
 use Rattle.imap_session.specs.declared.texts.ServerText.{ServerText}
 use Rattle.imap_session.specs.declared.texts.ServerText.TheVariants.{Greeting, Capabilities, Namespaces, Identity, NoneEnabled}
 use Rattle.imap_session.specs.declared.texts.ResponseText.{ResponseText}
-use Rattle.imap_session.specs.declared.texts.ResponseText.TheVariants.{Completed, SelectCompleted, ExamineCompleted, NoSuchMailbox, TryCreate, NotOffered, MessagesGone, OneAtATime, ReadOnly, MailboxSpent, MessageTooBig, BadCharset, NulByte, OutOfMemory, ShardFull, ShardClosed, MailboxFull, NoUidLeft, WrongState, SequenceTooHigh, InvalidArguments, UnknownCommand, LoginFailed, ExpectedDone, PreviousClosed, NoneRecent, MissingTag, LineTooLong, LoggingOut, InternalFault, ChangesMissed, LiteralTooBig, ByeOutOfMemory, Idling, Ready}
+use Rattle.imap_session.specs.declared.texts.ResponseText.TheVariants.{Completed, SelectCompleted, ExamineCompleted, NoSuchMailbox, TryCreate, NotOffered, MessagesGone, TooManyMessages, ReadOnly, MailboxSpent, MessageTooBig, BadCharset, NulByte, OutOfMemory, ShardFull, ShardClosed, MailboxFull, NoUidLeft, WrongState, SequenceTooHigh, InvalidArguments, UnknownCommand, LoginFailed, ExpectedDone, PreviousClosed, NoneRecent, MissingTag, LineTooLong, LoggingOut, InternalFault, ChangesMissed, LiteralTooBig, ByeOutOfMemory, Idling, Ready}
 
 abbrev pub verb_text : Verb → List ℕ
 verb_text verb = if stands_behind_uid verb then codes "UID " ++ word_of verb else word_of verb
@@ -22,7 +22,7 @@ response_text NoSuchMailbox = codes "NO [NONEXISTENT] No such mailbox"
 response_text TryCreate = codes "NO [TRYCREATE] No such mailbox"
 response_text NotOffered = codes "NO [CANNOT] Not offered here"
 response_text MessagesGone = codes "NO [EXPUNGEISSUED] Some messages are gone"
-response_text OneAtATime = codes "NO [LIMIT] One message at a time"
+response_text TooManyMessages = codes "NO [LIMIT] Too many messages at once"
 response_text ReadOnly = codes "NO Mailbox is read-only"
 response_text MailboxSpent = codes "NO Mailbox is spent"
 response_text MessageTooBig = codes "NO Message too big"

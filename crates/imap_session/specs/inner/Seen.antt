@@ -1,13 +1,16 @@
 -- A message that is appended, as contracts see it.
-use Rattle.std.specs.Prelude.{◌≤◌, min, IfSome}
+use Rattle.std.specs.Prelude.{◌≡◌, ◌<◌, ◌≤◌, length, min, IfSome}
 use Rattle.std.specs.Option.{option_map}
 use Rattle.std.specs.Vec.{vec_capacity}
 use Rattle.imap_session.specs.declared.mailing.PendingLiteral as begun
 use Rattle.imap_session.specs.declared.mailing.Sent as sent
 use Rattle.imap_session.specs.declared.mailing.Purpose as purposes
+use Rattle.imap_session.specs.declared.batch.Batch as batch
+use Rattle.imap_session.specs.declared.batch.Origin as origins
+use Rattle.imap_session.specs.declared.batch.Origin.TheVariants as from
 use Rattle.imap_session.specs.declared.mailing.Purpose.TheVariants as said
 use Rattle.imap_session.specs.Commands.{most_line}
-use Rattle.imap_session.specs.Exchange.{Argument, Message, PendingLiteral, Purpose, Response, Sent}
+use Rattle.imap_session.specs.Exchange.{Argument, Batch, Client, Copied, Message, Origin, PendingLiteral, Purpose, Response, Sent}
 use Rattle.imap_session.specs.Store.{most_first_room}
 
 abbrev pub purpose_of : purposes.Purpose → Purpose
@@ -18,8 +21,25 @@ purpose_of (said.Response line) = Response line.items
 abbrev pub pending_of : begun.PendingLiteral → PendingLiteral
 pending_of a = record { tag = a.tag; purpose = purpose_of a.purpose; size = a.size; due = a.due; text = option_map (λ t. t.items) a.text }
 
+abbrev pub batch_of : batch.Batch → Batch
+batch_of b = record { by_uid = b.by_uid; moves = b.moves; uids = b.uids.items; rows = b.rows.items; copies = b.copies.items }
+
+abbrev pub origin_of : origins.Origin → Origin
+origin_of from.Client = Client
+origin_of (from.Copied b) = Copied (batch_of b)
+
 abbrev pub sent_of : sent.Sent → Sent
-sent_of s = record { tag = s.tag; append = s.append; origin = s.origin }
+sent_of s = record { tag = s.tag; append = s.append; origin = origin_of s.origin }
+
+-- There is room for the UIDs of all copies, each message that is read has its UID, and one at least waits to be stored.
+pub record IsUnderWay (b : batch.Batch) : Type 0 where
+  pub room : length b.uids.items ≤ vec_capacity b.copies
+  pub read : length b.rows.items ≡ length b.uids.items
+  pub left : length b.copies.items < length b.rows.items
+
+abbrev pub IsRoomy : origins.Origin → Type 0
+IsRoomy from.Client = Unit {0}
+IsRoomy (from.Copied b) = IsUnderWay b
 
 -- a line that goes on has room for as much as a line may have
 abbrev pub HasLineRoom : purposes.Purpose → Type 0
