@@ -12,8 +12,8 @@ pub(crate) struct Batch {
     pub(crate) moves: bool,
     // The messages' UIDs, in the order in which they are copied.
     pub(crate) uids: Vec<u32>,
-    // Each as it was read, before the first was submitted.
-    pub(crate) rows: Vec<Row>,
+    // Those that are still to be submitted, the next last, each as it was read before the first was.
+    pub(crate) left: Vec<Row>,
     // The UIDs of the copies that are stored: of the first messages, in their order.
     pub(crate) copies: Vec<u32>,
 }
