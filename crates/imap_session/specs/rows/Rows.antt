@@ -689,7 +689,7 @@ copies_taken_back = refl
 gone_passed : written at_inbox
     (Line (codes "a1 UID COPY 3,5 Work") (Looked (3 ∷ 5 ∷ []) ∷ Found None ∷ flagged_message ∷ []) ∷ Heard (verdicts.Stored 9) (counted 7 ∷ Fed (3 ∷ 5 ∷ []) [] ∷ [])
     ∷ Line (codes "a2 COPY 1:2 Work") (Looked (3 ∷ 5 ∷ []) ∷ flagged_message ∷ Found None ∷ []) ∷ [])
-    ≡ Some (codes "a1 OK [COPYUID 7 5 9] UID COPY completed\r\na2 NO [EXPUNGEISSUED] Some messages are gone\r\n")
+    ≡ Some (codes "a1 OK [COPYUID 7 5 9] COPY completed\r\na2 NO [EXPUNGEISSUED] Some messages are gone\r\n")
 unfolding read digits counted
 gone_passed = refl
 
