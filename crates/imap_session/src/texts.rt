@@ -95,10 +95,10 @@ impl ServerText {
         match self {
             ServerText::Greeting(Profile::Standard) => b"PREAUTH IMAP4rev2 server ready",
             ServerText::Greeting(Profile::Compatible) =>
-                b"OK [CAPABILITY IMAP4rev2 IMAP4rev1 AUTH=PLAIN ENABLE ID IDLE LITERAL- NAMESPACE SASL-IR UIDPLUS UNSELECT] IMAP4rev2 server ready",
+                b"OK [CAPABILITY IMAP4rev2 IMAP4rev1 AUTH=PLAIN ENABLE ID IDLE LITERAL- MOVE NAMESPACE SASL-IR UIDPLUS UNSELECT] IMAP4rev2 server ready",
             ServerText::Capabilities(Profile::Standard) => b"CAPABILITY IMAP4rev2 IDLE",
             ServerText::Capabilities(Profile::Compatible) =>
-                b"CAPABILITY IMAP4rev2 IMAP4rev1 AUTH=PLAIN ENABLE ID IDLE LITERAL- NAMESPACE SASL-IR UIDPLUS UNSELECT",
+                b"CAPABILITY IMAP4rev2 IMAP4rev1 AUTH=PLAIN ENABLE ID IDLE LITERAL- MOVE NAMESPACE SASL-IR UIDPLUS UNSELECT",
             ServerText::Namespaces => b"NAMESPACE ((\"\" \"/\")) NIL NIL",
             ServerText::Identity => b"ID (\"name\" \"post_house\" \"version\" \"0.2.0\")",
             ServerText::NoneEnabled => b"ENABLED",

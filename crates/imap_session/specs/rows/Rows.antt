@@ -555,7 +555,7 @@ lacking = refl
 logs_in_first : written at_the_door
     (Line (codes "a1 CAPABILITY") [] ∷ Line (codes "a2 NOOP") [] ∷ Line (codes "a3 SELECT INBOX") [] ∷ Line (codes "a4 AUTHENTICATE GSSAPI") [] ∷ Line (codes "a5 LOGIN smith SESAME") [] ∷ Line (codes "a6 LOGIN SMITH") []
     ∷ Line (codes "a7 LOGIN \"SMITH\" \"\"") [] ∷ Line (codes "a8 LOGIN SMITH SESAME") [] ∷ [])
-    ≡ Some (codes "* CAPABILITY IMAP4rev2 IMAP4rev1 AUTH=PLAIN ENABLE ID IDLE LITERAL- NAMESPACE SASL-IR UIDPLUS UNSELECT\r\na1 OK CAPABILITY completed\r\na2 OK NOOP completed\r\na3 BAD Wrong state\r\na4 NO [CANNOT] Not offered here\r\na5 NO [AUTHENTICATIONFAILED] Another user's port\r\na6 BAD Invalid arguments\r\na7 OK LOGIN completed\r\na8 BAD Wrong state\r\n")
+    ≡ Some (codes "* CAPABILITY IMAP4rev2 IMAP4rev1 AUTH=PLAIN ENABLE ID IDLE LITERAL- MOVE NAMESPACE SASL-IR UIDPLUS UNSELECT\r\na1 OK CAPABILITY completed\r\na2 OK NOOP completed\r\na3 BAD Wrong state\r\na4 NO [CANNOT] Not offered here\r\na5 NO [AUTHENTICATIONFAILED] Another user's port\r\na6 BAD Invalid arguments\r\na7 OK LOGIN completed\r\na8 BAD Wrong state\r\n")
 unfolding read digits announced
 logs_in_first = refl
 
