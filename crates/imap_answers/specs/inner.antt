@@ -1,2 +1,3 @@
 pub mod Globs
 pub mod Joined
+pub mod Ranges

@@ -13,6 +13,7 @@ mod opening;
 mod sections;
 mod status;
 mod store;
+mod uid_set;
 mod words;
 
 pub use fetch::write_row;
@@ -22,3 +23,4 @@ pub use list::{Listing, write_list};
 pub use opening::{OPENING_ROOM, put_opening};
 pub use status::write_status;
 pub use store::write_stored;
+pub use uid_set::put_uid_set;
