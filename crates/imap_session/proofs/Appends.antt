@@ -3,8 +3,7 @@ use Rattle.std.specs.Prelude.{nat_lt, if◌then◌else◌}
 use Rattle.std.proofs.lemmas.Bool.Decides.{nat_tests}
 use Rattle.std.proofs.Common.{◌≡◌, ◌<◌, ◌≤◌, ◌+◌, arith, ℕ, Bool, true, false, Option, List, [], ◌∷◌, ◌++◌, None, Some, ap, sym, ◌∙◌, append-nil, length, refl, subst}
 use Rattle.imap_session.specs.declared.standing.After.TheVariants.{Go, Bye, Literal}
-use Rattle.imap_session.specs.declared.standing.Origin.{Origin}
-use Rattle.imap_session.specs.Exchange.{Argument, Asked, Coming, Dropped, Exchange, Unasked, continuing, Folder, Message, Purpose, ForLiteral, ForNothing, ForVerdict, Standing, Starved, Wait, Waiting, after_waiting, bye, most_in_place, played, tagged, text_before, waiting}
+use Rattle.imap_session.specs.Exchange.{Argument, Asked, Coming, Dropped, Exchange, Origin, Unasked, continuing, Folder, Message, Purpose, ForLiteral, ForNothing, ForVerdict, Standing, Starved, Wait, Waiting, after_waiting, bye, most_in_place, played, tagged, text_before, waiting}
 use Rattle.change_ring.specs.declared.change.Flags.{Flags}
 use Rattle.imap_grammar.specs.declared.command.Append.{Append}
 use Rattle.imap_grammar.specs.declared.command.Literal.{Literal as Announced}

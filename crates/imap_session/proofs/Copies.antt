@@ -1,48 +1,37 @@
 -- What is said of a message that was stored, whatever it comes from; and what a COPY or MOVE comes to.
-use Rattle.std.proofs.Common.{◌≡◌, ◌++◌, ℕ, List, [], true, false, Option, Some, None, Result, Ok, Err, refl, sym, ap, ◌∙◌, append_assoc}
-use Rattle.change_ring.specs.declared.change.Flags.{Flags}
-use Rattle.change_ring.specs.declared.flag_op.FlagOp.{FlagOp}
+use Rattle.std.proofs.Common.{◌≡◌, ◌++◌, ◌+◌, ◌<◌, ◌==◌, ℕ, List, [], ◌∷◌, true, false, Option, Some, None, Result, Ok, Err, refl, sym, ap, ◌∙◌, subst, append_assoc, append-nil, add-one, drop, drop-cons, get_or, length, map}
+use Rattle.std.specs.Prelude.{option_to_list, if◌then◌else◌}
+use Rattle.mailbox.specs.declared.clients.Row.{Row}
 use Rattle.mailbox.specs.declared.clients.MailFault.{MailFault}
 use Rattle.mailbox.specs.declared.clients.MailFault.TheVariants.{NoMemory}
 use Rattle.imap_grammar.specs.declared.command.CopyMessages.{CopyMessages}
+use Rattle.delivery_token.specs.declared.Verdict.{Verdict}
+use Rattle.delivery_token.specs.declared.Verdict.TheVariants.{Stored, Refused}
 use Rattle.imap_session.specs.declared.copying.Found.{Found}
 use Rattle.imap_session.specs.declared.copying.Found.TheVariants.{Said}
 use Rattle.imap_session.specs.declared.standing.After.{After}
 use Rattle.imap_session.specs.declared.standing.After.TheVariants.{Go}
-use Rattle.imap_session.specs.declared.standing.Origin.{Origin}
-use Rattle.imap_session.specs.declared.standing.Origin.TheVariants.{Client, Copied}
 use Rattle.imap_session.specs.declared.standing.Selected.{Selected}
-use Rattle.imap_session.specs.declared.standing.Source.{Source}
 use Rattle.imap_session.specs.declared.texts.ResponseText.{ResponseText}
 use Rattle.imap_session.specs.declared.texts.ResponseText.TheVariants as texts
 use Rattle.imap_session.specs.Exchange as ex
-use Rattle.imap_session.specs.Exchange.{Altered, Answer, Call, Exchange, Standing, closed, played}
-use Rattle.imap_session.specs.Commands.{copy_messages, copy_to, moving, nowhere, number_named, on_found, says, showing, told_stored, wanting, wrong_state}
+use Rattle.imap_session.specs.Exchange.{Batch, Origin, Client, Copied, Discarded, Answer, Call, Exchange, Mailing, Standing, closed, played}
+use Rattle.imap_session.specs.Commands.{copy_messages, copy_to, gathering, is_over, most_copied, nowhere, number_named, on_found, on_verdict, over, says, submitting_first, taking_back, told_copied, wanting, with_copy, with_message, with_validity, wrong_state}
 use Rattle.imap_session.specs.Texts.{response_text}
 use Rattle.imap_session.specs.Response.{Response}
 use Rattle.imap_session.specs.inner.Appends.{Leads}
-use Rattle.imap_session.specs.inner.Copies.{found_next, is_moved, stored_words}
+use Rattle.imap_session.specs.inner.Copies.{batch_with, found_next, picked}
 use Rattle.imap_session.specs.inner.Lines.{Had}
 use Rattle.imap_session.specs.inner.Store.{Does, Plays, Reaches, after_result, last, last_words}
 use Rattle.imap_session.proofs.Ending.{moves_still, plays_moved}
-use Rattle.imap_session.proofs.Runs.{Met-append, nothing_added, reaches_alter, reaches_here, reaches_write, stops_write}
+use Rattle.imap_session.proofs.Runs.{Met-append, nothing_added, reaches_discard, reaches_here, reaches_then, reaches_write, stops_write}
 use Rattle.imap_session.proofs.Saying.{does_then, does_wanting}
 
--- what is told of one that isn't moved, and of one that is
-pub told_shown : (selected : Option Selected) (origin : Origin) (uidvalidity uid : ℕ) → is_moved origin ≡ false
-    → told_stored selected origin uidvalidity uid ≡ showing selected (says (stored_words origin uidvalidity uid))
-told_shown selected Client uidvalidity uid stays = refl
-told_shown selected (Copied source) uidvalidity uid stays = rw stays refl
-
-pub told_moved : (selected : Option Selected) (origin : Origin) (source : Source) (uidvalidity uid : ℕ) → origin ≡ Copied source → source.moves ≡ true
-    → told_stored selected origin uidvalidity uid ≡ moving source uidvalidity uid
-told_moved selected origin source uidvalidity uid is moves = rw (is, moves) refl
-
--- flags were changed, and the rest was done
-pub does_altered : {S V : Type 0} (step : S → Call → Answer → S → Type 0) (uid : ℕ) (op : FlagOp) (next : Option Flags → Exchange) (flags : Option Flags) (z : V → Exchange) (old mid new : S) (before after : Response) (r : Result V MailFault)
-    → step old (ex.Alter uid op) (Altered flags) mid → Does step (next flags) z mid new before after r → Does step (ex.Alter uid op next) z old new before after r
-does_altered step uid op next flags z old mid new before after r h p =
-    does_then step (ex.Alter uid op next) (next flags) z old mid new before before after r (λ tag now. reaches_alter step tag now uid op next flags old mid before h) p
+-- messages were removed from a mailbox, and the rest was done
+pub does_discarded : {S V : Type 0} (step : S → Call → Answer → S → Type 0) (mailbox : ℕ) (uids : List ℕ) (x : Exchange) (z : V → Exchange) (old mid new : S) (before after : Response) (r : Result V MailFault)
+    → step old (ex.Discard mailbox uids) Discarded mid → Does step x z mid new before after r → Does step (ex.Discard mailbox uids x) z old new before after r
+does_discarded step mailbox uids x z old mid new before after r h p =
+    does_then step (ex.Discard mailbox uids x) x z old mid new before before after r (λ tag now. reaches_discard step tag now mailbox uids x old mid before h) p
 
 -- an exchange was done but for its last line, and that was said, or what is said of a fault
 pub plays_done : {S : Type 0} (step : S → Call → Answer → S → Type 0) (now : Standing) (x : Exchange) (old new : S) (before mid : Response) (final : List ℕ) (r : Result ResponseText MailFault) (how : After)
@@ -84,6 +73,70 @@ pub copy_found : {S : Type 0} (step : S → Call → Answer → S → Type 0) (n
     → Does step (on_found (copy_messages now copy) wrong_state now.selected) (found_next now.mailing copy) old new response response r
 copy_found step now copy selected mailbox old new response r is e some d =
     rw (refused_at now copy selected _ is e ∙ ap (λ o. wanting (to_named now copy o)) some) (does_wanting step (copy_to now.mailing copy mailbox) (found_next now.mailing copy) old new response response r d)
+
+-- ---- messages that are read one after another
+
+abbrev taken_at : Mailing → CopyMessages → (mailbox : ℕ) → (named : List ℕ) → (i : ℕ) → (uids : List ℕ) → (left : List Row) → Row → Exchange
+taken_at mailing copy mailbox named i uids left row = gathering mailing copy mailbox (drop (i + 1) named) (with_message (get_or named i 0) row (batch_with copy uids left))
+
+abbrev passed_at : Mailing → CopyMessages → (mailbox : ℕ) → (named : List ℕ) → (i : ℕ) → (uids : List ℕ) → (left : List Row) → Exchange
+passed_at mailing copy mailbox named i uids left = gathering mailing copy mailbox (drop (i + 1) named) (batch_with copy uids left)
+
+abbrev read_at : Mailing → CopyMessages → (mailbox : ℕ) → (named : List ℕ) → (i : ℕ) → (uids : List ℕ) → (left : List Row) → Exchange
+read_at mailing copy mailbox named i uids left =
+    ex.Read (get_or named i 0) false (on_found (λ row. if is_over (most_copied mailing.most) (length row.text) then over (most_copied mailing.most) else taken_at mailing copy mailbox named i uids left row)
+    (if copy.by_uid then passed_at mailing copy mailbox named i uids left else says (response_text texts.MessagesGone)))
+
+-- what is left is to read the next message
+gathering_next : (mailing : Mailing) (copy : CopyMessages) (mailbox : ℕ) (named : List ℕ) (i : ℕ) (uids : List ℕ) (left : List Row) → i < length named
+    → gathering mailing copy mailbox (drop i named) (batch_with copy uids left) ≡ read_at mailing copy mailbox named i uids left
+gathering_next mailing copy mailbox named i uids left h = rw (add-one, drop-cons named i 0) refl
+
+-- it is read, for whoever knows what the reading of one says
+pub read_next : {S : Type 0} (step : S → Call → Answer → S → Type 0) (tag : List ℕ) (now : Standing) (mailing : Mailing) (copy : CopyMessages) (mailbox : ℕ) (named : List ℕ) (i : ℕ) (uids : List ℕ) (left : List Row) (x : Exchange) (old mid : S) (text : Response)
+    → i < length named → Reaches step tag now now x (gathering mailing copy mailbox (drop i named) (batch_with copy uids left)) old mid text text
+    → Reaches step tag now now x (read_at mailing copy mailbox named i uids left) old mid text text
+read_next step tag now mailing copy mailbox named i uids left x old mid text h p =
+    let P : Exchange → Type 0 = λ y. Reaches step tag now now x y old mid text text in
+    subst P (gathering_next mailing copy mailbox named i uids left h) p
+
+-- one that is there is kept, and one that is passed over isn't
+picked_kept : (mailing : Mailing) (copy : CopyMessages) (mailbox : ℕ) (named : List ℕ) (i : ℕ) (uids : List ℕ) (left : List Row) (row : Option Row)
+    → picked (taken_at mailing copy mailbox named i uids left) (passed_at mailing copy mailbox named i uids left) (Ok row)
+    ≡ gathering mailing copy mailbox (drop (i + 1) named) (batch_with copy (uids ++ map (λ _. get_or named i 0) (option_to_list row)) (left ++ option_to_list row))
+picked_kept mailing copy mailbox named i uids left None =
+    ap (λ u. gathering mailing copy mailbox (drop (i + 1) named) (batch_with copy u left)) (sym (append-nil uids))
+    ∙ ap (λ l. gathering mailing copy mailbox (drop (i + 1) named) (batch_with copy (uids ++ []) l)) (sym (append-nil left))
+picked_kept mailing copy mailbox named i uids left (Some row) = refl
+
+-- it goes on by one message
+pub gathers_more : {S : Type 0} (step : S → Call → Answer → S → Type 0) (tag : List ℕ) (now : Standing) (mailing : Mailing) (copy : CopyMessages) (mailbox : ℕ) (named : List ℕ) (i : ℕ) (uids : List ℕ) (left : List Row) (row : Option Row) (kept : List ℕ) (rows : List Row) (x : Exchange) (old mid new : S) (text : Response)
+    → i < length named → kept ≡ uids ++ map (λ _. get_or named i 0) (option_to_list row) → rows ≡ left ++ option_to_list row
+    → Reaches step tag now now x (gathering mailing copy mailbox (drop i named) (batch_with copy uids left)) old mid text text
+    → Reaches step tag now now (read_at mailing copy mailbox named i uids left) (picked (taken_at mailing copy mailbox named i uids left) (passed_at mailing copy mailbox named i uids left) (Ok row)) mid new text text
+    → Reaches step tag now now x (gathering mailing copy mailbox (drop (i + 1) named) (batch_with copy kept rows)) old new text text
+gathers_more step tag now mailing copy mailbox named i uids left row kept rows x old mid new text lt e f p q =
+    rw (e, f, ← picked_kept mailing copy mailbox named i uids left row)
+    (reaches_then step tag now now now x _ _ old mid new text text text (read_next step tag now mailing copy mailbox named i uids left x old mid text lt p) q)
+
+-- copies that were stored are removed again, where there are any
+pub taken_back_some : (mailbox : ℕ) (copies : List ℕ) (x : Exchange) → (length copies == 0) ≡ false → taking_back mailbox copies x ≡ ex.Discard mailbox copies x
+taken_back_some mailbox [] x h = cc
+taken_back_some mailbox (uid ∷ uids) x h = refl
+
+pub taken_back_none : (mailbox : ℕ) (copies : List ℕ) (x : Exchange) → (length copies == 0) ≡ true → taking_back mailbox copies x ≡ x
+taken_back_none mailbox [] x h = refl
+taken_back_none mailbox (uid ∷ uids) x h = cc
+
+-- what is done about a verdict goes by the number of the next message alone
+first_same : (m n : Mailing) (batch : Batch) (mailbox : ℕ) (done : Exchange) (left : List Row) → m.number ≡ n.number → submitting_first m batch mailbox done left ≡ submitting_first n batch mailbox done left
+first_same m n batch mailbox done [] e = refl
+first_same m n batch mailbox done (row ∷ left) e = rw e refl
+
+pub verdict_same : (m n : Mailing) (selected : Option Selected) (origin : Origin) (mailbox : ℕ) (verdict : Verdict) → m.number ≡ n.number → on_verdict m selected origin mailbox verdict ≡ on_verdict n selected origin mailbox verdict
+verdict_same m n selected Client mailbox (Stored uid) e = refl
+verdict_same m n selected (Copied batch) mailbox (Stored uid) e = first_same m n (with_copy uid batch) mailbox (with_validity mailbox (told_copied selected (with_copy uid batch))) batch.left e
+verdict_same m n selected origin mailbox (Refused why) e = refl
 
 -- ---- whole lines of it
 

@@ -13,7 +13,7 @@ use Rattle.mailbox.specs.declared.clients.Opening.{Opening}
 use Rattle.imap_session.specs.declared.standing.Selected.{Selected}
 use Rattle.imap_grammar.specs.declared.set.SeqRange.{SeqRange}
 use Rattle.imap_session.specs.Exchange as ex
-use Rattle.imap_session.specs.Exchange.{Call, Answer, Entered, Looked, Found, Counted, Altered, Expunged, Fed, Left, Refused, Starved, Event, Exchange, Standing, refused, saying, having}
+use Rattle.imap_session.specs.Exchange.{Call, Answer, Entered, Looked, Found, Counted, Altered, Expunged, Fed, Left, Discarded, Refused, Starved, Event, Exchange, Standing, refused, saying, having}
 use Rattle.imap_session.specs.Store.{Met}
 use Rattle.imap_session.specs.Response.{Response}
 use Rattle.imap_session.specs.inner.Response.{Adds, adding}
@@ -321,4 +321,24 @@ stops_expunge step tag now uids x fault old new before after h e = record {
   leads = (Refused fault ∷ [], refl);
   met = (new, h, refl);
   wrote = same_still before after e;
+}
+
+pub reaches_discard : {S : Type 0} (step : S → Call → Answer → S → Type 0) (tag : List ℕ) (now : Standing) (mailbox : ℕ) (uids : List ℕ) (x : Exchange) (old new : S) (text : Response)
+    → step old (ex.Discard mailbox uids) Discarded new → Reaches step tag now now (ex.Discard mailbox uids x) x old new text text
+reaches_discard step tag now mailbox uids x old new text h = record {
+  events = record { call = ex.Discard mailbox uids; answer = Discarded } ∷ [];
+  bytes = [];
+  leads = λ more turn e. (Discarded ∷ more, ap (option_map (having (ex.Discard mailbox uids) Discarded)) e);
+  met = (new, h, refl);
+  wrote = nothing_added text;
+}
+
+pub stops_discard : {S : Type 0} (step : S → Call → Answer → S → Type 0) (tag : List ℕ) (now : Standing) (mailbox : ℕ) (uids : List ℕ) (x : Exchange) (fault : MailFault) (old new : S) (text : Response)
+    → step old (ex.Discard mailbox uids) (Refused fault) new → Stops step tag now now (ex.Discard mailbox uids x) fault old new text text
+stops_discard step tag now mailbox uids x fault old new text h = record {
+  events = record { call = ex.Discard mailbox uids; answer = Refused fault } ∷ [];
+  bytes = [];
+  leads = (Refused fault ∷ [], refl);
+  met = (new, h, refl);
+  wrote = nothing_added text;
 }

@@ -22,15 +22,13 @@ use Rattle.imap_session.specs.declared.texts.ResponseText.{ResponseText}
 use Rattle.imap_session.proofs.Barring.{answering_has, refuses}
 use Rattle.std.specs.Prelude.{nat_lt}
 use Rattle.imap_grammar.specs.declared.command.Append.{Append}
-use Rattle.imap_session.specs.Exchange.{Exchange, Expunge, Feed, Folder, ForNothing, Standing, Wait, Write, bye, untagged, ForVerdict}
-use Rattle.imap_session.specs.Commands.{answering, telling_recent, asking, coming, most_unasked, nowhere, is_over, number_named, over, wanting, wanting_for, on_command, on_idle_line, counting, folder_of, showing, completed, closing, entering, on_folder, on_chosen, messages_done, on_found, fetching, storing, fetched, if_writable, expunge_set, found_in, search_done, search_known, search_messages, searching, store_messages, fetch_messages, unlimited, wrong_state, says, notice, noticing, copying, copy_of, copy_to, copy_messages, most_copied, last_number}
+use Rattle.imap_session.specs.Exchange.{Batch, Copied, Exchange, Expunge, Feed, Folder, ForNothing, Standing, Wait, Write, bye, untagged, ForVerdict}
+use Rattle.imap_session.specs.Commands.{answering, telling_recent, asking, coming, most_unasked, nowhere, is_over, number_named, over, wanting, wanting_for, on_command, on_idle_line, counting, folder_of, showing, completed, closing, entering, on_folder, on_chosen, messages_done, on_found, fetching, storing, fetched, if_writable, expunge_set, found_in, search_done, search_known, search_messages, searching, store_messages, fetch_messages, unlimited, wrong_state, says, notice, noticing, copy_of, copy_to, copy_messages, empty_batch, gathering, most_copied, most_in_batch, last_number, submitting_first, taking_back, with_message}
 use Rattle.imap_session.proofs.Appends.{asked_at, sent_at}
 use Rattle.imap_session.specs.Shows.{DoneShowsInOrder, IsFetchLine, IsNoOk, IsNotice, MaySay, ShowsBefore, ShowsInOrder, may_show}
 use Rattle.imap_session.specs.declared.texts.ResponseText.TheVariants as texts
 use Rattle.imap_session.specs.Texts.{response_text}
 use Rattle.imap_grammar.specs.declared.command.CopyMessages.{CopyMessages}
-use Rattle.imap_session.specs.declared.standing.Source.{Source}
-use Rattle.imap_session.specs.declared.standing.Origin.TheVariants.{Copied}
 
 no_must : (b : Bool) (o : Option Selected) → o ≡ None → (b && is_some o) ≡ true → ⊥
 no_must true None n e = cc
@@ -139,19 +137,29 @@ in_append now most a found =
     (in_either now (commands.Append a) (nat_lt most_unasked a.literal.size) (Wait (bye (response_text texts.LiteralTooBig)) ForNothing) (coming found a.flags a.literal.size)
     (inr (inr refl), refl) (inl refl, refl))
 
-in_copying : (now : Standing) (copy : CopyMessages) (source : Source) (mailbox : ℕ) (row : Row) → ShowsInOrder now (commands.Copy copy) (copying now.mailing source mailbox row)
-in_copying now copy source mailbox row =
-    in_either now (commands.Copy copy) (is_over (most_copied now.mailing.most) (length row.text)) (over (most_copied now.mailing.most)) _ (in_over now (commands.Copy copy) (most_copied now.mailing.most))
-    (in_either now (commands.Copy copy) (nat_le last_number now.mailing.number) (says (response_text texts.MailboxSpent)) (wanting (Wait [] (ForVerdict (Copied source) mailbox row.flags row.text)))
-    (λ must. refl) (refl, (refl, may_not_be (is_some now.selected))))
+back_shown : (now : Standing) (copy : CopyMessages) (mailbox : ℕ) (copies : List ℕ) → ShowsInOrder now (commands.Copy copy) (taking_back mailbox copies (says (response_text texts.MailboxSpent)))
+back_shown now copy mailbox [] = λ must. refl
+back_shown now copy mailbox (uid ∷ uids) = λ must. refl
+
+in_submitting : (now : Standing) (copy : CopyMessages) (batch : Batch) (mailbox : ℕ) (left : List Row)
+    → ShowsInOrder now (commands.Copy copy) (submitting_first now.mailing batch mailbox (completed (commands.Copy copy)) left)
+in_submitting now copy batch mailbox [] = λ must. absurd (may_not false (is_some now.selected) refl must)
+in_submitting now copy batch mailbox (row ∷ left) =
+    in_either now (commands.Copy copy) (nat_le last_number now.mailing.number) (taking_back mailbox batch.copies (says (response_text texts.MailboxSpent))) (Wait [] (ForVerdict (Copied (record batch { left = left })) mailbox row.flags row.text))
+    (back_shown now copy mailbox batch.copies) (refl, may_not_be (is_some now.selected))
+
+in_gathering : (now : Standing) (copy : CopyMessages) (mailbox : ℕ) (uids : List ℕ) (batch : Batch) → ShowsInOrder now (commands.Copy copy) (gathering now.mailing copy mailbox uids batch)
+in_gathering now copy mailbox [] batch = in_submitting now copy batch mailbox batch.left
+in_gathering now copy mailbox (uid ∷ uids) batch = elim [
+  | None ↦ in_either now (commands.Copy copy) copy.by_uid (gathering now.mailing copy mailbox uids batch) (says (response_text texts.MessagesGone)) (in_gathering now copy mailbox uids batch) (λ must. refl)
+  | Some row ↦ in_either now (commands.Copy copy) (is_over (most_copied now.mailing.most) (length row.text)) (over (most_copied now.mailing.most)) (gathering now.mailing copy mailbox uids (with_message uid row batch))
+      (in_over now (commands.Copy copy) (most_copied now.mailing.most)) (in_gathering now copy mailbox uids (with_message uid row batch))
+]
 
 in_copy : (now : Standing) (copy : CopyMessages) (mailbox : ℕ) (uids : List ℕ) → ShowsInOrder now (commands.Copy copy) (copy_of now.mailing copy mailbox uids)
-in_copy now copy mailbox [] = λ must. absurd (may_not false (is_some now.selected) refl must)
-in_copy now copy mailbox (uid ∷ []) = elim [
-  | None ↦ in_either now (commands.Copy copy) copy.by_uid (completed (commands.Copy copy)) (says (response_text texts.MessagesGone)) (λ must. absurd (may_not false (is_some now.selected) refl must)) (λ must. refl)
-  | Some row ↦ in_copying now copy _ mailbox row
-]
-in_copy now copy mailbox (uid ∷ other ∷ uids) = λ must. refl
+in_copy now copy mailbox uids =
+    in_either now (commands.Copy copy) (nat_lt most_in_batch (length uids)) (says (response_text texts.TooManyMessages)) (wanting (gathering now.mailing copy mailbox uids (empty_batch copy)))
+    (λ must. refl) (refl, in_gathering now copy mailbox uids (empty_batch copy))
 
 notice_shown : (now : Standing) (command : Command) (said : Option (List ℕ)) → ((bytes : List ℕ) → IsNotice said bytes → MaySay now command bytes) → may_show command ≡ false
     → ShowsInOrder now command (noticing said (completed command))

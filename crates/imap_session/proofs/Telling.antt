@@ -31,8 +31,8 @@ use Rattle.imap_session.specs.declared.standing.Selected.{Selected}
 use Rattle.imap_session.specs.declared.standing.Profile.{Profile}
 use Rattle.imap_session.specs.declared.standing.Profile.TheVariants.{Standard, Compatible}
 use Rattle.imap_session.proofs.Barring.{answering_has}
-use Rattle.imap_session.specs.Exchange.{PendingLiteral, Exchange, Expunge, Feed, Folder, ForNothing, ForVerdict, Mailing, Standing, Wait, Write, bye, kept_behind, kept_tag, refusal_text}
-use Rattle.imap_session.specs.Commands.{fault_tag, flags_for, mailbox_for, answering, arguments_text, subscribing, telling_recent, appended_words, asking, coming, closing, completed, counting, entering, expunge_set, fault_text, fetch_messages, fetching, folder_of, found_in, if_writable, is_over, last_number, long_rest_text, long_text, most_unasked, messages_done, nowhere, number_named, on_chosen, on_command, on_folder, on_found, on_idle_line, on_rest, on_text, on_verdict, over, refused_text, says, search_done, search_known, search_messages, searching, showing, store_messages, storing, turn_of_long_line, unlimited, wanting, wanting_for, wrong_state, entered_text, copying, copy_of, copy_to, copy_messages, most_copied, copied_words, moving}
+use Rattle.imap_session.specs.Exchange.{Batch, Origin, Client, Copied, Discard, PendingLiteral, Exchange, Expunge, Feed, Folder, ForNothing, ForVerdict, Mailing, Standing, Wait, Write, bye, kept_behind, kept_tag, refusal_text}
+use Rattle.imap_session.specs.Commands.{fault_tag, flags_for, mailbox_for, answering, arguments_text, subscribing, telling_recent, appended_words, asking, coming, closing, completed, counting, entering, expunge_set, fault_text, fetch_messages, fetching, folder_of, found_in, if_writable, is_over, last_number, long_rest_text, long_text, most_unasked, messages_done, nowhere, number_named, on_chosen, on_command, on_folder, on_found, on_idle_line, on_rest, on_text, on_verdict, over, refused_text, says, search_done, search_known, search_messages, searching, showing, store_messages, storing, turn_of_long_line, unlimited, wanting, wanting_for, wrong_state, entered_text, copies_of, copy_of, copy_to, copy_messages, empty_batch, gathering, most_copied, most_in_batch, move_done, copied_words, moving, on_stored, submitting_first, taking_back, told_copied, with_copy, with_message, with_validity}
 use Rattle.imap_session.specs.Telling.{LineTellsNoUid, RefusalTellsNoUid, TellsNoUid, VerdictTellsUid, WordsTellWhich, tells_uid, StoredTellsUid}
 use Rattle.imap_session.proofs.Appends.{asked_at, sent_at}
 use Rattle.imap_session.specs.declared.texts.ResponseText.TheVariants as texts
@@ -40,9 +40,6 @@ use Rattle.imap_session.specs.Texts.{response_text}
 use Rattle.imap_grammar.specs.declared.command.Verb.{Verb}
 use Rattle.imap_session.specs.declared.texts.ResponseText.{ResponseText}
 use Rattle.imap_grammar.specs.declared.command.CopyMessages.{CopyMessages}
-use Rattle.imap_session.specs.declared.standing.Source.{Source}
-use Rattle.imap_session.specs.declared.standing.Origin.{Origin}
-use Rattle.imap_session.specs.declared.standing.Origin.TheVariants.{Client, Copied}
 use Rattle.mailbox.specs.declared.clients.Row.{Row}
 
 -- ---- what an exchange is made of
@@ -134,18 +131,29 @@ append_tells_none most a found =
     (λ m. in_either (is_over most a.literal.size) (over most) (asking m a.flags a.literal.size) (over_tells_none most) tt) refl found)
     (in_either (nat_lt most_unasked a.literal.size) (Wait (bye (response_text texts.LiteralTooBig)) ForNothing) (coming found a.flags a.literal.size) tt tt)
 
-copying_tells_none : (mailing : Mailing) (source : Source) (mailbox : ℕ) (row : Row) → TellsNoUid (copying mailing source mailbox row)
-copying_tells_none mailing source mailbox row =
-    in_either (is_over (most_copied mailing.most) (length row.text)) (over (most_copied mailing.most)) _ (over_tells_none (most_copied mailing.most))
-    (in_either (nat_le last_number mailing.number) (says (response_text texts.MailboxSpent)) (wanting (Wait [] (ForVerdict (Copied source) mailbox row.flags row.text))) refl tt)
+back_tells_none : (mailbox : ℕ) (copies : List ℕ) (text : ResponseText) → TellsNoUid (taking_back mailbox copies (says (response_text text)))
+back_tells_none mailbox [] text = row_tells_none text
+back_tells_none mailbox (uid ∷ uids) text = row_tells_none text
+
+submitting_tells_none : (mailing : Mailing) (batch : Batch) (mailbox : ℕ) (done : Exchange) → TellsNoUid done → (left : List Row) → TellsNoUid (submitting_first mailing batch mailbox done left)
+submitting_tells_none mailing batch mailbox done p [] = p
+submitting_tells_none mailing batch mailbox done p (row ∷ left) =
+    in_either (nat_le last_number mailing.number) (taking_back mailbox batch.copies (says (response_text texts.MailboxSpent))) (Wait [] (ForVerdict (Copied (record batch { left = left })) mailbox row.flags row.text))
+    (back_tells_none mailbox batch.copies texts.MailboxSpent) tt
+
+gathering_tells_none : (mailing : Mailing) (copy : CopyMessages) (mailbox : ℕ) (uids : List ℕ) (batch : Batch) → TellsNoUid (gathering mailing copy mailbox uids batch)
+gathering_tells_none mailing copy mailbox [] batch =
+    submitting_tells_none mailing batch mailbox (completed (commands.Copy copy)) (row_tells_none (texts.Completed (verb_of (commands.Copy copy)))) batch.left
+gathering_tells_none mailing copy mailbox (uid ∷ uids) batch = elim [
+  | None ↦ in_either copy.by_uid (gathering mailing copy mailbox uids batch) (says (response_text texts.MessagesGone)) (gathering_tells_none mailing copy mailbox uids batch) refl
+  | Some row ↦ in_either (is_over (most_copied mailing.most) (length row.text)) (over (most_copied mailing.most)) (gathering mailing copy mailbox uids (with_message uid row batch)) (over_tells_none (most_copied mailing.most))
+      (gathering_tells_none mailing copy mailbox uids (with_message uid row batch))
+]
 
 copy_tells_none : (mailing : Mailing) (copy : CopyMessages) (mailbox : ℕ) (uids : List ℕ) → TellsNoUid (copy_of mailing copy mailbox uids)
-copy_tells_none mailing copy mailbox [] = row_tells_none (texts.Completed (verb_of (commands.Copy copy)))
-copy_tells_none mailing copy mailbox (uid ∷ []) = elim [
-  | None ↦ in_either copy.by_uid (completed (commands.Copy copy)) (says (response_text texts.MessagesGone)) (row_tells_none (texts.Completed (verb_of (commands.Copy copy)))) refl
-  | Some row ↦ copying_tells_none mailing _ mailbox row
-]
-copy_tells_none mailing copy mailbox (uid ∷ other ∷ uids) = refl
+copy_tells_none mailing copy mailbox uids =
+    in_either (nat_lt most_in_batch (length uids)) (says (response_text texts.TooManyMessages)) (wanting (gathering mailing copy mailbox uids (empty_batch copy))) refl
+    (gathering_tells_none mailing copy mailbox uids (empty_batch copy))
 
 pub command_tells_none : (now : Standing) (command : Command) → TellsNoUid (on_command now command)
 command_tells_none now commands.Noop = in_showing now.selected (completed commands.Noop) refl
@@ -266,12 +274,19 @@ words_tell_which v n w m v_fits n_fits w_fits m_fits same =
     let parts = both_same (decimal v) (decimal n) (decimal w) (decimal m) (sym (cut_again v n v_fits n_fits) ∙ ap (slice_split (λ b. b == 32)) inner ∙ cut_again w m w_fits m_fits) in
     (decimal_injective v w v_fits w_fits parts.0, decimal_injective n m n_fits m_fits parts.1)
 
-stored_tells : (selected : Option Selected) (origin : Origin) (mailbox uid : ℕ) → StoredTellsUid selected origin mailbox uid (on_verdict selected origin mailbox (Stored uid))
-stored_tells selected Client mailbox uid = (refl, λ status. refl)
-stored_tells selected (Copied source) mailbox uid = λ status.
-    in_either source.moves (moving source status.uidvalidity uid) (showing selected (says (copied_words status.uidvalidity source.uid uid)))
-    (λ flags. row_tells_none (texts.Completed (copy_verb source.by_uid true))) (in_showing selected (says (copied_words status.uidvalidity source.uid uid)) refl)
+copied_tells_none : (selected : Option Selected) (batch : Batch) (uidvalidity : ℕ) → TellsNoUid (told_copied selected batch uidvalidity)
+copied_tells_none selected batch uidvalidity =
+    in_either batch.moves (moving selected uidvalidity batch) (showing selected (says (copied_words uidvalidity batch)))
+    (in_found (λ (s : Selected). Discard s.mailbox batch.uids (Feed unlimited (move_done batch))) (move_done batch)
+    (λ s. row_tells_none (texts.Completed (copy_verb batch.by_uid true))) (row_tells_none (texts.Completed (copy_verb batch.by_uid true))) selected)
+    (in_showing selected (says (copied_words uidvalidity batch)) refl)
 
-pub verdict_tells : (selected : Option Selected) (origin : Origin) (mailbox : ℕ) (verdict : Verdict) → VerdictTellsUid selected origin mailbox verdict (on_verdict selected origin mailbox verdict)
-verdict_tells selected origin mailbox (Stored uid) = stored_tells selected origin mailbox uid
-verdict_tells selected origin mailbox (Refused why) = row_tells_none (refused_text why)
+stored_tells : (mailing : Mailing) (selected : Option Selected) (origin : Origin) (mailbox uid : ℕ) → StoredTellsUid selected origin mailbox uid (on_stored mailing selected origin mailbox uid)
+stored_tells mailing selected Client mailbox uid = (refl, λ status. refl)
+stored_tells mailing selected (Copied batch) mailbox uid =
+    submitting_tells_none mailing (with_copy uid batch) mailbox (with_validity mailbox (told_copied selected (with_copy uid batch)))
+    (λ status. copied_tells_none selected (with_copy uid batch) status.uidvalidity) batch.left
+
+pub verdict_tells : (mailing : Mailing) (selected : Option Selected) (origin : Origin) (mailbox : ℕ) (verdict : Verdict) → VerdictTellsUid selected origin mailbox verdict (on_verdict mailing selected origin mailbox verdict)
+verdict_tells mailing selected origin mailbox (Stored uid) = stored_tells mailing selected origin mailbox uid
+verdict_tells mailing selected origin mailbox (Refused why) = back_tells_none mailbox (copies_of origin) (refused_text why)

@@ -3,6 +3,8 @@ use Rattle.std.proofs.Common.{◌≡◌, ◌<◌, ◌≤◌, ◌^◌, ◌-◌, �
 use Rattle.std.specs.Prelude.{decimal, is_some, ◌&&◌, nat_le, if◌then◌else◌}
 use Rattle.std.specs.List.{list_any}
 use Rattle.std.specs.Option.{option_map}
+use Rattle.mailbox.specs.declared.clients.Row.{Row}
+use Rattle.imap_answers.specs.Answers.{uid_set}
 use Rattle.std.proofs.lemmas.List.{length-append}
 use Rattle.std.proofs.lemmas.Fmt.{length-decimal-le}
 use Rattle.delivery_token.specs.declared.Verdict.{Verdict}
@@ -10,14 +12,11 @@ use Rattle.delivery_token.specs.declared.Verdict.TheVariants.{Stored, Refused}
 use Rattle.delivery_token.specs.declared.Refusal.{Refusal}
 use Rattle.delivery_token.specs.declared.Refusal.TheVariants.{Full}
 use Rattle.imap_session.specs.declared.standing.Selected.{Selected}
-use Rattle.imap_session.specs.Exchange.{PendingLiteral, Exchange, ForVerdict, Mailing, Standing, Wait, tagged, untagged}
-use Rattle.imap_session.specs.Commands.{appended_words, flags_for, is_over, kept_text, mailbox_for, last_number, nowhere, on_found, on_rest, on_text, on_verdict, refused_text, says, showing, over, taking, wanting, with_bytes, copied_words, copy_code, moving, told_stored}
-use Rattle.imap_session.specs.Shows.{IsNoOk, RestShowsNone, ShowsBefore, VerdictShowsInOrder, CopyShows, StoredShows}
+use Rattle.imap_session.specs.Exchange.{Batch, Origin, Client, Copied, PendingLiteral, Discard, Exchange, Feed, ForVerdict, Mailing, Standing, Wait, tagged, untagged}
+use Rattle.imap_session.specs.Commands.{appended_words, flags_for, is_over, kept_text, mailbox_for, last_number, nowhere, on_found, on_rest, on_text, on_verdict, refused_text, says, showing, over, taking, wanting, with_bytes, with_copy, with_validity, copied_words, copies_of, copy_code, move_done, moved_words, moving, on_stored, submitting_first, taking_back, told_copied, unlimited}
+use Rattle.imap_session.specs.Shows.{IsNoOk, IsRefused, RestShowsNone, ShowsBefore, VerdictShowsInOrder, CopyGoesOn, CopyShows, StoredShows}
 use Rattle.imap_session.specs.declared.texts.ResponseText.TheVariants as texts
 use Rattle.imap_session.specs.Texts.{response_text}
-use Rattle.imap_session.specs.declared.standing.Source.{Source}
-use Rattle.imap_session.specs.declared.standing.Origin.{Origin}
-use Rattle.imap_session.specs.declared.standing.Origin.TheVariants.{Client, Copied}
 
 pub ten_digits : (n : ℕ) → n < 2 ^ 32 → length (decimal n) ≤ 10
 ten_digits n l = length-decimal-le 10 n (omega arith) (omega (arith, l)) (omega (arith, l))
@@ -41,13 +40,13 @@ code_parts : (out first validity gap number gap2 copy end : List ℕ)
     → (((((((out ++ first) ++ validity) ++ gap) ++ number) ++ gap2) ++ copy) ++ end) ≡ out ++ ((((((first ++ validity) ++ gap) ++ number) ++ gap2) ++ copy) ++ end)
 code_parts out first validity gap number gap2 copy end = simp append_assoc refl
 
-pub code_in_parts : (out : List ℕ) (validity number copy : ℕ) (a b c d e f g : List ℕ) → a ≡ out ++ codes "OK [COPYUID " → b ≡ a ++ decimal validity → c ≡ b ++ codes " " → d ≡ c ++ decimal number → e ≡ d ++ codes " "
-    → f ≡ e ++ decimal copy → g ≡ f ++ codes "] " → g ≡ out ++ copy_code validity number copy
-code_in_parts out validity number copy a b c d e f g one two three four five six seven =
+pub code_in_parts : (out : List ℕ) (validity : ℕ) (batch : Batch) (a b c d e f g : List ℕ) → a ≡ out ++ codes "OK [COPYUID " → b ≡ a ++ decimal validity → c ≡ b ++ codes " " → d ≡ c ++ uid_set batch.uids → e ≡ d ++ codes " "
+    → f ≡ e ++ uid_set batch.copies → g ≡ f ++ codes "] " → g ≡ out ++ copy_code validity batch
+code_in_parts out validity batch a b c d e f g one two three four five six seven =
     seven ∙ ap (λ (t : List ℕ). t ++ codes "] ")
-    (six ∙ ap (λ (t : List ℕ). t ++ decimal copy) (five ∙ ap (λ (t : List ℕ). t ++ codes " ") (four ∙ ap (λ (t : List ℕ). t ++ decimal number) (three ∙ ap (λ (t : List ℕ). t ++ codes " ")
+    (six ∙ ap (λ (t : List ℕ). t ++ uid_set batch.copies) (five ∙ ap (λ (t : List ℕ). t ++ codes " ") (four ∙ ap (λ (t : List ℕ). t ++ uid_set batch.uids) (three ∙ ap (λ (t : List ℕ). t ++ codes " ")
     (two ∙ ap (λ (t : List ℕ). t ++ decimal validity) one)))))
-    ∙ code_parts out (codes "OK [COPYUID ") (decimal validity) (codes " ") (decimal number) (codes " ") (decimal copy) (codes "] ")
+    ∙ code_parts out (codes "OK [COPYUID ") (decimal validity) (codes " ") (uid_set batch.uids) (codes " ") (uid_set batch.copies) (codes "] ")
 
 copied_parts : (out tag space code last end : List ℕ) → ((((out ++ tag) ++ space) ++ code) ++ (last ++ end)) ≡ out ++ (((tag ++ space) ++ (code ++ last)) ++ end)
 copied_parts out tag space code last end = simp append_assoc refl
@@ -101,18 +100,42 @@ refused_says : (why : Refusal) → IsNoOk (response_text (refused_text why))
 refused_says Full = refl
 refused_says _ = refl
 
-copy_shown : (selected : Option Selected) (source : Source) (moves : Bool) (uidvalidity uid : ℕ)
-    → CopyShows selected source moves uidvalidity uid (if moves then moving source uidvalidity uid else showing selected (says (copied_words uidvalidity source.uid uid)))
-copy_shown selected source true uidvalidity uid = (refl, λ flags. (refl, (refl, refl, refl)))
-copy_shown selected source false uidvalidity uid = shown_before selected (copied_words uidvalidity source.uid uid)
+removed_shown : (selected : Option Selected) (batch : Batch) (says : List ℕ → Type 0)
+    → ShowsBefore (move_done batch) says true (is_some selected) false (on_found (λ (s : Selected). Discard s.mailbox batch.uids (Feed unlimited (move_done batch))) (move_done batch) selected)
+removed_shown None batch says = λ must. absurd cc
+removed_shown (Some selected) batch says = (refl, refl, refl)
 
-stored_shown : (selected : Option Selected) (origin : Origin) (uidvalidity uid : ℕ) → StoredShows selected origin uidvalidity uid (told_stored selected origin uidvalidity uid)
-stored_shown selected Client uidvalidity uid = shown_before selected (appended_words uidvalidity uid)
-stored_shown selected (Copied source) uidvalidity uid = copy_shown selected source source.moves uidvalidity uid
+copy_shown : (selected : Option Selected) (batch : Batch) (moves : Bool) (uidvalidity : ℕ)
+    → CopyShows selected batch moves uidvalidity (if moves then moving selected uidvalidity batch else showing selected (says (copied_words uidvalidity batch)))
+copy_shown selected batch true uidvalidity = (refl, removed_shown selected batch (λ bytes. bytes ≡ untagged (moved_words uidvalidity batch)))
+copy_shown selected batch false uidvalidity = shown_before selected (copied_words uidvalidity batch)
 
-pub verdict_shown : (selected : Option Selected) (origin : Origin) (mailbox : ℕ) (verdict : Verdict) → VerdictShowsInOrder selected origin verdict (on_verdict selected origin mailbox verdict)
-verdict_shown selected origin mailbox (Stored uid) = λ status. stored_shown selected origin status.uidvalidity uid
-verdict_shown selected origin mailbox (Refused why) = refused_says why
+goes_either : (selected : Option Selected) (batch : Batch) (b : Bool) (x y : Exchange) → CopyGoesOn selected batch x → CopyGoesOn selected batch y → CopyGoesOn selected batch (if b then x else y)
+goes_either selected batch true x y p q = p
+goes_either selected batch false x y p q = q
+
+taken_back_goes : (selected : Option Selected) (batch : Batch) (mailbox : ℕ) (copies : List ℕ) → CopyGoesOn selected batch (taking_back mailbox copies (says (response_text texts.MailboxSpent)))
+taken_back_goes selected batch mailbox [] = refl
+taken_back_goes selected batch mailbox (uid ∷ uids) = refl
+
+copy_goes : (mailing : Mailing) (selected : Option Selected) (batch : Batch) (mailbox : ℕ) (left : List Row)
+    → CopyGoesOn selected batch (submitting_first mailing batch mailbox (with_validity mailbox (told_copied selected batch)) left)
+copy_goes mailing selected batch mailbox [] = λ status. copy_shown selected batch batch.moves status.uidvalidity
+copy_goes mailing selected batch mailbox (row ∷ left) =
+    goes_either selected batch (nat_le last_number mailing.number) (taking_back mailbox batch.copies (says (response_text texts.MailboxSpent))) (Wait [] (ForVerdict (Copied (record batch { left = left })) mailbox row.flags row.text))
+    (taken_back_goes selected batch mailbox batch.copies) (refl, refl)
+
+stored_shown : (mailing : Mailing) (selected : Option Selected) (origin : Origin) (mailbox uid : ℕ) → StoredShows selected origin uid (on_stored mailing selected origin mailbox uid)
+stored_shown mailing selected Client mailbox uid = λ status. shown_before selected (appended_words status.uidvalidity uid)
+stored_shown mailing selected (Copied batch) mailbox uid = copy_goes mailing selected (with_copy uid batch) mailbox batch.left
+
+refused_shown : (mailbox : ℕ) (copies : List ℕ) (why : Refusal) → IsRefused (taking_back mailbox copies (says (response_text (refused_text why))))
+refused_shown mailbox [] why = refused_says why
+refused_shown mailbox (uid ∷ uids) why = refused_says why
+
+pub verdict_shown : (mailing : Mailing) (selected : Option Selected) (origin : Origin) (mailbox : ℕ) (verdict : Verdict) → VerdictShowsInOrder selected origin verdict (on_verdict mailing selected origin mailbox verdict)
+verdict_shown mailing selected origin mailbox (Stored uid) = stored_shown mailing selected origin mailbox uid
+verdict_shown mailing selected origin mailbox (Refused why) = refused_shown mailbox (copies_of origin) why
 
 -- ---- bytes of a literal
 

@@ -1,5 +1,5 @@
 -- What a session does about each line (RFC 9051, 6 and 7).
-use Rattle.std.specs.Prelude.{ℕ, ◌+◌, ◌-◌, ◌^◌, length, take, is_some, Bool, true, false, codes, decimal, List, [], ◌∷◌, ◌++◌, map, Option, Some, None, Result, Ok, Err, ◌&&◌, ◌||◌, ◌==◌, nat_le, nat_lt, not, slice_get, if◌then◌else◌}
+use Rattle.std.specs.Prelude.{ℕ, ◌+◌, ◌-◌, ◌^◌, length, take, is_some, Bool, true, false, codes, decimal, List, [], ◌∷◌, ◌++◌, map, Option, Some, None, Result, Ok, Err, ◌&&◌, ◌||◌, ◌==◌, nat_le, nat_lt, not, if◌then◌else◌}
 use Rattle.std.specs.Option.{option_map}
 use Rattle.std.specs.List.{list_any}
 use Rattle.std.specs.Str.{bytes_eq}
@@ -328,10 +328,10 @@ most_in_batch = 32768
 
 -- none is read yet
 abbrev pub empty_batch : CopyMessages → Batch
-empty_batch copy = record { by_uid = copy.by_uid; moves = copy.moves; uids = []; rows = []; copies = [] }
+empty_batch copy = record { by_uid = copy.by_uid; moves = copy.moves; uids = []; left = []; copies = [] }
 
 abbrev pub with_message : (uid : ℕ) → Row → Batch → Batch
-with_message uid row batch = record batch { uids = batch.uids ++ uid ∷ []; rows = batch.rows ++ row ∷ [] }
+with_message uid row batch = record batch { uids = batch.uids ++ uid ∷ []; left = batch.left ++ row ∷ [] }
 
 abbrev pub with_copy : (uid : ℕ) → Batch → Batch
 with_copy uid batch = record batch { copies = batch.copies ++ uid ∷ [] }
@@ -341,15 +341,19 @@ abbrev pub taking_back : (mailbox : ℕ) → (copies : List ℕ) → Exchange �
 taking_back mailbox [] x = x
 taking_back mailbox (uid ∷ uids) x = Discard mailbox (uid ∷ uids) x
 
--- a message goes to this mailbox as a copy of its own, which shares its text, with the flags that it was read with
-abbrev pub submitted : Mailing → Batch → (mailbox : ℕ) → Row → Exchange
-submitted mailing batch mailbox row =
+-- a message goes to this mailbox as a copy of its own, which shares its text, with the flags that it was read with; these are still left
+abbrev pub submitted : Mailing → Batch → (mailbox : ℕ) → Row → (left : List Row) → Exchange
+submitted mailing batch mailbox row left =
     if nat_le last_number mailing.number then taking_back mailbox batch.copies (says (response_text texts.MailboxSpent))
-    else Wait [] (ForVerdict (Copied batch) mailbox row.flags row.text)
+    else Wait [] (ForVerdict (Copied (record batch { left = left })) mailbox row.flags row.text)
 
--- the first message goes whose copy isn't stored; once all are stored, what is done then
+-- of those that are left the first goes; where none is, what is done then
+abbrev pub submitting_first : Mailing → Batch → (mailbox : ℕ) → (done : Exchange) → (left : List Row) → Exchange
+submitting_first mailing batch mailbox done [] = done
+submitting_first mailing batch mailbox done (row ∷ left) = submitted mailing batch mailbox row left
+
 abbrev pub submitting : Mailing → Batch → (mailbox : ℕ) → (done : Exchange) → Exchange
-submitting mailing batch mailbox done = on_found (submitted mailing batch mailbox) done (slice_get batch.rows (length batch.copies))
+submitting mailing batch mailbox done = submitting_first mailing batch mailbox done batch.left
 
 -- Each of these messages is read, before the first copy is submitted, and then the copies go. One that is gone is passed over where it was named by its UID, as
 -- if it had not been named (6.4.9).

@@ -83,14 +83,14 @@ pub record PendingLiteral : Type 0 where
   pub due : ℕ
   pub text : Option (List ℕ)
 
--- Messages of the selected mailbox that one command copies, one after another (RFC 9051, 6.4.7 to 6.4.9; RFC 6851): their UIDs, each as it was read before
--- the first was submitted, and the UIDs of the copies that are stored, which are those of the first messages, in their order. Where it moves them they are
+-- Messages of the selected mailbox that one command copies, one after another (RFC 9051, 6.4.7 to 6.4.9; RFC 6851): their UIDs; those that are still to be submitted, each as
+-- it was read before the first was; and the UIDs of the copies that are stored, which are those of the first messages, in their order. Where it moves them they are
 -- removed once all copies are stored.
 pub record Batch : Type 0 where
   pub by_uid : Bool
   pub moves : Bool
   pub uids : List ℕ
-  pub rows : List Row
+  pub left : List Row
   pub copies : List ℕ
 
 -- where a message comes from that a session submits: its client appended it, or it is the next of these that is copied

@@ -1,12 +1,13 @@
 //! The line of an APPEND, and the literal that it announces: whether that is asked for, what becomes of it where memory is refused, and how the message
 //! is submitted once it is there. What is said where is told in specs/Commands.antt.
 
+use crate::batch::Origin;
 use crate::folders::find_folder;
 use crate::mailing::{PendingLiteral, Purpose, Sent, begin_text, judge, refused_size};
 use crate::response::{LAST, Response, put_last};
 use crate::say::{put_bye, put_continuing, put_tagged};
 use crate::session::Session;
-use crate::standing::{After, Append, Origin};
+use crate::standing::{After, Append};
 use crate::tag::Tag;
 use crate::texts::ResponseText;
 use delivery_token::Text;

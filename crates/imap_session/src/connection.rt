@@ -184,8 +184,7 @@ impl ImapConnection {
         ensures memory { result ≡ Err SessionFault.NoMemory
             → vec_capacity out.old < vec_len out.old + room_for_verdict self.old.session }
 
-        // Once it is answered none is awaited, and it answers what the client may send from now on.
-        ensures done { OnOk result (self.new.session.mailing.sent ≡ None) }
+        // It answers what the client may send from now on: nothing where the next of several messages was submitted that are copied.
         ensures sends { IfOk result (λ after. after ≡ may_send self.new.session) }
     {
         self.session.appended(verdict, store, out)

@@ -1,22 +1,21 @@
-//! COPY and MOVE, and their forms by UID (RFC 9051, 6.4.7 to 6.4.9): the message that they name is read, and submitted as a copy of its own, which shares
-//! its text. What is said once the verdict on that is there stands in `appended`.
+//! COPY and MOVE, and their forms by UID (RFC 9051, 6.4.7 to 6.4.9): the messages that they name are read, and then the first is submitted as a copy of its
+//! own, which shares its text. What is done once a verdict is there stands in `copied`.
 
-ghost use Rattle.std.specs.Prelude.{◌≡◌, ◌<◌, ℕ, List, [], false, map, length, IfErr, IfOk, IfSome, IfNone};
+ghost use Rattle.std.specs.Prelude.{◌≡◌, ◌<◌, ◌≤◌, ◌+◌, ◌++◌, ℕ, List, [], ◌∷◌, false, true, map, length, vec_capacity, vec_len, IfErr, IfOk, IfSome, IfNone, OnOk, option_to_list};
 ghost use Rattle.imap_grammar.specs.Sets.{named_at};
 ghost use Rattle.mailbox.specs.declared.clients.Row.{Row as RowSpec};
-ghost use Rattle.imap_session.specs.declared.standing.Origin.TheVariants.{Copied};
-ghost use Rattle.imap_session.specs.Exchange.{ForVerdict, Mailing as MailingSpec, Read, Standing, Wait};
-ghost use Rattle.imap_session.specs.Commands.{copy_gone, copy_messages, copy_of, copy_to, copying, nowhere, number_named, on_found, says, wanting, wrong_state};
+ghost use Rattle.imap_session.specs.Exchange.{Exchange, Mailing as MailingSpec, Read, Standing};
+ghost use Rattle.imap_session.specs.Commands.{copy_messages, copy_to, empty_batch, gathering, is_over, most_copied, most_in_batch, nowhere, number_named, on_found, over, says, wanting, wrong_state};
 ghost use Rattle.imap_session.specs.Response.{Response as ResponseSpec};
 ghost use Rattle.imap_session.specs.Texts.{response_text};
-ghost use Rattle.imap_session.specs.inner.Copies.{found_next, source_of};
+ghost use Rattle.imap_session.specs.declared.texts.ResponseText.TheVariants as texts;
+ghost use Rattle.imap_session.specs.inner.Copies.{IsFound, batch_with, found_next, gathered, picked};
 ghost use Rattle.imap_session.specs.inner.Store.{Does};
 
-use crate::mailing::{LAST_NUMBER, Sent};
+use crate::batch::{Batch, MOST_IN_BATCH};
 use crate::response::Response;
-use crate::say::put_tagged;
 use crate::session::Session;
-use crate::standing::{After, Append, Origin, Selected, Source};
+use crate::standing::{After, Selected};
 use crate::store::Store;
 use crate::tag::Tag;
 use crate::texts::ResponseText;
@@ -32,8 +31,8 @@ const MOST_RETURN_PATH: u64 = 337;
 pub(crate) enum Found {
     /// Nothing is copied, and the last line says this.
     Said(ResponseText),
-    /// The message of this UID goes to the mailbox of this number.
-    Message { mailbox: u8, uid: u32, row: Row },
+    /// These messages go to the mailbox of this number, under this tag.
+    Messages { mailbox: u8, tag: Tag, batch: Batch },
 }
 
 // Why nothing is looked at, where that is so.
@@ -58,116 +57,207 @@ fn refusal(copy: &CopyMessages<'_>, selected: Option<Selected>) -> Option<Respon
     }
 }
 
-// The UID of the one message that is named, or what is said where there is none, or there are several.
-fn one_of(copy: &CopyMessages<'_>, messages: &[Named]) -> Result<u32, ResponseText>
-    ensures said { IfErr result (λ text. (view uids : List ℕ)
-        → messages.now ≡ map (named_at view) uids → (mailing : MailingSpec) (mailbox : ℕ)
-        → copy_of mailing copy.now mailbox uids ≡ says (response_text text)) }
-    ensures one { IfOk result (λ uid. (view uids : List ℕ)
-        → messages.now ≡ map (named_at view) uids → (mailing : MailingSpec) (mailbox : ℕ) → copy_of mailing copy.now mailbox uids
-        ≡ Read uid false (on_found (copying mailing (source_of copy.now uid) mailbox) (copy_gone copy.now))) }
+// Why a message of so many bytes isn't copied by a session that takes messages of at most so many.
+fn refused_size(most: Option<u32>, size: usize) -> Option<ResponseText>
+    ensures refused { IfSome result (λ text. (is_over (most_copied most) size ≡ true)
+        × (over (most_copied most) ≡ says (response_text text))) }
+    ensures taken { IfNone result (is_over (most_copied most) size ≡ false) }
 {
-    match messages {
-        [] => Err(ResponseText::Completed(copy_verb(copy.by_uid, copy.moves))),
-        [message] => Ok(message.uid),
-        _ => Err(ResponseText::OneAtATime),
+    match most {
+        None => Some(ResponseText::NotOffered),
+        Some(most) => {
+            if size as u64 > u64::from(most) + MOST_RETURN_PATH {
+                Some(ResponseText::MessageTooBig)
+            } else {
+                None
+            }
+        }
     }
 }
 
-// What is said where the message is gone.
-fn gone_text(copy: &CopyMessages<'_>) -> ResponseText
-    ensures { copy_gone copy.now ≡ says (response_text result) }
+// What becomes of a message that is gone: one that was named by its UID is passed over.
+fn gone(copy: &CopyMessages<'_>) -> Result<Option<Row>, ResponseText>
+    ensures { (taken : RowSpec → Exchange) (passed : Exchange)
+        → (if copy.now.by_uid then passed else says (response_text texts.MessagesGone))
+        ≡ picked taken passed result }
 {
     if copy.by_uid {
-        ResponseText::Completed(copy_verb(true, copy.moves))
+        Ok(None)
     } else {
-        ResponseText::MessagesGone
+        Err(ResponseText::MessagesGone)
     }
 }
 
-// Reads the message of this UID, which goes to this mailbox.
-fn read_message<S: Store>(
+// What becomes of a message that is there.
+fn there(most: Option<u32>, row: Row) -> Result<Option<Row>, ResponseText>
+    ensures { (taken : RowSpec → Exchange) (passed : Exchange)
+        → (if is_over (most_copied most) (length row.text) then over (most_copied most)
+        else taken row)
+        ≡ picked taken passed result }
+{
+    match refused_size(most, row.text.as_slice().len()) {
+        Some(text) => Err(text),
+        None => Ok(Some(row)),
+    }
+}
+
+// Reads a message. None where it is passed over, and a text where nothing is copied for its sake.
+fn read_one<S: Store>(
     copy: &CopyMessages<'_>,
+    most: Option<u32>,
     uid: u32,
-    mailbox: u8,
     store: &mut S,
-) -> Result<Found, MailFault>
-    ensures { (response : ResponseSpec) (mailing : MailingSpec) → Does S.step
-        (Read uid false (on_found (copying mailing (source_of copy.now uid) mailbox) (copy_gone copy.now)))
-        (found_next mailing copy.now) store.old store.new response response result }
+) -> Result<Result<Option<Row>, ResponseText>, MailFault>
+    ensures { (response : ResponseSpec) (taken : RowSpec → Exchange) (passed : Exchange)
+        → Does S.step
+        (Read uid false (on_found
+        (λ row. if is_over (most_copied most) (length row.text) then over (most_copied most)
+        else taken row)
+        (if copy.now.by_uid then passed else says (response_text texts.MessagesGone))))
+        (picked taken passed) store.old store.new response response result }
 {
     match store.read(uid, false)? {
-        Some(row) => Ok(Found::Message { mailbox, uid, row }),
-        None => Ok(Found::Said(gone_text(copy))),
+        None => Ok(gone(copy)),
+        Some(row) => Ok(there(most, row)),
     }
 }
 
-// Finds the message that is named and reads it. It goes to this mailbox.
-fn find_message<S: Store>(
+// Keeps a message that was read, with its UID, in room that was reserved.
+fn keep(uid: u32, row: Option<Row>, uids: &mut Vec<u32>, left: &mut Vec<Row>)
+    requires uid_room { vec_len uids.old < vec_capacity uids.old }
+    requires row_room { vec_len left.old < vec_capacity left.old }
+    ensures uids { uids.new.items ≡ uids.old.items ++ map (λ _. uid) (option_to_list row) }
+    ensures left { left.new.items ≡ left.old.items ++ option_to_list row }
+    ensures uid_len { vec_len uids.new ≤ vec_len uids.old + 1 }
+    ensures row_len { vec_len left.new ≤ vec_len left.old + 1 }
+    ensures as_many { vec_len uids.old ≡ vec_len left.old → vec_len uids.new ≡ vec_len left.new }
+    ensures uid_capacity { vec_capacity uids.new ≡ vec_capacity uids.old }
+    ensures row_capacity { vec_capacity left.new ≡ vec_capacity left.old }
+{
+    if let Some(row) = row {
+        uids.push_reserved(uid);
+        left.push_reserved(row);
+    }
+}
+
+// Reads these messages, and keeps those that are there, in room that was reserved; or answers what the last line says where none is copied.
+fn gather<S: Store>(
+    copy: &CopyMessages<'_>,
+    most: Option<u32>,
+    messages: &[Named],
+    uids: &mut Vec<u32>,
+    left: &mut Vec<Row>,
+    store: &mut S,
+) -> Result<Result<(), ResponseText>, MailFault>
+    requires none { (uids.old.items ≡ []) × (left.old.items ≡ []) }
+    requires uid_room { length messages.now ≤ vec_capacity uids.old }
+    requires row_room { length messages.now ≤ vec_capacity left.old }
+    ensures does { (response : ResponseSpec) (view named : List ℕ)
+        → messages.now ≡ map (named_at view) named → (mailing : MailingSpec) → mailing.most ≡ most
+        → (mailbox : ℕ) → Does S.step
+        (gathering mailing copy.now mailbox named (empty_batch copy.now))
+        (gathered mailing copy.now mailbox uids.new.items left.new.items) store.old store.new
+        response response result }
+    ensures as_many { vec_len uids.new ≡ vec_len left.new }
+    ensures few { vec_len uids.new ≤ length messages.now }
+{
+    for message in messages {
+        match read_one(copy, most, message.uid, store)? {
+            Err(text) => return Ok(Err(text)),
+            Ok(row) => keep(message.uid, row, uids, left),
+        }
+    }
+    Ok(Ok(()))
+}
+
+// Reads these messages, and answers what goes to this mailbox under this tag. Memory for all that is known of them is asked for first.
+fn gather_batch<S: Store>(
     alloc: Global,
     copy: &CopyMessages<'_>,
+    most: Option<u32>,
+    tag: &[u8],
+    mailbox: u8,
+    messages: &[Named],
+    store: &mut S,
+) -> Result<Found, MailFault>
+    requires few { length messages.now ≤ most_in_batch }
+    ensures does { (response : ResponseSpec) (view named : List ℕ)
+        → messages.now ≡ map (named_at view) named → (mailing : MailingSpec) → mailing.most ≡ most
+        → Does S.step
+        (wanting (gathering mailing copy.now mailbox named (empty_batch copy.now)))
+        (found_next mailing copy.now) store.old store.new response response result }
+    ensures found { IfOk result (IsFound tag.now) }
+{
+    let tag = Tag::new(alloc, tag)?;
+    let mut uids = Vec::with_capacity(alloc, messages.len())?;
+    let mut left = Vec::with_capacity(alloc, messages.len())?;
+    let copies = Vec::with_capacity(alloc, messages.len())?;
+    if let Err(text) = gather(copy, most, messages, &mut uids, &mut left, store)? {
+        return Ok(Found::Said(text));
+    }
+    left.reverse();
+    let batch = Batch {
+        by_uid: copy.by_uid,
+        moves: copy.moves,
+        uids,
+        left,
+        copies,
+    };
+    Ok(Found::Messages {
+        mailbox,
+        tag,
+        batch,
+    })
+}
+
+// Finds the messages that are named and reads them. They go to this mailbox, under this tag.
+fn find_messages<S: Store>(
+    alloc: Global,
+    copy: &CopyMessages<'_>,
+    most: Option<u32>,
+    tag: &[u8],
     mailbox: u8,
     store: &mut S,
 ) -> Result<Found, MailFault>
-    ensures { (response : ResponseSpec) (mailing : MailingSpec) → Does S.step
+    ensures does { (response : ResponseSpec) (mailing : MailingSpec) → mailing.most ≡ most
+        → Does S.step
         (copy_to mailing copy.now mailbox) (found_next mailing copy.now) store.old store.new response
         response result }
+    ensures found { IfOk result (IsFound tag.now) }
 {
     let Some(messages) = store.choose(alloc, &copy.set, copy.by_uid)? else {
         return Ok(Found::Said(ResponseText::SequenceTooHigh));
     };
-    match one_of(copy, messages.as_slice()) {
-        Err(text) => Ok(Found::Said(text)),
-        Ok(uid) => read_message(copy, uid, mailbox, store),
+    if messages.len() > MOST_IN_BATCH {
+        return Ok(Found::Said(ResponseText::TooManyMessages));
     }
-}
-
-// Why a message of so many bytes isn't copied by a session that takes messages of at most so many, and has submitted as many as this.
-fn refused_copy(most: Option<u32>, number: u32, size: usize) -> Option<ResponseText>
-    ensures refused { IfSome result (λ text. (mailing : MailingSpec) (source : Source)
-        (mailbox : ℕ) (row : RowSpec)
-        → mailing.most ≡ most → mailing.number ≡ number → length row.text ≡ size
-        → copying mailing source mailbox row ≡ says (response_text text)) }
-    ensures taken { IfNone result ((mailing : MailingSpec) (source : Source) (mailbox : ℕ)
-        (row : RowSpec)
-        → mailing.most ≡ most → mailing.number ≡ number → length row.text ≡ size
-        → copying mailing source mailbox row
-        ≡ wanting (Wait [] (ForVerdict (Copied source) mailbox row.flags row.text))) }
-    ensures numbered { IfNone result (number < 4294967295) }
-{
-    let Some(most) = most else {
-        return Some(ResponseText::NotOffered);
-    };
-    if size as u64 > u64::from(most) + MOST_RETURN_PATH {
-        return Some(ResponseText::MessageTooBig);
-    }
-    if number >= LAST_NUMBER {
-        return Some(ResponseText::MailboxSpent);
-    }
-    None
+    gather_batch(alloc, copy, most, tag, mailbox, messages.as_slice(), store)
 }
 
 impl Session {
-    ghost use Rattle.std.specs.Prelude.{◌≡◌, ◌++◌, false, None};
+    ghost use Rattle.std.specs.Prelude.{◌≡◌, ◌++◌, IfOk, false, None};
     ghost use Rattle.imap_grammar.specs.declared.command.Command.TheVariants as commands;
     ghost use Rattle.imap_session.specs.Exchange.{closed, may_send, played, refusal_after, refusal_text};
-    ghost use Rattle.imap_session.specs.Commands.{copy_messages, copying, on_command, on_found, wrong_state};
+    ghost use Rattle.imap_session.specs.Commands.{completed, copy_messages, on_command, on_found, submitting, wrong_state};
     ghost use Rattle.imap_session.specs.Response.{Response as ResponseSpec};
     ghost use Rattle.imap_session.specs.inner.Appends.{Leads};
-    ghost use Rattle.imap_session.specs.inner.Copies.{found_next, source_of};
+    ghost use Rattle.imap_session.specs.inner.Copies.{IsFound, IsGathered, found_next};
     ghost use Rattle.imap_session.specs.inner.Lines.{Had};
+    ghost use Rattle.imap_session.specs.inner.Seen.{batch_of};
     ghost use Rattle.imap_session.specs.inner.Store.{Does};
 
     // What a COPY or MOVE comes to.
-    fn find_copy<S: Store>(
+    fn find_copies<S: Store>(
         &self,
         alloc: Global,
         copy: &CopyMessages<'_>,
+        tag: &[u8],
         store: &mut S,
     ) -> Result<Found, MailFault>
-        ensures { (response : ResponseSpec) → Does S.step
+        ensures does { (response : ResponseSpec) → Does S.step
             (on_found (copy_messages self.now copy.now) wrong_state self.now.selected)
             (found_next self.now.mailing copy.now) store.old store.new response response result }
+        ensures found { IfOk result (IsFound tag.now) }
     {
         if let Some(text) = refusal(copy, self.selected()) {
             return Ok(Found::Said(text));
@@ -175,16 +265,16 @@ impl Session {
         let Some(mailbox) = self.number_of(alloc, &copy.name)? else {
             return Ok(Found::Said(ResponseText::TryCreate));
         };
-        find_message(alloc, copy, mailbox, store)
+        find_messages(alloc, copy, self.mailing.most, tag, mailbox, store)
     }
 
-    // Submits the message that was read as a copy, or says why not.
-    fn submit_copy(
+    // Submits the first message of a batch, or says why none goes.
+    fn submit_first(
         &mut self,
-        alloc: Global,
-        source: Source,
+        copy: &CopyMessages<'_>,
         mailbox: u8,
-        row: Row,
+        tag: Tag,
+        batch: Batch,
         response: Response<'_>,
         out: &mut Vec<u8>,
     ) -> After
@@ -192,40 +282,29 @@ impl Session {
         requires awake { self.old.idling ≡ None }
         requires alone { self.old.mailing.begun ≡ None }
         requires unsent { self.old.mailing.sent ≡ None }
+        requires tag { tag ≡ response.entry.tag }
+        requires gathered { IsGathered batch }
         ensures leads { Leads response.entry.tag self.old
-            (copying self.old.mailing source mailbox row) response.entry.text out.new.items result
-            self.new }
+            (submitting self.old.mailing (batch_of batch) mailbox
+            (completed (commands.Copy copy.now))) response.entry.text out.new.items result self.new }
         ensures folders { self.new.folders ≡ self.old.folders }
         ensures sends { result ≡ may_send self.new }
     {
-        let message = self.mailing.number;
-        if let Some(text) = refused_copy(self.mailing.most, message, row.text.as_slice().len()) {
-            response.end(text, out);
-            return After::Go;
+        match self.submit_next(mailbox, tag, batch) {
+            Ok(()) => {
+                response.release(out);
+                After::Submit
+            }
+            Err(unsent) => {
+                let text = if unsent.spent {
+                    ResponseText::MailboxSpent
+                } else {
+                    ResponseText::Completed(copy_verb(copy.by_uid, copy.moves))
+                };
+                response.end(text, out);
+                After::Go
+            }
         }
-        let tag = response.release(out);
-        let Ok(tag) = Tag::new(alloc, tag) else {
-            put_tagged(tag, ResponseText::OutOfMemory, out);
-            return After::Go;
-        };
-        let Row {
-            uid: _,
-            flags,
-            newly_seen: _,
-            text,
-        } = row;
-        self.mailing.number = message + 1;
-        self.mailing.sent = Some(Sent {
-            tag,
-            append: Append {
-                message,
-                mailbox,
-                text,
-                flags,
-            },
-            origin: Origin::Copied(source),
-        });
-        After::Submit
     }
 
     // Says that a fault stopped a COPY or MOVE, which may end the session.
@@ -264,15 +343,12 @@ impl Session {
         ensures folders { self.new.folders ≡ self.old.folders }
         ensures sends { result ≡ may_send self.new }
     {
-        match self.find_copy(alloc, copy, store) {
-            Ok(Found::Message { mailbox, uid, row }) => {
-                let source = Source {
-                    uid,
-                    by_uid: copy.by_uid,
-                    moves: copy.moves,
-                };
-                self.submit_copy(alloc, source, mailbox, row, response, out)
-            }
+        match self.find_copies(alloc, copy, response.tag, store) {
+            Ok(Found::Messages {
+                mailbox,
+                tag,
+                batch,
+            }) => self.submit_first(copy, mailbox, tag, batch, response, out),
             Ok(Found::Said(text)) => {
                 response.end(text, out);
                 After::Go

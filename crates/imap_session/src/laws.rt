@@ -14,7 +14,6 @@ ghost use Rattle.imap_session.specs.declared.texts.ResponseText.TheVariants as t
 ghost use Rattle.imap_session.specs.declared.texts.ServerText.{ServerText};
 ghost use Rattle.imap_session.specs.declared.standing.Profile.{Profile};
 ghost use Rattle.imap_session.specs.declared.standing.Selected.{Selected};
-ghost use Rattle.imap_session.specs.declared.standing.Origin.{Origin};
 ghost use Rattle.imap_session.specs.declared.texts.ResponseText.{ResponseText};
 
 /// Changes are shown right before the tagged OK of NOOP, CHECK, EXPUNGE, STATUS, LIST, LSUB, UID FETCH, UID STORE, UID SEARCH and UID EXPUNGE, and as EXPUNGE
@@ -50,8 +49,8 @@ pub fn parts_show_none()
 /// The verdict on a message that was appended or copied shows changes right before the tagged OK, where a mailbox is selected; of one that is moved also
 /// before it is removed. A message that was refused has no tagged OK, and shows none.
 pub fn verdicts_show_in_order()
-    ensures { (selected : Option Selected) (origin : Origin) (mailbox : ℕ)
-        (verdict : Verdict) → VerdictShowsInOrder selected origin verdict (on_verdict selected origin mailbox verdict) }
+    ensures { (mailing : Mailing) (selected : Option Selected) (origin : Origin) (mailbox : ℕ)
+        (verdict : Verdict) → VerdictShowsInOrder selected origin verdict (on_verdict mailing selected origin mailbox verdict) }
 {}
 
 /// A tagged last line begins `OK [APPENDUID` where it answers a verdict that was `Stored`, on a message that was appended, and nowhere else: not where it ends a command or an IDLE,
@@ -64,8 +63,8 @@ pub fn only_a_stored_verdict_tells_a_uid()
     ensures numbers { WordsTellWhich }
 
     // Where the verdict on an appended message was `Stored`, the last line tells its UID, behind the UIDVALIDITY as the mailbox was counted; else none.
-    ensures verdicts { (selected : Option Selected) (origin : Origin) (mailbox : ℕ)
-        (verdict : Verdict) → VerdictTellsUid selected origin mailbox verdict (on_verdict selected origin mailbox verdict) }
+    ensures verdicts { (mailing : Mailing) (selected : Option Selected) (origin : Origin) (mailbox : ℕ)
+        (verdict : Verdict) → VerdictTellsUid selected origin mailbox verdict (on_verdict mailing selected origin mailbox verdict) }
 
     // No last line of a command, of an IDLE, or behind a literal tells one.
     ensures commands { (now : Standing) (command : Command) → TellsNoUid (answering now command) }

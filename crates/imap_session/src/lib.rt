@@ -5,8 +5,10 @@
 
 mod access;
 mod appending;
+mod batch;
 mod command_line;
 mod connection;
+mod copied;
 mod copying;
 mod count;
 mod expunge;

@@ -6,14 +6,14 @@ ghost use Rattle.std.specs.Vec.{vec_capacity};
 ghost use Rattle.std.specs.List.{list_any};
 ghost use Rattle.std.specs.Option.{option_map};
 ghost use Rattle.imap_session.specs.Commands.{flags_for, is_over, long_rest_text, mailbox_for, on_rest, over, says, taking, wanting};
-ghost use Rattle.imap_session.specs.Exchange.{PendingLiteral as PendingSpec, Mailing as MailingSpec, ForVerdict, Wait};
-ghost use Rattle.imap_session.specs.declared.standing.Origin.TheVariants.{Client};
+ghost use Rattle.imap_session.specs.Exchange.{Client, PendingLiteral as PendingSpec, Mailing as MailingSpec, ForVerdict, Wait};
 ghost use Rattle.imap_session.specs.Store.{IsBeyondRoom, most_first_room};
 ghost use Rattle.imap_session.specs.Texts.{response_text};
 ghost use Rattle.imap_session.specs.inner.Seen.{HasFirstRoom, pending_of};
 
+use crate::batch::Origin;
 use crate::response::LAST;
-use crate::standing::{Append, Origin};
+use crate::standing::Append;
 use crate::tag::Tag;
 use crate::texts::ResponseText;
 use crate::turn::FIRST;
@@ -118,14 +118,14 @@ impl Model for Mailing {
     ghost use Rattle.std.specs.Prelude.{IfSome};
     ghost use Rattle.std.specs.Option.{option_map};
     ghost use Rattle.imap_session.specs.Exchange.{Mailing as Known};
-    ghost use Rattle.imap_session.specs.inner.Seen.{HasFirstRoom, pending_of, sent_of};
+    ghost use Rattle.imap_session.specs.inner.Seen.{HasFirstRoom, IsRoomy, pending_of, sent_of};
 
     ghost Value = { Known };
 
     ghost view = { λ m. record { most = m.most; number = m.number; begun = option_map pending_of m.begun; sent = option_map sent_of m.sent } };
 
-    // Room for the first bytes of a literal is made before it is awaited.
-    ghost invariant = { λ m. IfSome m.begun HasFirstRoom };
+    // Room for the first bytes of a literal is made before it is awaited, and for the UIDs of copies before the first goes.
+    ghost invariant = { λ m. IfSome m.begun HasFirstRoom × IfSome m.sent (λ s. IsRoomy s.origin) };
 }
 
 impl PendingLiteral {

@@ -1,10 +1,11 @@
 //! The session of one client, from its greeting to its end.
 //! What it answers to a line is told in specs/Commands.antt, and how one line is carried out in `turn`.
 
+use crate::batch::Origin;
 use crate::mailing::{Mailing, PendingLiteral, Sent, long_rest_text};
 use crate::response::{LAST, Response, put_last};
 use crate::say::{put_continuing, put_of_server, put_tagged, put_untagged};
-use crate::standing::{Admission, After, Append, Folder, Origin, Profile, Selected, SessionFault};
+use crate::standing::{Admission, After, Append, Folder, Profile, Selected, SessionFault};
 use crate::store::Store;
 use crate::tag::Tag;
 use crate::texts::{ResponseText, ServerText};
@@ -50,12 +51,13 @@ impl Session {
     ghost use Rattle.std.specs.Prelude.{◌≡◌, ◌≢◌, ◌==◌, ◌^◌, ◌⊎◌, ◌+◌, ◌<◌, ◌≤◌, ◌++◌, ◌↔◌, take, min, if◌then◌else◌, true, false, [], codes, length, is_some, None, Some, Err, OnOk, OnErr, IfOk, vec_len};
     ghost use Rattle.std.specs.Option.{option_copied, option_map};
     ghost use Rattle.std.specs.Vec.{vec_capacity};
-    ghost use Rattle.imap_session.specs.Exchange.{Sent as SentSpec, begun_with, kept_tag, Feed, Refused, closed, is_idling, may_send, refusal_text, continuing, tagged};
+    ghost use Rattle.imap_session.specs.Exchange.{Client, Sent as SentSpec, begun_with, kept_tag, Feed, Refused, closed, is_idling, may_send, played, refusal_text, continuing, tagged};
     ghost use Rattle.imap_session.specs.Texts.{response_text};
     ghost use Rattle.imap_session.specs.declared.texts.ResponseText.TheVariants as texts;
     ghost use Rattle.imap_session.specs.Commands.{due_of, on_verdict, greeting, logged_in, long_line_text, most_changes, on_idle_line, turn_of_long_line};
-    ghost use Rattle.imap_session.specs.inner.Seen.{HasFirstRoom, pending_of, purpose_of, sent_of};
-    ghost use Rattle.imap_session.specs.Store.{Answers, AnswersVerdict, IdleTurns, Starves, TakesBytes, room_for, room_for_verdict, room_rest};
+    ghost use Rattle.imap_session.specs.inner.Lines.{Had};
+    ghost use Rattle.imap_session.specs.inner.Seen.{HasFirstRoom, IsRoomy, origin_of, pending_of, purpose_of, sent_of};
+    ghost use Rattle.imap_session.specs.Store.{Answers, AnswersVerdict, IdleTurns, Starves, TakesBytes, room_for, room_for_verdict, room_of_sets, room_rest};
     ghost use Rattle.imap_session.specs.inner.Store.{Plays, behind_first_line, first_line, is_open};
 
     /// The session of a client whose mailboxes have these names, and which comes in so. It has selected no mailbox. Where two have the same name, the
@@ -476,39 +478,65 @@ impl Session {
         Ok(self.part_line(alloc, begun, line, store, out))
     }
 
-    // Answers the verdict on a message.
-    fn answer_verdict<S: Store>(
+    // Hears the verdict on a message that was appended.
+    fn hear_append<S: Store>(
         &mut self,
-        origin: Origin,
+        tag: &[u8],
         mailbox: u8,
         verdict: Verdict,
         store: &mut S,
-        response: Response<'_>,
         out: &mut Vec<u8>,
     ) -> After
         requires going { self.old.ended ≡ false }
         requires awake { self.old.idling ≡ None }
         requires alone { self.old.mailing.begun ≡ None }
         requires unsent { self.old.mailing.sent ≡ None }
-        requires long { length response.tag + STORED ≤ response.held }
-        ensures plays { Plays S.step response.entry.tag self.old self.old
-            (on_verdict self.old.selected origin mailbox verdict) store.old store.new response.entry.text
-            out.new.items result }
-        ensures standing { self.new ≡ (closed self.old result).standing }
-        ensures mailing { self.new.mailing ≡ self.old.mailing }
+        requires fits { vec_len out.old + (length tag.now + STORED) ≤ vec_capacity out.old }
+        ensures had { Had (played tag.now self.old
+            (on_verdict self.old.mailing self.old.selected Client mailbox verdict)) S.step store.old
+            store.new out.old.items out.new.items result self.new }
+        ensures folders { self.new.folders ≡ self.old.folders }
+        ensures alone { self.new.mailing.begun ≡ None }
         ensures sends { result ≡ may_send self.new }
     {
-        let after = tell_verdict(
-            origin,
-            mailbox,
-            verdict,
-            self.selected,
-            store,
-            response,
-            out,
-        );
+        let response = Response::new(tag, STORED, out);
+        let after = tell_verdict(mailbox, verdict, self.selected, store, response, out);
         self.ended = matches!(after, After::Bye);
         after
+    }
+
+    // Hears the verdict on a message, in room that was reserved.
+    fn hear_in_room<S: Store>(
+        &mut self,
+        sent: Sent,
+        verdict: Verdict,
+        store: &mut S,
+        out: &mut Vec<u8>,
+    ) -> After
+        requires going { self.old.ended ≡ false }
+        requires awake { self.old.idling ≡ None }
+        requires alone { self.old.mailing.begun ≡ None }
+        requires unsent { self.old.mailing.sent ≡ None }
+        requires roomy { IsRoomy sent.origin }
+        requires fits { vec_len out.old + (length sent.tag
+            + (STORED + room_of_sets (origin_of sent.origin))) ≤ vec_capacity out.old }
+        ensures had { Had (played sent.tag self.old
+            (on_verdict self.old.mailing self.old.selected (origin_of sent.origin) sent.append.mailbox
+            verdict)) S.step store.old store.new out.old.items out.new.items result self.new }
+        ensures folders { self.new.folders ≡ self.old.folders }
+        ensures alone { self.new.mailing.begun ≡ None }
+        ensures sends { result ≡ may_send self.new }
+    {
+        let Sent {
+            tag,
+            append,
+            origin,
+        } = sent;
+        let mailbox = append.mailbox;
+        match origin {
+            Origin::Client => self.hear_append(tag.as_slice(), mailbox, verdict, store, out),
+            Origin::Copied(batch) => self.hear_copy(mailbox, tag, batch, verdict, store, out),
+        }
     }
 
     // Hears the verdict on a message that was submitted. It is no longer waited for, unless memory was refused.
@@ -521,6 +549,7 @@ impl Session {
     ) -> Result<After, SessionFault>
         requires going { self.old.ended ≡ false }
         requires unsent { self.old.mailing.sent ≡ None }
+        requires roomy { IsRoomy sent.origin }
         ensures answered { IfOk result (λ after. AnswersVerdict S.step
             (record self.old { mailing = record self.old.mailing { sent = Some (sent_of sent) } })
             verdict store.old store.new out.old.items out.new.items after self.new) }
@@ -532,21 +561,19 @@ impl Session {
             }) ×
             (store.new ≡ store.old) × (out.new.items ≡ out.old.items)) }
         ensures memory { OnErr result (vec_capacity out.old
-            < vec_len out.old + (length sent.tag + STORED)) }
-        ensures done { OnOk result ((self.new.mailing.begun ≡ None)
-            × (self.new.mailing.sent ≡ None)) }
+            < vec_len out.old + (length sent.tag + (STORED + room_of_sets (origin_of sent.origin)))) }
+        ensures done { OnOk result (self.new.mailing.begun ≡ None) }
         ensures folders { self.new.folders ≡ self.old.folders }
         ensures sends { IfOk result (λ after. after ≡ may_send self.new) }
     {
-        if out.reserve(sent.tag.as_slice().len() + STORED).is_err() {
+        let room = sent.tag.as_slice().len() + (STORED + sent.origin.room());
+        if out.reserve(room).is_err() {
             self.mailing.sent = Some(sent);
             return Err(SessionFault::NoMemory);
         }
         self.idling = None;
         self.mailing.begun = None;
-        let response = Response::new(sent.tag.as_slice(), STORED, out);
-        let mailbox = sent.append.mailbox;
-        Ok(self.answer_verdict(sent.origin, mailbox, verdict, store, response, out))
+        Ok(self.hear_in_room(sent, verdict, store, out))
     }
 
     /// For how many bytes there has to be room before the verdict on the message that was submitted is answered; 0 where none is waited for.
@@ -556,16 +583,18 @@ impl Session {
     {
         match &self.mailing.sent {
             None => 0,
-            Some(sent) => sent.tag.as_slice().len() + STORED,
+            Some(sent) => sent.tag.as_slice().len() + (STORED + sent.origin.room()),
         }
     }
 
     /// Answers the verdict on the message that was submitted (RFC 9051, 6.3.12 and 6.4.7): where it was stored, shows what is pending in the selected
-    /// mailbox and says under which UID (RFC 4315, 3); else says why it wasn't. A message that is moved is removed then (RFC 6851, 3.3). The session then
-    /// takes lines again.
+    /// mailbox and says under which UID (RFC 4315, 3); else says why it wasn't. The session then takes lines again.
+    ///
+    /// Of messages that are copied the next is submitted, where one is left: nothing is said then, and the verdict on that is waited for. Once all are stored it is told under
+    /// which UIDs, and messages that are moved are removed (RFC 6851, 3.3). Where one is refused the copies that were stored are removed again.
     ///
     /// Errors, after which the session, the store and `out` are as they were, and the same verdict is waited for: `Ended` exactly where the
-    /// session has ended; `NoMemory` where memory was refused, and `out` has no room for the tag's length and 104 bytes more.
+    /// session has ended; `NoMemory` where memory was refused, and `out` has no room for as many bytes as `verdict_room` tells.
     pub fn appended<S: Store>(
         &mut self,
         verdict: Verdict,
@@ -582,9 +611,8 @@ impl Session {
         // Where `out` had the room that `verdict_room` tells, NoMemory never comes.
         ensures memory { result ≡ Err SessionFault.NoMemory
             → vec_capacity out.old < vec_len out.old + room_for_verdict self.old }
-        // Once it is answered, neither a literal nor a verdict is waited for.
-        ensures done { OnOk result ((self.new.mailing.begun ≡ None)
-            × (self.new.mailing.sent ≡ None)) }
+        // Once it is answered, no literal is waited for. A verdict may be, on the next message that is copied.
+        ensures done { OnOk result (self.new.mailing.begun ≡ None) }
         ensures folders { self.new.folders ≡ self.old.folders }
         ensures sends { IfOk result (λ after. after ≡ may_send self.new) }
     {

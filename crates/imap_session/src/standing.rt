@@ -44,26 +44,6 @@ pub struct Append {
     pub flags: Flags,
 }
 
-/// Which message of the selected mailbox was copied, and by which command (RFC 9051, 6.4.7 to 6.4.9).
-#[derive(Clone, Copy, Debug, PartialEq, Eq)]
-pub struct Source {
-    /// The message's UID.
-    pub uid: u32,
-    /// It was UID COPY or UID MOVE.
-    pub by_uid: bool,
-    /// It was MOVE or UID MOVE: the message is removed, once its copy is stored.
-    pub moves: bool,
-}
-
-/// Where a message comes from that a session submits.
-#[derive(Clone, Copy, Debug, PartialEq, Eq)]
-pub enum Origin {
-    /// Its client appended it (RFC 9051, 6.3.12).
-    Client,
-    /// It is a copy of a message in the selected mailbox.
-    Copied(Source),
-}
-
 /// What a session begins with, beside its mailboxes.
 #[derive(Drop)]
 pub struct Admission {

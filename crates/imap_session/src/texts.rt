@@ -27,8 +27,8 @@ pub enum ResponseText {
     NotOffered,
     /// Some messages that were to be fetched or changed are gone.
     MessagesGone,
-    /// A COPY or MOVE of several messages: it takes one.
-    OneAtATime,
+    /// A COPY or MOVE of more messages than one command may name.
+    TooManyMessages,
     ReadOnly,
     MailboxSpent,
     MessageTooBig,
@@ -168,7 +168,7 @@ impl ResponseText {
             ResponseText::TryCreate => b"NO [TRYCREATE] No such mailbox",
             ResponseText::NotOffered => b"NO [CANNOT] Not offered here",
             ResponseText::MessagesGone => b"NO [EXPUNGEISSUED] Some messages are gone",
-            ResponseText::OneAtATime => b"NO [LIMIT] One message at a time",
+            ResponseText::TooManyMessages => b"NO [LIMIT] Too many messages at once",
             ResponseText::ReadOnly => b"NO Mailbox is read-only",
             ResponseText::MailboxSpent => b"NO Mailbox is spent",
             ResponseText::MessageTooBig => b"NO Message too big",

@@ -1,5 +1,5 @@
 -- A message that is appended, as contracts see it.
-use Rattle.std.specs.Prelude.{◌≡◌, ◌<◌, ◌≤◌, length, min, IfSome}
+use Rattle.std.specs.Prelude.{◌≡◌, ◌≤◌, ◌+◌, length, reverse, min, IfSome}
 use Rattle.std.specs.Option.{option_map}
 use Rattle.std.specs.Vec.{vec_capacity}
 use Rattle.imap_session.specs.declared.mailing.PendingLiteral as begun
@@ -9,7 +9,7 @@ use Rattle.imap_session.specs.declared.batch.Batch as batch
 use Rattle.imap_session.specs.declared.batch.Origin as origins
 use Rattle.imap_session.specs.declared.batch.Origin.TheVariants as from
 use Rattle.imap_session.specs.declared.mailing.Purpose.TheVariants as said
-use Rattle.imap_session.specs.Commands.{most_line}
+use Rattle.imap_session.specs.Commands.{most_in_batch, most_line}
 use Rattle.imap_session.specs.Exchange.{Argument, Batch, Client, Copied, Message, Origin, PendingLiteral, Purpose, Response, Sent}
 use Rattle.imap_session.specs.Store.{most_first_room}
 
@@ -22,7 +22,7 @@ abbrev pub pending_of : begun.PendingLiteral → PendingLiteral
 pending_of a = record { tag = a.tag; purpose = purpose_of a.purpose; size = a.size; due = a.due; text = option_map (λ t. t.items) a.text }
 
 abbrev pub batch_of : batch.Batch → Batch
-batch_of b = record { by_uid = b.by_uid; moves = b.moves; uids = b.uids.items; rows = b.rows.items; copies = b.copies.items }
+batch_of b = record { by_uid = b.by_uid; moves = b.moves; uids = b.uids.items; left = reverse b.left.items; copies = b.copies.items }
 
 abbrev pub origin_of : origins.Origin → Origin
 origin_of from.Client = Client
@@ -31,11 +31,11 @@ origin_of (from.Copied b) = Copied (batch_of b)
 abbrev pub sent_of : sent.Sent → Sent
 sent_of s = record { tag = s.tag; append = s.append; origin = origin_of s.origin }
 
--- There is room for the UIDs of all copies, each message that is read has its UID, and one at least waits to be stored.
+-- Each message has its UID and is stored, left, or on its way; there is room for the UIDs of all copies; and there are no more than one command may copy.
 pub record IsUnderWay (b : batch.Batch) : Type 0 where
+  pub all : length b.copies.items + (1 + length b.left.items) ≡ length b.uids.items
   pub room : length b.uids.items ≤ vec_capacity b.copies
-  pub read : length b.rows.items ≡ length b.uids.items
-  pub left : length b.copies.items < length b.rows.items
+  pub few : length b.uids.items ≤ most_in_batch
 
 abbrev pub IsRoomy : origins.Origin → Type 0
 IsRoomy from.Client = Unit {0}

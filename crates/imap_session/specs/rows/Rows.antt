@@ -12,9 +12,8 @@ use Rattle.imap_grammar.specs.Literals.{announced}
 use Rattle.imap_grammar.specs.Reading.{read}
 use Rattle.imap_session.specs.Exchange.{Answer, Entered, Looked, Found, Counted, Altered, Expunged, Fed, Left, Refused, Starved, Turn, Sent, Standing, begun_with, may_send, nothing_sent}
 use Rattle.imap_grammar.specs.declared.command.Command.TheVariants as commands
-use Rattle.imap_session.specs.Exchange.{Count, Exchange, Done, Folder, Leave, Write}
+use Rattle.imap_session.specs.Exchange.{Client, Copied, Count, Discard, Discarded, Exchange, Done, Folder, Leave, Write}
 use Rattle.imap_session.specs.Shows.{RestShowsNone, ShowsInOrder, VerdictShowsInOrder}
-use Rattle.imap_session.specs.declared.standing.Origin.TheVariants.{Client, Copied}
 use Rattle.imap_session.specs.Telling.{TellsNoUid, VerdictTellsUid}
 use Rattle.imap_session.specs.declared.standing.After.TheVariants.{Go}
 use Rattle.imap_session.specs.declared.standing.After.TheVariants as afters
@@ -630,20 +629,76 @@ copy_submitted : submitted (led at_inbox (Line (codes "a1 UID COPY 5 \"Work\"") 
 unfolding read digits
 copy_submitted = refl
 
--- the message that is moved gets \Deleted behind that, and is removed
+-- the message that is moved is removed behind that, and that is shown
 moved_away : written at_inbox
     (Line (codes "a1 UID MOVE 5 Work") (Looked (3 ∷ 5 ∷ []) ∷ flagged_message ∷ [])
-    ∷ Heard (verdicts.Stored 9) (counted 7 ∷ Altered (Some (flags false true true false false)) ∷ Expunged (3 ∷ 5 ∷ []) (SetFlags 5 (flags false true true false false) ∷ []) 1 ∷ Fed (3 ∷ 5 ∷ []) (Gone 5 ∷ []) ∷ []) ∷ [])
-    ≡ Some (codes "* OK [COPYUID 7 5 9] Moved\r\n* 2 FETCH (UID 5 FLAGS (\\Flagged \\Deleted))\r\n* 2 EXPUNGE\r\na1 OK UID MOVE completed\r\n")
+    ∷ Heard (verdicts.Stored 9) (counted 7 ∷ Discarded ∷ Fed (3 ∷ 5 ∷ []) (Gone 5 ∷ []) ∷ []) ∷ [])
+    ≡ Some (codes "* OK [COPYUID 7 5 9] Moved\r\n* 2 EXPUNGE\r\na1 OK UID MOVE completed\r\n")
 unfolding read digits counted
 moved_away = refl
+
+-- several are read, and their copies go one after another; nothing is said before the last verdict
+abbrev plain_message : ℕ → Answer
+plain_message uid = Found (Some (record { uid = uid; flags = (flags false false false false false); newly_seen = false; text = codes "hi" }))
+
+abbrev three_read : List Answer
+three_read = Looked (3 ∷ 5 ∷ 6 ∷ []) ∷ plain_message 3 ∷ flagged_message ∷ plain_message 6 ∷ []
+
+several_copied : written at_inbox
+    (Line (codes "a1 COPY 1:3 Work") three_read ∷ Heard (verdicts.Stored 9) [] ∷ Heard (verdicts.Stored 10) [] ∷ Heard (verdicts.Stored 12) (counted 7 ∷ Fed (3 ∷ 5 ∷ 6 ∷ []) [] ∷ []) ∷ [])
+    ≡ Some (codes "a1 OK [COPYUID 7 3,5:6 9:10,12] COPY completed\r\n")
+unfolding read digits counted three_read
+several_copied = refl
+
+several_moved : written at_inbox
+    (Line (codes "a1 MOVE 1:3 Work") three_read ∷ Heard (verdicts.Stored 9) [] ∷ Heard (verdicts.Stored 10) []
+    ∷ Heard (verdicts.Stored 11) (counted 7 ∷ Discarded ∷ Fed (3 ∷ 5 ∷ 6 ∷ []) (Gone 3 ∷ Gone 5 ∷ Gone 6 ∷ []) ∷ []) ∷ [])
+    ≡ Some (codes "* OK [COPYUID 7 3,5:6 9:11] Moved\r\n* 1 EXPUNGE\r\n* 1 EXPUNGE\r\n* 1 EXPUNGE\r\na1 OK MOVE completed\r\n")
+unfolding read digits counted three_read
+several_moved = refl
+
+-- the second goes with its own text and flags, under the next number
+second_submitted : submitted (led at_inbox (Line (codes "a1 COPY 1:3 Work") three_read ∷ Heard (verdicts.Stored 9) [] ∷ []))
+    ≡ Some (record { message = 1; mailbox = 1; text = codes "hello"; flags = (flags false true false false false) })
+unfolding read digits three_read
+second_submitted = refl
+
+-- where one is refused, those that were stored are removed again
+second_refused : written at_inbox (Line (codes "a1 COPY 1:3 Work") three_read ∷ Heard (verdicts.Stored 9) [] ∷ Heard (verdicts.Refused MailboxFull) (Discarded ∷ []) ∷ [])
+    ≡ Some (codes "a1 NO Mailbox full\r\n")
+unfolding read digits three_read
+second_refused = refl
+
+abbrev one_of_two_stored : Standing
+one_of_two_stored = record at_inbox {
+  mailing = record (nothing_sent (Some 10)) {
+    number = 2;
+    sent = Some (record {
+      tag = codes "a1";
+      append = record { message = 1; mailbox = 1; text = codes "hi"; flags = (flags false false false false false) };
+      origin = Copied (record { by_uid = false; moves = true; uids = 3 ∷ 5 ∷ []; left = []; copies = 9 ∷ [] });
+    });
+  };
+}
+
+copies_taken_back : option_map (λ (t : Turn). t.events) (turn_of_verdict one_of_two_stored (verdicts.Refused MailboxFull) (Discarded ∷ []))
+    ≡ Some (record { call = Discard 1 (9 ∷ []); answer = Discarded } ∷ [])
+copies_taken_back = refl
+
+-- one that is gone is passed over where it was named by its UID, and stops the command where it was named by its number
+gone_passed : written at_inbox
+    (Line (codes "a1 UID COPY 3,5 Work") (Looked (3 ∷ 5 ∷ []) ∷ Found None ∷ flagged_message ∷ []) ∷ Heard (verdicts.Stored 9) (counted 7 ∷ Fed (3 ∷ 5 ∷ []) [] ∷ [])
+    ∷ Line (codes "a2 COPY 1:2 Work") (Looked (3 ∷ 5 ∷ []) ∷ flagged_message ∷ Found None ∷ []) ∷ [])
+    ≡ Some (codes "a1 OK [COPYUID 7 5 9] UID COPY completed\r\na2 NO [EXPUNGEISSUED] Some messages are gone\r\n")
+unfolding read digits counted
+gone_passed = refl
 
 -- where the copy is refused the message stays
 move_refused : written at_inbox (Line (codes "a1 MOVE 2 Work") (Looked (3 ∷ 5 ∷ []) ∷ flagged_message ∷ []) ∷ Heard (verdicts.Refused MailboxFull) [] ∷ []) ≡ Some (codes "a1 NO Mailbox full\r\n")
 unfolding read digits
 move_refused = refl
 
--- what is refused, in its order: the state, a mailbox that isn't changed, the name, the set, several messages, one that is gone, one that is too big
+-- what is refused, in its order: the state, a mailbox that isn't changed, the name, the set, one that is gone, one that is too big
 copies_refused : written inside (Line (codes "a1 COPY 1 Work") [] ∷ Line (codes "a2 MOVE 1 Nope") [] ∷ []) ≡ Some (codes "a1 BAD Wrong state\r\na2 BAD Wrong state\r\n")
 unfolding read digits
 copies_refused = refl
@@ -653,13 +708,13 @@ unfolding read digits
 moves_refused = refl
 
 sets_refused : written at_inbox
-    (Line (codes "a1 COPY 3 Work") (Looked (3 ∷ 5 ∷ []) ∷ []) ∷ Line (codes "a2 UID COPY 1:* Work") (Looked (3 ∷ 5 ∷ []) ∷ []) ∷ Line (codes "a3 UID MOVE 4 Work") (Looked (3 ∷ 5 ∷ []) ∷ [])
+    (Line (codes "a1 COPY 3 Work") (Looked (3 ∷ 5 ∷ []) ∷ []) ∷ Line (codes "a3 UID MOVE 4 Work") (Looked (3 ∷ 5 ∷ []) ∷ [])
     ∷ Line (codes "a4 COPY 1 Work") (Looked (3 ∷ 5 ∷ []) ∷ Found None ∷ []) ∷ Line (codes "a5 UID COPY 3 Work") (Looked (3 ∷ 5 ∷ []) ∷ Found None ∷ []) ∷ [])
-    ≡ Some (codes "a1 BAD Sequence number too high\r\na2 NO [LIMIT] One message at a time\r\na3 OK UID MOVE completed\r\na4 NO [EXPUNGEISSUED] Some messages are gone\r\na5 OK UID COPY completed\r\n")
+    ≡ Some (codes "a1 BAD Sequence number too high\r\na3 OK UID MOVE completed\r\na4 NO [EXPUNGEISSUED] Some messages are gone\r\na5 OK UID COPY completed\r\n")
 unfolding read digits
 sets_refused = refl
 
-copies_starved : written at_inbox (Line (codes "a1 COPY 2 Work") (Starved 0 ∷ []) ∷ Line (codes "a2 COPY 2 Work") (Looked (3 ∷ 5 ∷ []) ∷ flagged_message ∷ Starved 0 ∷ []) ∷ [])
+copies_starved : written at_inbox (Line (codes "a1 COPY 2 Work") (Starved 0 ∷ []) ∷ Line (codes "a2 COPY 2 Work") (Looked (3 ∷ 5 ∷ []) ∷ Starved 0 ∷ []) ∷ [])
     ≡ Some (codes "a1 NO Out of memory\r\na2 NO Out of memory\r\n")
 unfolding read digits
 copies_starved = refl
@@ -675,9 +730,9 @@ unfolding read digits
 copies_lacking = refl
 
 -- the OK of a COPY isn't said before its mailbox is counted, and a message isn't removed before that
-copy_uncounted : VerdictShowsInOrder None (Copied (record { uid = 5; by_uid = false; moves = false })) (verdicts.Stored 9) (Done (codes "OK [COPYUID 7 5 9] COPY completed") Go) → ⊥
-copy_uncounted p = p
+copy_uncounted : VerdictShowsInOrder None (Copied (record { by_uid = false; moves = false; uids = 5 ∷ []; left = []; copies = [] })) (verdicts.Stored 9) (Done (codes "OK [COPYUID 7 5 9] COPY completed") Go) → ⊥
+copy_uncounted p = differ p
 
-moved_unshown : VerdictShowsInOrder (Some (record { mailbox = 0; read_only = false })) (Copied (record { uid = 5; by_uid = false; moves = true })) (verdicts.Stored 9)
+moved_unshown : VerdictShowsInOrder (Some (record { mailbox = 0; read_only = false })) (Copied (record { by_uid = false; moves = true; uids = 5 ∷ []; left = []; copies = [] })) (verdicts.Stored 9)
     (Count 1 (λ status. Done (codes "OK MOVE completed") Go)) → ⊥
 moved_unshown p = differ (p (record { messages = 1; uidnext = 2; uidvalidity = 7; unseen = 1; deleted = 0; size = 5 }) refl)

@@ -1,17 +1,16 @@
-use Rattle.delivery_token.specs.declared.Verdict.TheVariants.{Stored}
 use Rattle.mailbox.specs.declared.mailbox.Status.{Status}
 use Rattle.imap_session.specs.Exchange.{Exchange}
-use Rattle.imap_session.specs.Commands.{on_verdict, told_stored}
+use Rattle.imap_session.specs.Commands.{told_appended, with_validity}
 use Rattle.imap_session.proofs.Ending.{plays_counted, plays_stopped}
 use Rattle.imap_session.proofs.Runs.{stops_count}
 use Rattle.imap_session.proofs.verdict.tell_stored.Goals as goal
 
 pub returns-in-Ok-clause-plays : goal.returns-in-Ok-clause-plays
 returns-in-Ok-clause-plays g c now =
-    let next : Status → Exchange = λ status. told_stored c.args.selected c.args.origin status.uidvalidity c.args.uid in
+    let next : Status → Exchange = λ status. told_appended c.args.selected c.args.uid status.uidvalidity in
     plays_counted g.S.Store.step c.args.response.tag now now c.args.mailbox next c.in-Ok.status _ _ _ _ _ _ c.in-Ok.ensures.event (c.tell_uid.ensures.plays now)
 
 pub returns-in-Err-clause-plays : goal.returns-in-Err-clause-plays
 returns-in-Err-clause-plays g c now =
-    plays_stopped g.S.Store.step now (on_verdict c.args.selected c.args.origin c.args.mailbox (Stored c.args.uid)) c.in-Err.fault _ _ c.args.response _ _ c.conclude.result
+    plays_stopped g.S.Store.step now (with_validity c.args.mailbox (told_appended c.args.selected c.args.uid)) c.in-Err.fault _ _ c.args.response _ _ c.conclude.result
     (stops_count g.S.Store.step c.args.response.tag now c.args.mailbox _ _ _ _ _ c.in-Err.ensures.event) c.conclude.ensures.text c.conclude.ensures.after

@@ -1,11 +1,15 @@
-use Rattle.std.proofs.Common.{subst, sym}
-use Rattle.imap_session.specs.Exchange.{Exchange}
-use Rattle.imap_session.specs.inner.Store.{Plays}
-use Rattle.imap_session.proofs.Copies.{told_moved}
+use Rattle.imap_session.specs.Commands.{appended_words, says, told_appended}
+use Rattle.imap_session.proofs.Ending.{plays_said, plays_stopped}
 use Rattle.imap_session.proofs.verdict.tell_uid.Goals as goal
 
-pub returns-in-Some-clause-plays : goal.returns-in-Some-clause-plays
-returns-in-Some-clause-plays g c now =
-    let is = c.in-Some.ensures.some in
-    let P : Exchange → Type 0 = λ x. Plays g.S.Store.step c.args.response.tag now now x c.args.store.now c.tell_moved.new.store c.args.response.text c.tell_moved.new.out.items c.tell_moved.result in
-    subst P (sym (told_moved c.args.selected c.args.origin c.in-Some.source c.args.uidvalidity c.args.uid is.0 is.1)) (c.tell_moved.ensures.plays now)
+pub returns-in-Ok-clause-plays : goal.returns-in-Ok-clause-plays
+returns-in-Ok-clause-plays g c now =
+    let words = appended_words c.args.uidvalidity c.args.uid in
+    plays_said g.S.Store.step words now (told_appended c.args.selected c.args.uid c.args.uidvalidity) _ _ c.args.response _ _
+    (c.in-Ok.ensures.done (says words) c.args.response.tag now) c.end_appended.ensures
+
+pub returns-in-Err-clause-plays : goal.returns-in-Err-clause-plays
+returns-in-Err-clause-plays g c now =
+    let words = appended_words c.args.uidvalidity c.args.uid in
+    plays_stopped g.S.Store.step now (told_appended c.args.selected c.args.uid c.args.uidvalidity) c.in-Err.fault _ _ c.args.response _ _ c.conclude.result
+    (c.in-Err.ensures.done (says words) c.args.response.tag now) c.conclude.ensures.text c.conclude.ensures.after

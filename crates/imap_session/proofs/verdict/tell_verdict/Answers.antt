@@ -9,7 +9,7 @@ use Rattle.imap_session.specs.declared.texts.ResponseText.{ResponseText}
 use Rattle.imap_session.specs.Texts.{response_text}
 
 pub returns-in-Refused-clause-plays : goal.returns-in-Refused-clause-plays
-returns-in-Refused-clause-plays g c now =
+returns-in-Refused-clause-plays g c mailing now =
     let text : ResponseText = c.refused_text.result in
     let response = c.args.response in
     let said = plays_said g.S.Store.step (response_text text) now (says (response_text text)) c.args.store.now c.args.store.now response response c.conclude.new.out.items

@@ -1,8 +1,7 @@
 use Rattle.std.proofs.Common.{[], ◌++◌, ◌∙◌, ap, append-nil, refl, sym}
 use Rattle.imap_session.specs.contracts.session.Session.{the_view}
-use Rattle.imap_session.specs.Exchange.{ForVerdict, Standing, Wait, tagged}
+use Rattle.imap_session.specs.Exchange.{Client, ForVerdict, Standing, Wait, tagged}
 use Rattle.imap_session.specs.Commands.{flags_for, on_rest}
-use Rattle.imap_session.specs.declared.standing.Origin.TheVariants.{Client}
 use Rattle.imap_session.specs.inner.Seen.{pending_of, purpose_of}
 use Rattle.imap_session.proofs.Appends.{leads_says, leads_starved, leads_wanting_waits, submitted_again}
 use Rattle.imap_session.proofs.session.Session.submit.Goals as goal

@@ -1,0 +1,16 @@
+use Rattle.imap_session.specs.Commands.{copied_words, says, showing}
+use Rattle.imap_session.specs.inner.Seen.{batch_of}
+use Rattle.imap_session.proofs.Ending.{plays_said, plays_stopped}
+use Rattle.imap_session.proofs.copied.tell_copied.Goals as goal
+
+pub returns-in-Ok-clause-plays : goal.returns-in-Ok-clause-plays
+returns-in-Ok-clause-plays g c now =
+    let words = copied_words c.args.uidvalidity (batch_of c.args.batch.now) in
+    plays_said g.S.Store.step words now (showing c.args.selected (says words)) _ _ c.args.response _ _
+    (c.in-Ok.ensures.done (says words) c.args.response.tag now) c.end_copied.ensures
+
+pub returns-in-Err-clause-plays : goal.returns-in-Err-clause-plays
+returns-in-Err-clause-plays g c now =
+    let words = copied_words c.args.uidvalidity (batch_of c.args.batch.now) in
+    plays_stopped g.S.Store.step now (showing c.args.selected (says words)) c.in-Err.fault _ _ c.args.response _ _ c.conclude.result
+    (c.in-Err.ensures.done (says words) c.args.response.tag now) c.conclude.ensures.text c.conclude.ensures.after
