@@ -25,3 +25,4 @@ pub mod Barring
 pub mod Parts
 pub mod PlainLaws
 pub mod Copies
+pub mod Following

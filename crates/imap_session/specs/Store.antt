@@ -136,3 +136,14 @@ room_sent (Some sent) = length sent.tag + (104 + room_of_sets sent.origin)
 
 abbrev pub room_for_verdict : Standing → ℕ
 room_for_verdict now = room_sent now.mailing.sent
+
+-- ---- messages that follow
+
+-- so many more of its batch are submitted behind a message
+abbrev pub to_follow_from : Origin → ℕ
+to_follow_from Client = 0
+to_follow_from (Copied batch) = length batch.left
+
+abbrev pub to_follow : Option Sent → ℕ
+to_follow None = 0
+to_follow (Some sent) = to_follow_from sent.origin
