@@ -3,12 +3,12 @@ use Rattle.std.proofs.Common.{◌≡◌, ℕ, ◌<◌, ◌≤◌, ◌⊎◌, inl
 use Rattle.std.specs.Prelude.{◌↔◌, ◌+◌, IfErr, OnOk, OnErr}
 use Rattle.std.proofs.lemmas.Bool.{cases_lt}
 use Rattle.change_ring.specs.declared.change.Change.{Change}
-use Rattle.change_ring.specs.Log.{Row, rows_of}
+use Rattle.change_ring.specs.Log.{rows_of}
 use Rattle.change_ring.specs.Logged.{discards}
 use Rattle.change_ring.specs.Window.{total}
 use Rattle.cursor_set.specs.Cursors.{CursorSet}
 use Rattle.mailbox.specs.declared.clients.MailFault.{MailFault}
-use Rattle.mailbox.specs.declared.clients.MailFault.TheVariants.{Stranger, Lapped, Spent, NoMemory}
+use Rattle.mailbox.specs.declared.clients.MailFault.TheVariants.{Stranger, Spent}
 use Rattle.mailbox.specs.Events.{Logs as MailLogs, Moves, IsTooMany}
 use Rattle.mailbox.specs.Mailbox.{Mailbox, Message, SameMailbox, rows, without}
 use Rattle.shard_queue.specs.At.{set_at}
@@ -16,9 +16,9 @@ use Rattle.world.specs.World.{Config, World, Discard, DiscardStep, discards_them
 use Rattle.world.specs.Law.{IsPart}
 use Rattle.world.proofs.Base.{part_filter, part_map}
 use Rattle.delivery_core.specs.DeliveryCore.{DeliveryCore}
-use Rattle.delivery_core.specs.Attached.{AreAttached, cursors_of}
+use Rattle.delivery_core.specs.Attached.{AreAttached}
 use Rattle.delivery_core.specs.Stands.{StandsFor, StandsForBox, text_of}
-use Rattle.delivery_core.specs.Clients.{Discards, DiscardsNot, IsDiscarded}
+use Rattle.delivery_core.specs.Clients.{IsDiscarded}
 use Rattle.delivery_core.proofs.Boxes.{same_rest}
 use Rattle.delivery_core.proofs.Follow.{each_set, reached_step, set_back}
 use Rattle.delivery_core.proofs.AttachedLaws.{cursors_same}
