@@ -1,7 +1,7 @@
 //! COPY and MOVE, and their forms by UID (RFC 9051, 6.4.7 to 6.4.9): the messages that they name are read, and then the first is submitted as a copy of its
 //! own, which shares its text. What is done once a verdict is there stands in `copied`.
 
-ghost use Rattle.std.specs.Prelude.{◌≡◌, ◌<◌, ◌≤◌, ◌+◌, ◌++◌, ℕ, List, [], ◌∷◌, false, true, map, length, vec_capacity, vec_len, IfErr, IfOk, IfSome, IfNone, OnOk, option_to_list};
+ghost use Rattle.std.specs.Prelude.{◌≡◌, ◌<◌, ◌≤◌, ◌+◌, ◌++◌, ℕ, List, [], ◌∷◌, false, true, map, length, vec_capacity, vec_len, IfErr, IfOk, IfSome, IfNone, OnOk, option_to_list, if◌then◌else◌};
 ghost use Rattle.imap_grammar.specs.Sets.{named_at};
 ghost use Rattle.mailbox.specs.declared.clients.Row.{Row as RowSpec};
 ghost use Rattle.imap_session.specs.Exchange.{Exchange, Mailing as MailingSpec, Read, Standing};
@@ -108,11 +108,11 @@ fn read_one<S: Store>(
     uid: u32,
     store: &mut S,
 ) -> Result<Result<Option<Row>, ResponseText>, MailFault>
-    ensures { (response : ResponseSpec) (taken : RowSpec → Exchange) (passed : Exchange)
-        → Does S.step
-        (Read uid false (on_found
-        (λ row. if is_over (most_copied most) (length row.text) then over (most_copied most)
-        else taken row)
+    ensures { (response : ResponseSpec) (named : ℕ) → uid ≡ named → (mailing : MailingSpec)
+        → mailing.most ≡ most → (taken : RowSpec → Exchange) (passed : Exchange) → Does S.step
+        (Read named false (on_found
+        (λ row. if is_over (most_copied mailing.most) (length row.text)
+        then over (most_copied mailing.most) else taken row)
         (if copy.now.by_uid then passed else says (response_text texts.MessagesGone))))
         (picked taken passed) store.old store.new response response result }
 {
@@ -126,7 +126,8 @@ fn read_one<S: Store>(
 fn keep(uid: u32, row: Option<Row>, uids: &mut Vec<u32>, left: &mut Vec<Row>)
     requires uid_room { vec_len uids.old < vec_capacity uids.old }
     requires row_room { vec_len left.old < vec_capacity left.old }
-    ensures uids { uids.new.items ≡ uids.old.items ++ map (λ _. uid) (option_to_list row) }
+    ensures uids { (named : ℕ) → uid ≡ named
+        → uids.new.items ≡ uids.old.items ++ map (λ _. named) (option_to_list row) }
     ensures left { left.new.items ≡ left.old.items ++ option_to_list row }
     ensures uid_len { vec_len uids.new ≤ vec_len uids.old + 1 }
     ensures row_len { vec_len left.new ≤ vec_len left.old + 1 }
@@ -150,6 +151,7 @@ fn gather<S: Store>(
     store: &mut S,
 ) -> Result<Result<(), ResponseText>, MailFault>
     requires none { (uids.old.items ≡ []) × (left.old.items ≡ []) }
+    requires empty { (vec_len uids.old ≡ 0) × (vec_len left.old ≡ 0) }
     requires uid_room { length messages.now ≤ vec_capacity uids.old }
     requires row_room { length messages.now ≤ vec_capacity left.old }
     ensures does { (response : ResponseSpec) (view named : List ℕ)
@@ -282,7 +284,7 @@ impl Session {
         requires awake { self.old.idling ≡ None }
         requires alone { self.old.mailing.begun ≡ None }
         requires unsent { self.old.mailing.sent ≡ None }
-        requires tag { tag ≡ response.entry.tag }
+        requires tag { tag ≡ response.tag }
         requires gathered { IsGathered batch }
         ensures leads { Leads response.entry.tag self.old
             (submitting self.old.mailing (batch_of batch) mailbox
