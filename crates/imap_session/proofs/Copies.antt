@@ -195,3 +195,8 @@ had_led step now next x y old new response after how p led =
       met = Met-append step old new new p.events [] p.met refl;
       wrote = led.3 ∙ ap (λ (t : List ℕ). t ++ led.1) p.wrote.1 ∙ append_assoc response.text p.bytes led.1;
     }
+
+-- the store wasn't asked, and this led here
+pub had_led_alone : {S : Type 0} (step : S → Call → Answer → S → Type 0) (tag : List ℕ) (now next : Standing) (x : Exchange) (s : S) (before after : List ℕ) (how : After)
+    → Leads tag now x before after how next → Had (played tag now x) step s s before after how next
+had_led_alone step tag now next x s before after how led = record { answers = led.0; events = []; bytes = led.1; played = led.2; met = refl; wrote = led.3 }

@@ -128,6 +128,7 @@ impl Session {
         ensures same { IfErr result (λ _. self.new ≡ self.old) }
         ensures folders { self.new.folders ≡ self.old.folders }
         ensures waits { OnOk result (may_send self.new ≡ After.Submit) }
+        ensures alone { self.new.mailing.begun ≡ self.old.mailing.begun }
     {
         let message = self.mailing.number;
         if batch.left.as_slice().is_empty() {

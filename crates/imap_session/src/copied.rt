@@ -240,6 +240,7 @@ impl Session {
             (taking_back mailbox copies.now (says (response_text text))) store.old store.new
             out.old.items out.new.items result }
         ensures standing { self.new ≡ (closed self.old result).standing }
+        ensures mailing { self.new.mailing ≡ self.old.mailing }
         ensures sends { result ≡ may_send self.new }
     {
         let response = Response::new(tag, STORED, out);
@@ -270,6 +271,7 @@ impl Session {
             (with_validity mailbox (told_copied self.old.selected (batch_of batch.now))) store.old
             store.new out.old.items out.new.items result }
         ensures standing { self.new ≡ (closed self.old result).standing }
+        ensures mailing { self.new.mailing ≡ self.old.mailing }
         ensures sends { result ≡ may_send self.new }
     {
         let room = STORED + ROOM_IN_SETS * batch.uids.len();

@@ -1,10 +1,13 @@
-use Rattle.std.proofs.Common.{◌≡◌, ◌∙◌, [], ◌++◌, length, map, List, ℕ, Err, Ok, ap}
+use Rattle.std.proofs.Common.{◌≡◌, ◌∙◌, [], ◌++◌, length, map, List, ℕ, Err, Ok, ap, subst, sym}
 use Rattle.std.specs.Prelude.{reverse}
 use Rattle.std.proofs.lemmas.List.{reverse-reverse}
 use Rattle.mailbox.specs.declared.clients.Row.{Row}
 use Rattle.std.proofs.lemmas.Result.{err_from_is_err_and}
 use Rattle.imap_session.specs.declared.copying.Found.{Found}
-use Rattle.imap_session.specs.Commands.{empty_batch, gathering, wanting}
+use Rattle.imap_session.specs.Commands.{completed, empty_batch, gathering, submitting, wanting}
+use Rattle.imap_session.specs.Exchange.{Batch}
+use Rattle.imap_session.specs.inner.Store.{Reaches}
+use Rattle.imap_grammar.specs.declared.command.Command.TheVariants as commands
 use Rattle.imap_session.specs.inner.Copies.{found_next}
 use Rattle.imap_session.proofs.Runs.{nothing_added, reaches_then, reaches_write, stops_write}
 use Rattle.imap_session.proofs.Saying.{does_wanting}
@@ -50,7 +53,11 @@ returns-clause-does g c response view named are mailing most tag now =
     let uids = c.gather.new.uids.items in
     let left = c.gather.new.left.items in
     let turned : reverse c.reverse.new.self.items ≡ left = ap (reverse {A = Row}) c.reverse.ensures.items ∙ reverse-reverse left in
+    let none_stored = c.in_ok-copies.copies.items in
+    let P : List ℕ → List Row → Type 0 = λ k l. Reaches g.S.Store.step tag now now (gathering mailing copy c.args.mailbox named (empty_batch copy))
+    (submitting mailing (let b : Batch = record { by_uid = copy.by_uid; moves = copy.moves; uids = uids; left = l; copies = k } in b) c.args.mailbox (completed (commands.Copy copy)))
+    c.args.store.now c.gather.new.store response response in
     let none : c.in_ok-copies.copies.items ≡ [] = c.in_ok-copies.ensures.items in
     reaches_then g.S.Store.step tag now now now _ (gathering mailing copy c.args.mailbox named (empty_batch copy)) _ _ _ _ response response response
     (reaches_write g.S.Store.step tag now [] (gathering mailing copy c.args.mailbox named (empty_batch copy)) c.args.store.now response response (nothing_added response))
-    (rw (turned, none) ((rw c.in_default.is at (c.in_ok-text.ensures.does response view named are mailing most c.args.mailbox)) tag now))
+    (subst (λ (l : List Row). P none_stored l) (sym turned) (subst (λ (k : List ℕ). P k left) (sym none) ((rw c.in_default.is at (c.in_ok-text.ensures.does response view named are mailing most c.args.mailbox)) tag now)))
