@@ -118,11 +118,13 @@ fn remove_moved<S: Store>(
     ensures { Does S.step (removing selected (batch_of batch.now)) last store.old store.new
         response.old response.new result }
 {
-    if let Some(selected) = selected {
-        store.discard(selected.mailbox, batch.uids.as_slice())?;
-        response.show(usize::MAX, store)?;
-    }
-    Ok(ResponseText::Completed(copy_verb(batch.by_uid, true)))
+    let done = ResponseText::Completed(copy_verb(batch.by_uid, true));
+    let Some(selected) = selected else {
+        return Ok(done);
+    };
+    store.discard(selected.mailbox, batch.uids.as_slice())?;
+    response.show(usize::MAX, store)?;
+    Ok(done)
 }
 
 // Tells where the copies of messages are that are moved, and removes those.

@@ -24,4 +24,11 @@ returns-in_err-show g c =
     (rw c.as_slice.ensures.value at c.in_ok-discard.ensures.event) (c.in_err-show.ensures.done done))
 
 pub returns : goal.returns
-returns g c = ?
+returns g c =
+    let done : Exchange = move_done (batch_of c.args.batch.now) in
+    rw (c.copy_verb.ensures, c.in-Some.is) (does_discarded {V = Unit {0}} g.S.Store.step c.in-Some.selected.mailbox c.args.batch.now.uids.items (Feed unlimited done) (λ u. done) _ _ _ _ _ (Ok tt)
+    (rw c.as_slice.ensures.value at c.in_ok-discard.ensures.event) (c.in_ok-show.ensures.done done))
+
+pub returns-in_default : goal.returns-in_default
+returns-in_default g c tag now =
+    rw (c.copy_verb.ensures, c.in_default.is) (reaches_here g.S.Store.step tag now (move_done (batch_of c.args.batch.now)) c.args.store.now c.args.response.now)
