@@ -1,5 +1,5 @@
-//! The answers of IMAP that tell of messages and mailboxes (RFC 9051, 7), byte by byte: to FETCH, SEARCH, STORE, SELECT and STATUS, and to LIST with the
-//! names that a pattern stands for. How commands are spelled is told in `imap_grammar`; who is answered what and when, in the crates above.
+//! The answers of IMAP that tell of messages and mailboxes (RFC 9051, 7), byte by byte: to FETCH, SEARCH, STORE, SELECT and STATUS, to LIST with the names that
+//! a pattern stands for, and sets of UIDs. How commands are spelled is told in `imap_grammar`; who is answered what and when, in the crates above.
 #![tactic(auto)]
 
 mod date;

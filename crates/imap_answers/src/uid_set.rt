@@ -1,7 +1,7 @@
 //! A set of UIDs as it is written (RFC 9051, 9: uid-set), with the bytes that specs/Answers.antt gives: numbers that follow one another are one range.
 //! Which UIDs are told, and of what, is the session's matter.
 
-ghost use Rattle.std.specs.Prelude.{◌≡◌, ◌==◌, ◌+◌, ◌*◌, ◌≤◌, ◌++◌, ◌∷◌, ℕ, List, length, vec_capacity, vec_len};
+ghost use Rattle.std.specs.Prelude.{◌≡◌, ◌==◌, ◌+◌, ◌*◌, ◌≤◌, ◌++◌, ◌∷◌, ℕ, List, false, length, vec_capacity, vec_len};
 ghost use Rattle.imap_answers.specs.Answers.{range_text, runs_text, uid_set};
 ghost use Rattle.imap_answers.specs.inner.Ranges.{most_of};
 

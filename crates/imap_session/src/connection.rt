@@ -6,7 +6,7 @@ ghost use Rattle.std.specs.Option.{option_map};
 ghost use Rattle.std.specs.Vec.{vec_capacity};
 ghost use Rattle.imap_session.specs.Exchange.{Feed, Refused, Sent, begun_with, is_idling, kept_tag, may_send};
 ghost use Rattle.imap_session.specs.Commands.{due_of, greeting, most_changes};
-ghost use Rattle.imap_session.specs.Store.{AnswersVerdict, IdleTurns, Starves, TakesBytes, room_for_verdict};
+ghost use Rattle.imap_session.specs.Store.{AnswersVerdict, IdleTurns, Starves, TakesBytes, room_for_verdict, to_follow};
 ghost use Rattle.mailbox.specs.declared.clients.MailFault.{MailFault};
 ghost use Rattle.imap_session.specs.Dialogue.{Asks, Dialogue, Hears, StandsFor, Takes, Took, Turns, may_follow, tag_len};
 
@@ -152,6 +152,13 @@ impl ImapConnection {
         ensures { result ≡ room_for_verdict self.now.session }
     {
         self.session.verdict_room()
+    }
+
+    /// Behind the message that was submitted fewer follow than one command may copy, which a caller's measure rests on. It does nothing.
+    pub fn few_follow(&self)
+        ensures { to_follow self.now.session.mailing.sent < 32768 }
+    {
+        self.session.few_follow();
     }
 
     /// Answers the verdict on the message that was submitted. Bytes are taken again then.

@@ -128,6 +128,18 @@ impl Model for Mailing {
     ghost invariant = { λ m. IfSome m.begun HasFirstRoom × IfSome m.sent (λ s. IsRoomy s.origin) };
 }
 
+impl Mailing {
+    ghost use Rattle.std.specs.Prelude.{◌<◌};
+    ghost use Rattle.imap_session.specs.Store.{to_follow};
+
+    // Behind the message that was submitted fewer follow than one command may copy.
+    pub(crate) fn few_follow(&self)
+        ensures { to_follow self.now.sent < 32768 }
+    {
+        let _sent = &self.sent;
+    }
+}
+
 impl PendingLiteral {
     // Keeps bytes that came, or drops all where memory is refused. For the first bytes it isn't asked.
     pub(crate) fn keep(&mut self, bytes: &[u8])

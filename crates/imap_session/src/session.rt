@@ -57,7 +57,7 @@ impl Session {
     ghost use Rattle.imap_session.specs.Commands.{due_of, on_verdict, greeting, logged_in, long_line_text, most_changes, on_idle_line, turn_of_long_line};
     ghost use Rattle.imap_session.specs.inner.Lines.{Had};
     ghost use Rattle.imap_session.specs.inner.Seen.{HasFirstRoom, IsRoomy, origin_of, pending_of, purpose_of, sent_of};
-    ghost use Rattle.imap_session.specs.Store.{Answers, AnswersVerdict, IdleTurns, Starves, TakesBytes, room_for, room_for_verdict, room_of_sets, room_rest};
+    ghost use Rattle.imap_session.specs.Store.{Answers, AnswersVerdict, IdleTurns, Starves, TakesBytes, room_for, room_for_verdict, room_of_sets, room_rest, to_follow};
     ghost use Rattle.imap_session.specs.inner.Store.{Plays, behind_first_line, first_line, is_open};
 
     /// The session of a client whose mailboxes have these names, and which comes in so. It has selected no mailbox. Where two have the same name, the
@@ -585,6 +585,13 @@ impl Session {
             None => 0,
             Some(sent) => sent.tag.as_slice().len() + (STORED + sent.origin.room()),
         }
+    }
+
+    /// Behind the message that was submitted fewer follow than one command may copy. It does nothing, and is called for what it says.
+    pub fn few_follow(&self)
+        ensures { to_follow self.now.mailing.sent < 32768 }
+    {
+        self.mailing.few_follow();
     }
 
     /// Answers the verdict on the message that was submitted (RFC 9051, 6.3.12 and 6.4.7): where it was stored, shows what is pending in the selected

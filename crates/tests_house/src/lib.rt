@@ -17,6 +17,8 @@ mod sessions;
 #[cfg(test)]
 mod stores;
 #[cfg(test)]
+mod uid_sets;
+#[cfg(test)]
 mod views;
 #[cfg(test)]
 mod visits;
