@@ -9,7 +9,7 @@ use Rattle.delivery_token.specs.declared.Verdict.TheVariants.{Refused, Stored}
 use Rattle.delivery_token.specs.declared.log.Noted.{Noted}
 use Rattle.line_io.specs.Wire.{crlf}
 use Rattle.world.specs.World.{Box, Feed, World, empty_world}
-use Rattle.imap_session.specs.Exchange.{Answer as StoreAnswer, Origin, Client}
+use Rattle.imap_session.specs.Exchange.{Answer as StoreAnswer, Origin, Client as FromClient}
 use Rattle.imap_session.specs.Commands.{appended_words, greeting, copies_of, refused_text}
 use Rattle.imap_session.proofs.Telling.{words_tell_which}
 use Rattle.house.specs.Setup.{Setup}
@@ -80,7 +80,7 @@ two_copies uid before now a b differ one two same = differ (same.alone a one ∙
 -- ---- the OK of an APPEND
 
 -- it tells the UID of another copy
-another_copys : (v uid other : ℕ) (tag bytes : List ℕ) → v < 2 ^ 64 → uid < 2 ^ 64 → other < 2 ^ 64 → uid ≢ other → IsWord tag → SaysVerdict v Client tag (Stored uid) bytes → EndsWith tag (appended_words v other) bytes → ⊥
+another_copys : (v uid other : ℕ) (tag bytes : List ℕ) → v < 2 ^ 64 → uid < 2 ^ 64 → other < 2 ^ 64 → uid ≢ other → IsWord tag → SaysVerdict v FromClient tag (Stored uid) bytes → EndsWith tag (appended_words v other) bytes → ⊥
 another_copys v uid other tag bytes h k l differ word (inl s) said =
     differ (words_tell_which v uid v other h k h l (words_of_tags tag tag (appended_words v uid) (appended_words v other) word word (sym s.last ∙ said.last))).1
 another_copys v uid other tag bytes h k l differ word (inr (fault, s)) said =
