@@ -1,4 +1,4 @@
--- What COPY and MOVE come to: they say a last line, or all messages were read, and they wait for the verdict on the first one's copy.
+-- What COPY and MOVE come to: they say a last line, or all messages were read, and they wait for the verdict on the first one's copy. And what a verdict on a copy comes to.
 use Rattle.std.proofs.Common.{◌≡◌, ℕ, suc, ◌+◌, Bool, true, false, List, [], ◌∷◌, ◌++◌, length, length-append, refl, sym, ap, ◌∙◌, subst, append-nil, append_assoc, arith, Option, Some, None}
 use Rattle.std.specs.Prelude.{◌&&◌, if◌then◌else◌, nat_le, nat_lt}
 use Rattle.std.specs.List.{AllByRecursion}
@@ -9,8 +9,8 @@ use Rattle.imap_grammar.specs.declared.command.Command.TheVariants as commands
 use Rattle.imap_grammar.specs.declared.command.CopyMessages.{CopyMessages}
 use Rattle.imap_grammar.specs.declared.set.SeqRange.{SeqRange}
 use Rattle.imap_session.specs.declared.standing.Selected.{Selected}
-use Rattle.imap_session.specs.Exchange.{Batch, Copied, Exchange, ForVerdict, Look, Read, Standing, Wait}
-use Rattle.imap_session.specs.Commands.{completed, copy_messages, copy_of, copy_to, empty_batch, gathering, is_over, last_number, most_copied, most_in_batch, nowhere, number_named, on_chosen, on_command, on_found, over, says, submitting_first, taking_back, wanting, with_message, wrong_state}
+use Rattle.imap_session.specs.Exchange.{Batch, Copied, Discard, Exchange, ForVerdict, Look, Mailing, Read, Standing, Wait}
+use Rattle.imap_session.specs.Commands.{completed, copy_messages, copy_of, copy_to, empty_batch, gathering, is_over, last_number, most_copied, most_in_batch, nowhere, number_named, on_chosen, on_command, on_found, on_stored, over, says, submitting_first, taking_back, told_copied, wanting, with_copy, with_message, with_validity, wrong_state}
 use Rattle.imap_session.specs.declared.texts.ResponseText.{ResponseText}
 use Rattle.imap_session.specs.declared.texts.ResponseText.TheVariants as texts
 use Rattle.imap_session.specs.Texts.{response_text}
@@ -178,3 +178,27 @@ copies_so P passes now copy waits = selected now.selected
     selected (Some s) =
         in_either P (copy.moves && s.read_only) (says (response_text texts.ReadOnly)) _ (passes.told texts.ReadOnly)
         (passes.wanted (on_found (copy_to now.mailing copy) nowhere (number_named copy.name now.folders)) (to (number_named copy.name now.folders) refl))
+
+-- ---- verdicts on copies
+
+-- it is so of each last line, and so where messages are removed, if it is so of what comes then
+pub record TakesBack (P : Exchange → Type 0) : Type 0 where
+  pub told : (text : ResponseText) → P (says (response_text text))
+  pub removed : (mailbox : ℕ) (uids : List ℕ) (x : Exchange) → P x → P (Discard mailbox uids x)
+
+pub back_so : (P : Exchange → Type 0) → TakesBack P → (mailbox : ℕ) (copies : List ℕ) (text : ResponseText) → P (taking_back mailbox copies (says (response_text text)))
+back_so P takes mailbox [] text = takes.told text
+back_so P takes mailbox (uid ∷ uids) text = takes.removed mailbox (uid ∷ uids) (says (response_text text)) (takes.told text)
+
+-- One more copy of a batch stands: the next of those that are left is submitted, or there is no number for it; or all copies stand.
+pub stored_so : (P : Exchange → Type 0) → TakesBack P → (mailing : Mailing) (selected : Option Selected) (batch : Batch) (mailbox uid : ℕ)
+    → ((row : Row) (left : List Row) → batch.left ≡ row ∷ left → P (Wait [] (ForVerdict (Copied (record (with_copy uid batch) { left = left })) mailbox row.flags row.text)))
+    → (batch.left ≡ [] → P (with_validity mailbox (told_copied selected (with_copy uid batch))))
+    → P (on_stored mailing selected (Copied batch) mailbox uid)
+stored_so P takes mailing selected batch mailbox uid waits all = by batch.left refl
+  where
+    by : (left : List Row) → batch.left ≡ left
+        → P (submitting_first mailing (with_copy uid batch) mailbox (with_validity mailbox (told_copied selected (with_copy uid batch))) left)
+    by [] is = all is
+    by (row ∷ left) is =
+        in_either P (nat_le last_number mailing.number) _ _ (back_so P takes mailbox (batch.copies ++ uid ∷ []) texts.MailboxSpent) (waits row left is)

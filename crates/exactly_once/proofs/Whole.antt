@@ -55,7 +55,7 @@ use Rattle.imap_session.proofs.Parts.{IsPart, asks_part, challenge_part, comes_p
 use Rattle.imap_answers.specs.declared.list.Listing.{Listing}
 use Rattle.imap_answers.specs.declared.list.Listing.TheVariants.{All, Subscribed}
 use Rattle.imap_grammar.specs.declared.command.CopyMessages.{CopyMessages}
-use Rattle.exactly_once.proofs.Copying.{copies_so}
+use Rattle.exactly_once.proofs.Copying.{TakesBack, back_so, copies_so, stored_so}
 
 -- nothing, or lines of which the last one has ended
 abbrev pub IsWhole : List ℕ → Type 0
@@ -534,15 +534,8 @@ converses_whole step (goes_on now between next one others old mid new first seco
 
 -- ---- verdicts
 
-in_back : (mailbox : ℕ) (copies : List ℕ) (x : Exchange) → SaysWhole x → SaysWhole (commands_of.taking_back mailbox copies x)
-in_back mailbox [] x p = p
-in_back mailbox (uid ∷ uids) x p = p
-
-in_submitting : (mailing : Mailing) (batch : Batch) (mailbox : ℕ) (done : Exchange) → SaysWhole done → (left : List Row)
-    → SaysWhole (commands_of.submitting_first mailing batch mailbox done left)
-in_submitting mailing batch mailbox done p [] = p
-in_submitting mailing batch mailbox done p (row ∷ left) =
-    in_either (nat_le last_number mailing.number) _ _ (in_back mailbox batch.copies (says (response_text texts.MailboxSpent)) tt) (inl refl)
+in_back : TakesBack SaysWhole
+in_back = record { told = λ text. tt; removed = λ mailbox uids x p. p }
 
 in_moving : (selected : Option Selected) (uidvalidity : ℕ) (batch : Batch) → SaysWhole (commands_of.moving selected uidvalidity batch)
 in_moving selected uidvalidity batch = (
@@ -556,13 +549,12 @@ in_copied selected batch uidvalidity = in_either batch.moves _ _ (in_moving sele
 in_stored : (mailing : Mailing) (selected : Option Selected) (origin : Origin) (mailbox uid : ℕ) → SaysWhole (commands_of.on_stored mailing selected origin mailbox uid)
 in_stored mailing selected Client mailbox uid = λ status. in_showing selected _ tt
 in_stored mailing selected (Copied batch) mailbox uid =
-    in_submitting mailing (commands_of.with_copy uid batch) mailbox (commands_of.with_validity mailbox (commands_of.told_copied selected (commands_of.with_copy uid batch)))
-    (λ status. in_copied selected (commands_of.with_copy uid batch) status.uidvalidity) batch.left
+    stored_so SaysWhole in_back mailing selected batch mailbox uid (λ row left is. inl refl) (λ none status. in_copied selected (commands_of.with_copy uid batch) status.uidvalidity)
 
 in_verdict : (mailing : Mailing) (selected : Option Selected) (origin : Origin) (mailbox : ℕ) (verdict : Verdict)
     → SaysWhole (commands_of.on_verdict mailing selected origin mailbox verdict)
 in_verdict mailing selected origin mailbox (verdicts.Stored uid) = in_stored mailing selected origin mailbox uid
-in_verdict mailing selected origin mailbox (verdicts.Refused why) = in_back mailbox (commands_of.copies_of origin) (says (response_text (commands_of.refused_text why))) tt
+in_verdict mailing selected origin mailbox (verdicts.Refused why) = back_so SaysWhole in_back mailbox (commands_of.copies_of origin) (commands_of.refused_text why)
 
 verdict_whole : (sent : Option ex.Sent) (now : Standing) (verdict : Verdict) (answers : List Answer) → TurnWhole (commands_of.turn_with sent now verdict answers)
 verdict_whole None now verdict answers = tt

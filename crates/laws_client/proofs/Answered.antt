@@ -57,7 +57,7 @@ turned_rises k n now answers w turn v e met =
 
 heard_rises : (now : Standing) (verdict : Verdict) (sent : Sent) (answers : List Answer) (turn : Turn) → turn_with (Some sent) now verdict answers ≡ Some turn → NumbersRise (without_sent now).mailing turn.standing.mailing
 heard_rises now verdict sent answers turn e =
-    played_keeps (λ (s : Standing). NumbersRise (without_sent now).mailing s.mailing) sent.tag (numbers_keep (without_sent now).mailing sent.tag) (without_sent now) (on_verdict now.selected sent.origin sent.append.mailbox verdict) answers turn
+    played_keeps (λ (s : Standing). NumbersRise (without_sent now).mailing s.mailing) sent.tag (numbers_keep (without_sent now).mailing sent.tag) (without_sent now) (on_verdict now.mailing now.selected sent.origin sent.append.mailbox verdict) answers turn
     (same_numbers (without_sent now).mailing) e
 
 -- ---- what is known of a session's answers
