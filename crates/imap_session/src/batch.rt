@@ -102,12 +102,7 @@ impl Session {
     ghost use Rattle.imap_session.specs.inner.Seen.{batch_of};
 
     // Submits the next message of a batch, or gives the batch back where none goes.
-    pub(crate) fn submit_next(
-        &mut self,
-        mailbox: u8,
-        tag: Tag,
-        batch: Batch,
-    ) -> Result<(), Unsent>
+    pub(crate) fn submit_next(&mut self, mailbox: u8, tag: Tag, batch: Batch) -> Result<(), Unsent>
         requires going { self.old.ended ≡ false }
         requires awake { self.old.idling ≡ None }
         requires alone { self.old.mailing.begun ≡ None }

@@ -360,11 +360,13 @@ impl Session {
         ensures sends { result ≡ may_send self.new }
     {
         match self.find_copies(alloc, copy, response.tag, store) {
-            Ok(Found::Messages {
-                mailbox,
-                tag,
-                batch,
-            }) => self.submit_first(copy, mailbox, tag, batch, response, out),
+            Ok(
+                Found::Messages {
+                    mailbox,
+                    tag,
+                    batch,
+                },
+            ) => self.submit_first(copy, mailbox, tag, batch, response, out),
             Ok(Found::Said(text)) => {
                 response.end(text, out);
                 After::Go

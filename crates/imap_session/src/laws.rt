@@ -63,8 +63,8 @@ pub fn only_a_stored_verdict_tells_a_uid()
     ensures numbers { WordsTellWhich }
 
     // Where the verdict on an appended message was `Stored`, the last line tells its UID, behind the UIDVALIDITY as the mailbox was counted; else none.
-    ensures verdicts { (mailing : Mailing) (selected : Option Selected) (origin : Origin) (mailbox : ℕ)
-        (verdict : Verdict) → VerdictTellsUid selected origin mailbox verdict (on_verdict mailing selected origin mailbox verdict) }
+    ensures verdicts { (mailing : Mailing) (selected : Option Selected) (origin : Origin)
+        (mailbox : ℕ) (verdict : Verdict) → VerdictTellsUid selected origin mailbox verdict (on_verdict mailing selected origin mailbox verdict) }
 
     // No last line of a command, of an IDLE, or behind a literal tells one.
     ensures commands { (now : Standing) (command : Command) → TellsNoUid (answering now command) }

@@ -1,4 +1,4 @@
-use Rattle.std.proofs.Common.{Err, Ok, Some, None}
+use Rattle.std.proofs.Common.{Err, Ok}
 use Rattle.std.proofs.lemmas.Result.{err_from_is_err_and}
 use Rattle.imap_session.specs.Exchange.{Exchange, Feed}
 use Rattle.imap_session.specs.Commands.{move_done, unlimited}

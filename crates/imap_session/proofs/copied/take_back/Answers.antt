@@ -1,4 +1,4 @@
-use Rattle.std.proofs.Common.{◌≡◌, ◌∙◌, ◌==◌, true, false, length, Ok, Err, sym}
+use Rattle.std.proofs.Common.{◌∙◌, Ok, sym}
 use Rattle.std.proofs.lemmas.Result.{err_from_is_err_and}
 use Rattle.imap_session.specs.Commands.{says}
 use Rattle.imap_session.specs.Texts.{response_text}

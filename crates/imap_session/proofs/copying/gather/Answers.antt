@@ -1,14 +1,8 @@
-use Rattle.std.proofs.Common.{◌≡◌, ◌∙◌, ◌+◌, ◌<◌, ◌≤◌, drop, get_or, length, map, List, [], ℕ, subst, arith, ap, refl, sym, Ok, Err}
-use Rattle.std.specs.Prelude.{option_to_list}
+use Rattle.std.proofs.Common.{◌≡◌, ◌∙◌, ◌<◌, ◌≤◌, drop, get_or, length, [], ℕ, subst, arith, ap, sym}
 use Rattle.std.proofs.lemmas.List.{drop_all}
 use Rattle.std.proofs.lemmas.Result.{err_from_is_err_and}
-use Rattle.imap_grammar.specs.Sets.{named_at}
 use Rattle.imap_grammar.specs.declared.view.Named.{Named}
-use Rattle.imap_session.specs.Exchange.{Exchange, Mailing, Standing}
 use Rattle.imap_session.specs.Commands.{empty_batch, gathering}
-use Rattle.imap_session.specs.Response.{Response}
-use Rattle.imap_session.specs.inner.Copies.{batch_with}
-use Rattle.imap_session.specs.inner.Store.{Reaches}
 use Rattle.imap_session.proofs.Choosing.{as_many, message_at}
 use Rattle.imap_session.proofs.Copies.{gathers_more, passed_at, read_next, taken_at}
 use Rattle.imap_session.proofs.Runs.{reaches_here, reaches_then, stops_then}
@@ -61,7 +55,7 @@ loop-message-preserved g c = record {
       let uids = c.loop-message.uids.items in
       let left = c.loop-message.left.items in
       let within : i < length named = subst (λ (n : ℕ). i < n) (as_many view named c.args.messages.now are) c.loop-message-test.true in
-        let one = rw c.in-Ok.is at (c.in_ok-text.ensures response (get_or named i 0) (ap (λ (m : Named). m.uid) (message_at view named c.args.messages.now i _ are c.loop-message-test.true)) mailing most (taken_at mailing copy mailbox named i uids left) (passed_at mailing copy mailbox named i uids left)) in
+      let one = rw c.in-Ok.is at (c.in_ok-text.ensures response (get_or named i 0) (ap (λ (m : Named). m.uid) (message_at view named c.args.messages.now i _ are c.loop-message-test.true)) mailing most (taken_at mailing copy mailbox named i uids left) (passed_at mailing copy mailbox named i uids left)) in
       gathers_more g.S.Store.step tag now mailing copy mailbox named i uids left c.in-Ok.row _ _ _ _ _ _ response within (c.keep.ensures.uids (get_or named i 0) (ap (λ (m : Named). m.uid) (message_at view named c.args.messages.now i _ are c.loop-message-test.true))) c.keep.ensures.left
       (c.loop-message.invariant.runs response view named are mailing most mailbox tag now)
       (one tag now);

@@ -1,10 +1,10 @@
-use Rattle.std.proofs.Common.{◌≡◌, ◌∙◌, [], ◌++◌, length, map, List, ℕ, Err, Ok, ap, subst, sym}
+use Rattle.std.proofs.Common.{◌≡◌, ◌∙◌, [], List, ℕ, Err, ap, subst, sym}
 use Rattle.std.specs.Prelude.{reverse}
 use Rattle.std.proofs.lemmas.List.{reverse-reverse}
 use Rattle.mailbox.specs.declared.clients.Row.{Row}
 use Rattle.std.proofs.lemmas.Result.{err_from_is_err_and}
 use Rattle.imap_session.specs.declared.copying.Found.{Found}
-use Rattle.imap_session.specs.Commands.{completed, empty_batch, gathering, submitting, wanting}
+use Rattle.imap_session.specs.Commands.{completed, empty_batch, gathering, submitting}
 use Rattle.imap_session.specs.Exchange.{Batch}
 use Rattle.imap_session.specs.inner.Store.{Reaches}
 use Rattle.imap_grammar.specs.declared.command.Command.TheVariants as commands

@@ -1,11 +1,6 @@
-use Rattle.std.proofs.Common.{◌∙◌, ap, sym, subst, refl}
-use Rattle.imap_session.specs.Exchange.{Exchange, played}
-use Rattle.imap_session.specs.Commands.{copy_stored, says, taking_back, told_copied, with_validity}
-use Rattle.imap_session.specs.Texts.{response_text}
-use Rattle.imap_session.specs.declared.texts.ResponseText.TheVariants as texts
-use Rattle.imap_session.specs.inner.Lines.{Had}
+use Rattle.imap_session.specs.Commands.{copy_stored, told_copied, with_validity}
 use Rattle.imap_session.specs.inner.Seen.{batch_of}
-use Rattle.imap_session.proofs.Copies.{had_led_alone, had_played}
+use Rattle.imap_session.proofs.Copies.{had_led_alone}
 use Rattle.imap_session.proofs.session.Session.go_on.Goals as goal
 
 pub returns-in-Ok-clause-had : goal.returns-in-Ok-clause-had

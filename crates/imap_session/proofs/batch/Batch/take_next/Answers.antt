@@ -1,1 +1,0 @@
-use Rattle.imap_session.proofs.batch.Batch.take_next.Goals as goal
