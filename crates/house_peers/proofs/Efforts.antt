@@ -1,5 +1,5 @@
 -- How the work that is left becomes less.
-use Rattle.std.proofs.Common.{◌≡◌, Bool, true, nat_eq, sym, ℕ, ◌+◌, ◌*◌, ◌<◌, ◌≤◌, List, [], ◌∷◌, length, drop, refl, ap, ◌∙◌, arith, Option, Some, None, length-drop, append-nil}
+use Rattle.std.proofs.Common.{◌≡◌, ◌⊎◌, inl, inr, Bool, true, nat_eq, sym, ℕ, ◌+◌, ◌*◌, ◌<◌, ◌≤◌, List, [], ◌∷◌, length, drop, refl, ap, ◌∙◌, arith, Option, Some, None, length-drop, append-nil}
 use Rattle.change_ring.specs.Log.{no_flags}
 use Rattle.std.proofs.lemmas.Bool.{eqb-true}
 use Rattle.std.proofs.Math.Seq.{drop-length, drop-nil}
@@ -9,7 +9,11 @@ use Rattle.lmtp_machine.specs.declared.connection.What.{What}
 use Rattle.lmtp_machine.specs.declared.connection.What.TheVariants.{More, Submit, Quit}
 use Rattle.lmtp_machine.specs.Dialogue.{Submission}
 use Rattle.house_peers.specs.inner.Few.{AreFew}
-use Rattle.delivery_token.specs.Copies.{copies}
+use Rattle.std.specs.Option.{is_some}
+use Rattle.delivery_token.specs.Copies.{copies, put_effort}
+use Rattle.imap_session.specs.Exchange.{Sent}
+use Rattle.imap_session.specs.Store.{Follows, to_follow}
+use Rattle.house_peers.specs.SeatedVisitor as seated
 use Rattle.house_peers.specs.Caller.{copies_of}
 use Rattle.house_peers.specs.inner.Taking.{AwaitsIn}
 use Rattle.delivery_token.proofs.Copies.{length-copies}
@@ -45,3 +49,31 @@ empty_of (x ∷ xs) b e f = absurd (let y = eqb-true (length (x ∷ xs)) 0 (sym 
 
 pub all_dropped : (n : ℕ) (xs : List ℕ) → n ≡ length xs → drop n xs ≡ []
 all_dropped n xs e = ap (λ (m : ℕ). drop m xs) e ∙ drop-length xs
+
+-- ---- sessions
+
+no_due : (n seat serial : ℕ) → length (drop n (seated.copies_of seat serial None)) ≡ 0
+no_due n seat serial = ap length (drop-nil {A = Job} n)
+
+one_due : (n seat serial : ℕ) (sent : Option Sent) → length (drop n (seated.copies_of seat serial sent)) ≤ 1
+one_due n seat serial None = let e = no_due n seat serial in omega (arith, e)
+one_due n seat serial (Some sent) = let d = length-drop n (seated.copies_of seat serial (Some sent)) in omega (arith, d)
+
+-- nothing was submitted: where a message is now, a byte was taken for it, which outweighs all that follow it
+pub went_less : (n seat serial before after rest : ℕ) (old new : Option Sent) → old ≡ None → after ≤ before → (old ≡ None → is_some new ≡ true → after < before) → to_follow new < 32768
+    → 163841 * after + (put_effort (drop n (seated.copies_of seat serial new)) + 5 * to_follow new) ≤ 163841 * before + rest
+went_less n seat serial before after rest old None none l moves few = let d = no_due n seat serial in omega (arith, d, l)
+went_less n seat serial before after rest old (Some sent) none l moves few =
+    let d = one_due n seat serial (Some sent) in let m = moves none refl in omega (arith, d, m, few)
+
+-- The verdict was answered: where the next of a batch was submitted by that, nothing was taken, and one less follows.
+pub told_less : (n seat serial before after rest : ℕ) (old mid new : Option Sent) → Follows old mid → after ≤ before → (mid ≡ None → is_some new ≡ true → after < before) → to_follow new < 32768 → (is_some mid ≡ true → (after ≡ before) × (new ≡ mid))
+    → 163841 * after + (put_effort (drop n (seated.copies_of seat serial new)) + 5 * to_follow new) ≤ 163841 * before + (rest + 5 * to_follow old)
+told_less n seat serial before after rest old None new f l moves few same = went_less n seat serial before after (rest + 5 * to_follow old) None new refl l moves few
+told_less n seat serial before after rest old (Some sent) new (inl e) l moves few same = absurd (let x : Some sent ≡ None = e in cc)
+told_less n seat serial before after rest old (Some sent) new (inr e) l moves few same =
+    let s = same refl in
+    let many : to_follow new ≡ to_follow (Some sent) = ap to_follow s.1 in
+    let d = one_due n seat serial new in
+    let l = s.0 in
+    omega (arith, d, l, many, e)

@@ -1,34 +1,32 @@
 -- Numbers of messages only rise, whatever a session's store answers: each message that it submits has a number above those before.
 use Rattle.std.proofs.Common.{◌≡◌, ◌⊎◌, inl, inr, ℕ, zero, suc, ◌<◌, ◌≤◌, arith, Bool, true, false, List, [], ◌∷◌, length, refl, sym, ap, ◌∙◌, subst, Option, Some, None, Result, Ok, Err}
 use Rattle.std.specs.Prelude.{nat_lt, ◌==◌, ◌&&◌, if◌then◌else◌}
-use Rattle.std.specs.Option.{option_map}
-use Rattle.change_ring.specs.declared.change.Change.{Change}
-use Rattle.cursor_set.specs.Lines.{lines}
+use Rattle.change_ring.specs.declared.change.Flags.{Flags}
 use Rattle.delivery_token.specs.declared.Verdict.{Verdict}
 use Rattle.mailbox.specs.declared.clients.MailFault.TheVariants.{Stranger, Lapped, Spent, NoMemory}
 use Rattle.imap_grammar.specs.Reading.{read}
 use Rattle.imap_grammar.specs.declared.command.Command.{Command}
 use Rattle.imap_grammar.specs.declared.command.ImapFault.{ImapFault}
 use Rattle.imap_session.specs.declared.standing.After.{After}
-use Rattle.imap_session.specs.declared.standing.After.TheVariants.{Go, Bye}
-use Rattle.imap_session.specs.declared.standing.After.TheVariants as afters
 use Rattle.imap_session.specs.declared.standing.Selected.{Selected}
 use Rattle.imap_session.specs.Store.{IdleTurns}
-use Rattle.imap_session.specs.Exchange as ex
-use Rattle.imap_session.specs.Exchange.{Answer, PendingLiteral, Call, Entered, Looked, Found, Counted, Altered, Expunged, Fed, ForDone, ForLiteral, ForNothing, ForVerdict, Left, Mailing, Refused, Sent, Starved, Exchange, Standing, Turn, Waiting, closed, having, is_idling, played, refusal_after, refused, saying, waiting, Dropped}
+use Rattle.imap_session.specs.Exchange.{Answer, Discarded, PendingLiteral, Call, Entered, Looked, Found, Counted, Altered, Expunged, Fed, ForVerdict, Left, Mailing, Origin, Refused, Sent, Starved, Exchange, Standing, Turn, is_idling, played}
 use Rattle.imap_session.specs.Commands as commands_of
 use Rattle.imap_session.proofs.Barring.{line_has}
 use Rattle.imap_session.proofs.Parts.{rest_has, text_line_has}
 use Rattle.imap_session.specs.Texts.{response_text}
-use Rattle.imap_session.proofs.Unkept.{unkept_by}
+use Rattle.imap_session.proofs.Following.{TurnHas, WaitsSo, all_submit, played_has}
 use Rattle.imap_session.specs.Commands.{on_idle_line, on_rest, on_verdict, without_begun, without_sent}
 use Rattle.imap_session.specs.Dialogue as dialogue
 use Rattle.imap_session.specs.Dialogue.{AnswersLine, AnswersOne, Converses, Sends, goes_on, parts, reads, silent, too_long}
 
--- from one to the other the next number only rises, and a message that was submitted between has one of the numbers between
+-- from here the next number only rises, and a message that was submitted since has one of the numbers between
+abbrev pub RisesTo : Mailing → (number : ℕ) → (sent : Option Sent) → Type 0
+RisesTo now number sent = (now.number ≤ number) × ((s : Sent) → sent ≡ Some s → (now.sent ≡ Some s) ⊎ ((now.number ≤ s.append.message) × (s.append.message < number)))
+
+-- the same from one to the other
 abbrev pub NumbersRise : Mailing → Mailing → Type 0
-NumbersRise now next =
-    (now.number ≤ next.number) × ((s : Sent) → next.sent ≡ Some s → (now.sent ≡ Some s) ⊎ ((now.number ≤ s.append.message) × (s.append.message < next.number)))
+NumbersRise now next = RisesTo now next.number next.sent
 
 same_rises : (now next : Mailing) → next.number ≡ now.number → next.sent ≡ now.sent → NumbersRise now next
 same_rises now next e f = (omega (arith, e), λ s is. inl (sym f ∙ is))
@@ -46,192 +44,33 @@ then_rises a b c p q = let p0 = p.0 in let q0 = q.0 in (omega (arith, p0, q0), �
 
 -- ---- where an exchange leads
 
-closed_rises : (now : Standing) (how : After) → NumbersRise now.mailing (closed now how).standing.mailing
-closed_rises now Go = same_rises now.mailing now.mailing refl refl
-closed_rises now Bye = same_rises now.mailing now.mailing refl refl
-closed_rises now afters.Idle = same_rises now.mailing now.mailing refl refl
-closed_rises now (afters.Literal due) = same_rises now.mailing now.mailing refl refl
-closed_rises now afters.Submit = same_rises now.mailing now.mailing refl refl
+abbrev TurnRises : Mailing → Option Turn → Type 0
+TurnRises now = TurnHas (RisesTo now)
 
-waiting_rises : (tag : List ℕ) (waits : Waiting) (now : Standing) → NumbersRise now.mailing (waiting tag waits now).mailing
-waiting_rises tag ForDone now = same_rises now.mailing now.mailing refl refl
-waiting_rises tag (ForLiteral coming purpose size) now = same_rises now.mailing (waiting tag (ForLiteral coming purpose size) now).mailing refl refl
-waiting_rises tag (ForVerdict origin mailbox flags text) now = (
+-- a message that is submitted has the next number
+submit_rises : (tag : List ℕ) (now : Mailing) (origin : Origin) (mailbox : ℕ) (flags : Flags) (text : List ℕ) → WaitsSo (RisesTo now) tag now.number (ForVerdict origin mailbox flags text)
+submit_rises tag now origin mailbox flags text = (
   omega arith,
-  λ s is. let e : record { tag = tag; append = record { message = now.mailing.number; mailbox = mailbox; text = text; flags = flags }; origin = origin } ≡ s = cc in let m : now.mailing.number ≡ s.append.message = ap (λ (x : Sent). x.append.message) e in
+  λ s is. let e : record { tag = tag; append = record { message = now.number; mailbox = mailbox; text = text; flags = flags }; origin = origin } ≡ s = cc in let m : now.number ≡ s.append.message = ap (λ (x : Sent). x.append.message) e in
       inr (omega (arith, m), omega (arith, m)),
 )
-waiting_rises tag ForNothing now = same_rises now.mailing now.mailing refl refl
-
-TurnRises : Mailing → Option Turn → Type 0
-TurnRises now None = Unit {0}
-TurnRises now (Some turn) = NumbersRise now turn.standing.mailing
-
-then_having : (now : Mailing) (call : Call) (answer : Answer) (o : Option Turn) → TurnRises now o → TurnRises now (option_map (having call answer) o)
-unfolding TurnRises
-then_having now call answer None p = tt
-then_having now call answer (Some turn) p = p
-
-then_saying : (now : Mailing) (bytes : List ℕ) (o : Option Turn) → TurnRises now o → TurnRises now (option_map (saying bytes) o)
-unfolding TurnRises
-then_saying now bytes None p = tt
-then_saying now bytes (Some turn) p = p
-
-then_showing : (now : Mailing) (call : Call) (answer : Answer) (view : List ℕ) (changes : List Change) (o : Option Turn) → TurnRises now o → TurnRises now (option_map (λ turn. having call answer (saying (lines view changes) turn)) o)
-unfolding TurnRises
-then_showing now call answer view changes None p = tt
-then_showing now call answer view changes (Some turn) p = p
 
 -- from another that has the same number and the same message
 again : (a b : Mailing) (o : Option Turn) → NumbersRise b a → TurnRises a o → TurnRises b o
-unfolding TurnRises
 again a b None p q = tt
 again a b (Some turn) p q = then_rises b a turn.standing.mailing p q
 
 played_rises : (tag : List ℕ) (now : Standing) (x : Exchange) (answers : List Answer) → TurnRises now.mailing (played tag now x answers)
-unfolding TurnRises
-played_rises tag now (ex.Done words how) [] = closed_rises now how
-played_rises tag now (ex.Done words how) (answer ∷ more) = tt
-played_rises tag now (ex.Wait bytes waits) [] = waiting_rises tag waits now
-played_rises tag now (ex.Wait bytes waits) ((Entered a) ∷ more) = tt
-played_rises tag now (ex.Wait bytes waits) ((Looked a) ∷ more) = tt
-played_rises tag now (ex.Wait bytes waits) ((Found a) ∷ more) = tt
-played_rises tag now (ex.Wait bytes waits) ((Counted a) ∷ more) = tt
-played_rises tag now (ex.Wait bytes waits) ((Altered a) ∷ more) = tt
-played_rises tag now (ex.Wait bytes waits) ((Expunged a b c) ∷ more) = tt
-played_rises tag now (ex.Wait bytes waits) ((Fed a b) ∷ more) = tt
-played_rises tag now (ex.Wait bytes waits) ((Left a) ∷ more) = tt
-played_rises tag now (ex.Wait bytes waits) ((Refused a) ∷ more) = tt
-played_rises tag now (ex.Wait bytes waits) (Starved n ∷ []) =
-    unkept_by (TurnRises now.mailing) tt tag now (closed_rises now (refusal_after NoMemory)) (λ purpose size. waiting_rises tag (ForLiteral Dropped purpose size) now) (waiting_rises tag ForNothing now) waits n
-played_rises tag now (ex.Wait bytes waits) (Starved n ∷ d ∷ more) = tt
-played_rises tag now (ex.Write bytes x) [] = then_saying now.mailing bytes (played tag now x []) (played_rises tag now x [])
-played_rises tag now (ex.Write bytes x) ((Entered a) ∷ more) = then_saying now.mailing bytes (played tag now x ((Entered a) ∷ more)) (played_rises tag now x ((Entered a) ∷ more))
-played_rises tag now (ex.Write bytes x) ((Looked a) ∷ more) = then_saying now.mailing bytes (played tag now x ((Looked a) ∷ more)) (played_rises tag now x ((Looked a) ∷ more))
-played_rises tag now (ex.Write bytes x) ((Found a) ∷ more) = then_saying now.mailing bytes (played tag now x ((Found a) ∷ more)) (played_rises tag now x ((Found a) ∷ more))
-played_rises tag now (ex.Write bytes x) ((Counted a) ∷ more) = then_saying now.mailing bytes (played tag now x ((Counted a) ∷ more)) (played_rises tag now x ((Counted a) ∷ more))
-played_rises tag now (ex.Write bytes x) ((Altered a) ∷ more) = then_saying now.mailing bytes (played tag now x ((Altered a) ∷ more)) (played_rises tag now x ((Altered a) ∷ more))
-played_rises tag now (ex.Write bytes x) ((Expunged a b c) ∷ more) = then_saying now.mailing bytes (played tag now x ((Expunged a b c) ∷ more)) (played_rises tag now x ((Expunged a b c) ∷ more))
-played_rises tag now (ex.Write bytes x) ((Fed a b) ∷ more) = then_saying now.mailing bytes (played tag now x ((Fed a b) ∷ more)) (played_rises tag now x ((Fed a b) ∷ more))
-played_rises tag now (ex.Write bytes x) ((Left a) ∷ more) = then_saying now.mailing bytes (played tag now x ((Left a) ∷ more)) (played_rises tag now x ((Left a) ∷ more))
-played_rises tag now (ex.Write bytes x) ((Refused a) ∷ more) = then_saying now.mailing bytes (played tag now x ((Refused a) ∷ more)) (played_rises tag now x ((Refused a) ∷ more))
-played_rises tag now (ex.Write bytes x) (Starved zero ∷ []) = closed_rises now (refusal_after NoMemory)
-played_rises tag now (ex.Write bytes x) (Starved zero ∷ d ∷ more) = then_saying now.mailing bytes (played tag now x (Starved zero ∷ d ∷ more)) (played_rises tag now x (Starved zero ∷ d ∷ more))
-played_rises tag now (ex.Write bytes x) (Starved (suc a) ∷ []) = then_saying now.mailing bytes (played tag now x (Starved a ∷ [])) (played_rises tag now x (Starved a ∷ []))
-played_rises tag now (ex.Write bytes x) (Starved (suc a) ∷ d ∷ more) = then_saying now.mailing bytes (played tag now x (Starved (suc a) ∷ d ∷ more)) (played_rises tag now x (Starved (suc a) ∷ d ∷ more))
-played_rises tag now (ex.Put bytes x) answers = then_saying now.mailing bytes (played tag now x answers) (played_rises tag now x answers)
-played_rises tag now (ex.Enter selected next) [] = tt
-played_rises tag now (ex.Enter selected next) ((Entered a) ∷ more) = then_having now.mailing (ex.Enter selected.mailbox) (Entered a) (played tag (record now { selected = Some selected }) (next a) more) (played_rises tag (record now { selected = Some selected }) (next a) more)
-played_rises tag now (ex.Enter selected next) ((Looked a) ∷ more) = tt
-played_rises tag now (ex.Enter selected next) ((Found a) ∷ more) = tt
-played_rises tag now (ex.Enter selected next) ((Counted a) ∷ more) = tt
-played_rises tag now (ex.Enter selected next) ((Altered a) ∷ more) = tt
-played_rises tag now (ex.Enter selected next) ((Expunged a b c) ∷ more) = tt
-played_rises tag now (ex.Enter selected next) ((Fed a b) ∷ more) = tt
-played_rises tag now (ex.Enter selected next) ((Left a) ∷ more) = tt
-played_rises tag now (ex.Enter selected next) (Refused a ∷ []) = closed_rises now (refusal_after a)
-played_rises tag now (ex.Enter selected next) (Refused a ∷ d ∷ more) = tt
-played_rises tag now (ex.Enter selected next) ((Starved zero) ∷ more) = tt
-played_rises tag now (ex.Enter selected next) ((Starved (suc a)) ∷ more) = tt
-played_rises tag now (ex.Look by_uid set next) [] = tt
-played_rises tag now (ex.Look by_uid set next) ((Entered a) ∷ more) = tt
-played_rises tag now (ex.Look by_uid set next) ((Looked a) ∷ more) = then_having now.mailing (ex.Look by_uid set) (Looked a) (played tag now (next a) more) (played_rises tag now (next a) more)
-played_rises tag now (ex.Look by_uid set next) ((Found a) ∷ more) = tt
-played_rises tag now (ex.Look by_uid set next) ((Counted a) ∷ more) = tt
-played_rises tag now (ex.Look by_uid set next) ((Altered a) ∷ more) = tt
-played_rises tag now (ex.Look by_uid set next) ((Expunged a b c) ∷ more) = tt
-played_rises tag now (ex.Look by_uid set next) ((Fed a b) ∷ more) = tt
-played_rises tag now (ex.Look by_uid set next) ((Left a) ∷ more) = tt
-played_rises tag now (ex.Look by_uid set next) (Refused a ∷ []) = closed_rises now (refusal_after a)
-played_rises tag now (ex.Look by_uid set next) (Refused a ∷ d ∷ more) = tt
-played_rises tag now (ex.Look by_uid set next) (Starved a ∷ more) = tt
-played_rises tag now (ex.Read uid mark next) [] = tt
-played_rises tag now (ex.Read uid mark next) ((Entered a) ∷ more) = tt
-played_rises tag now (ex.Read uid mark next) ((Looked a) ∷ more) = tt
-played_rises tag now (ex.Read uid mark next) ((Found a) ∷ more) = then_having now.mailing (ex.Read uid mark) (Found a) (played tag now (next a) more) (played_rises tag now (next a) more)
-played_rises tag now (ex.Read uid mark next) ((Counted a) ∷ more) = tt
-played_rises tag now (ex.Read uid mark next) ((Altered a) ∷ more) = tt
-played_rises tag now (ex.Read uid mark next) ((Expunged a b c) ∷ more) = tt
-played_rises tag now (ex.Read uid mark next) ((Fed a b) ∷ more) = tt
-played_rises tag now (ex.Read uid mark next) ((Left a) ∷ more) = tt
-played_rises tag now (ex.Read uid mark next) (Refused a ∷ []) = closed_rises now (refusal_after a)
-played_rises tag now (ex.Read uid mark next) (Refused a ∷ d ∷ more) = tt
-played_rises tag now (ex.Read uid mark next) ((Starved zero) ∷ more) = tt
-played_rises tag now (ex.Read uid mark next) ((Starved (suc a)) ∷ more) = tt
-played_rises tag now (ex.Count mailbox next) [] = tt
-played_rises tag now (ex.Count mailbox next) ((Entered a) ∷ more) = tt
-played_rises tag now (ex.Count mailbox next) ((Looked a) ∷ more) = tt
-played_rises tag now (ex.Count mailbox next) ((Found a) ∷ more) = tt
-played_rises tag now (ex.Count mailbox next) ((Counted a) ∷ more) = then_having now.mailing (ex.Count mailbox) (Counted a) (played tag now (next a) more) (played_rises tag now (next a) more)
-played_rises tag now (ex.Count mailbox next) ((Altered a) ∷ more) = tt
-played_rises tag now (ex.Count mailbox next) ((Expunged a b c) ∷ more) = tt
-played_rises tag now (ex.Count mailbox next) ((Fed a b) ∷ more) = tt
-played_rises tag now (ex.Count mailbox next) ((Left a) ∷ more) = tt
-played_rises tag now (ex.Count mailbox next) (Refused a ∷ []) = closed_rises now (refusal_after a)
-played_rises tag now (ex.Count mailbox next) (Refused a ∷ d ∷ more) = tt
-played_rises tag now (ex.Count mailbox next) ((Starved zero) ∷ more) = tt
-played_rises tag now (ex.Count mailbox next) ((Starved (suc a)) ∷ more) = tt
-played_rises tag now (ex.Alter uid op next) [] = tt
-played_rises tag now (ex.Alter uid op next) ((Entered a) ∷ more) = tt
-played_rises tag now (ex.Alter uid op next) ((Looked a) ∷ more) = tt
-played_rises tag now (ex.Alter uid op next) ((Found a) ∷ more) = tt
-played_rises tag now (ex.Alter uid op next) ((Counted a) ∷ more) = tt
-played_rises tag now (ex.Alter uid op next) ((Altered a) ∷ more) = then_having now.mailing (ex.Alter uid op) (Altered a) (played tag now (next a) more) (played_rises tag now (next a) more)
-played_rises tag now (ex.Alter uid op next) ((Expunged a b c) ∷ more) = tt
-played_rises tag now (ex.Alter uid op next) ((Fed a b) ∷ more) = tt
-played_rises tag now (ex.Alter uid op next) ((Left a) ∷ more) = tt
-played_rises tag now (ex.Alter uid op next) (Refused a ∷ []) = closed_rises now (refusal_after a)
-played_rises tag now (ex.Alter uid op next) (Refused a ∷ d ∷ more) = tt
-played_rises tag now (ex.Alter uid op next) ((Starved zero) ∷ more) = tt
-played_rises tag now (ex.Alter uid op next) ((Starved (suc a)) ∷ more) = tt
-played_rises tag now (ex.Expunge uids x) [] = tt
-played_rises tag now (ex.Expunge uids x) ((Entered a) ∷ more) = tt
-played_rises tag now (ex.Expunge uids x) ((Looked a) ∷ more) = tt
-played_rises tag now (ex.Expunge uids x) ((Found a) ∷ more) = tt
-played_rises tag now (ex.Expunge uids x) ((Counted a) ∷ more) = tt
-played_rises tag now (ex.Expunge uids x) ((Altered a) ∷ more) = tt
-played_rises tag now (ex.Expunge uids x) ((Expunged a b c) ∷ more) = then_showing now.mailing (ex.Expunge uids) (Expunged a b c) a b (played tag now x more) (played_rises tag now x more)
-played_rises tag now (ex.Expunge uids x) ((Fed a b) ∷ more) = tt
-played_rises tag now (ex.Expunge uids x) ((Left a) ∷ more) = tt
-played_rises tag now (ex.Expunge uids x) (Refused a ∷ []) = closed_rises now (refusal_after a)
-played_rises tag now (ex.Expunge uids x) (Refused a ∷ d ∷ more) = tt
-played_rises tag now (ex.Expunge uids x) ((Starved zero) ∷ more) = tt
-played_rises tag now (ex.Expunge uids x) ((Starved (suc a)) ∷ more) = tt
-played_rises tag now (ex.Feed limit x) [] = tt
-played_rises tag now (ex.Feed limit x) ((Entered a) ∷ more) = tt
-played_rises tag now (ex.Feed limit x) ((Looked a) ∷ more) = tt
-played_rises tag now (ex.Feed limit x) ((Found a) ∷ more) = tt
-played_rises tag now (ex.Feed limit x) ((Counted a) ∷ more) = tt
-played_rises tag now (ex.Feed limit x) ((Altered a) ∷ more) = tt
-played_rises tag now (ex.Feed limit x) ((Expunged a b c) ∷ more) = tt
-played_rises tag now (ex.Feed limit x) ((Fed a b) ∷ more) = then_showing now.mailing (ex.Feed limit) (Fed a b) a b (played tag now x more) (played_rises tag now x more)
-played_rises tag now (ex.Feed limit x) ((Left a) ∷ more) = tt
-played_rises tag now (ex.Feed limit x) (Refused a ∷ []) = closed_rises now (refusal_after a)
-played_rises tag now (ex.Feed limit x) (Refused a ∷ d ∷ more) = tt
-played_rises tag now (ex.Feed limit x) ((Starved zero) ∷ more) = tt
-played_rises tag now (ex.Feed limit x) ((Starved (suc a)) ∷ more) = tt
-played_rises tag now (ex.Leave remove x) [] = tt
-played_rises tag now (ex.Leave remove x) ((Entered a) ∷ more) = tt
-played_rises tag now (ex.Leave remove x) ((Looked a) ∷ more) = tt
-played_rises tag now (ex.Leave remove x) ((Found a) ∷ more) = tt
-played_rises tag now (ex.Leave remove x) ((Counted a) ∷ more) = tt
-played_rises tag now (ex.Leave remove x) ((Altered a) ∷ more) = tt
-played_rises tag now (ex.Leave remove x) ((Expunged a b c) ∷ more) = tt
-played_rises tag now (ex.Leave remove x) ((Fed a b) ∷ more) = tt
-played_rises tag now (ex.Leave remove x) ((Left a) ∷ more) = then_having now.mailing (ex.Leave remove) (Left a) (played tag (record now { selected = None }) x more) (played_rises tag (record now { selected = None }) x more)
-played_rises tag now (ex.Leave remove x) (Refused a ∷ []) = closed_rises now (refusal_after a)
-played_rises tag now (ex.Leave remove x) (Refused a ∷ d ∷ more) = tt
-played_rises tag now (ex.Leave remove x) ((Starved zero) ∷ more) = tt
-played_rises tag now (ex.Leave remove x) ((Starved (suc a)) ∷ more) = tt
+played_rises tag now x answers =
+    played_has (RisesTo now.mailing) tag now x answers (same_rises now.mailing now.mailing refl refl)
+    (all_submit (RisesTo now.mailing) tag now.mailing.number (λ origin mailbox flags text. submit_rises tag now.mailing origin mailbox flags text) x)
 
 -- ---- lines, bytes and verdicts
 
 some_rises : (now : Mailing) (o : Option Turn) (turn : Turn) → TurnRises now o → o ≡ Some turn → NumbersRise now turn.standing.mailing
-unfolding TurnRises
 some_rises now o turn p e = subst (TurnRises now) e p
 
 fault_rises : (fault : ImapFault) (now : Standing) (answers : List Answer) → TurnRises now.mailing (commands_of.on_read now (Err fault) answers)
-unfolding TurnRises
 fault_rises fault now [] = same_rises now.mailing now.mailing refl refl
 fault_rises fault now (answer ∷ more) = tt
 
@@ -275,13 +114,13 @@ converses_rise step now sent old new said how next (parts a b one c d x e stops 
 converses_rise step now sent old new said how next (goes_on a between b one others c mid d first second e follows answered more) =
     then_rises now.mailing between.mailing next.mailing (one_rises step now one old mid [] first _ between answered) (converses_rise step between others mid new second how next more)
 
--- behind a verdict the number of the next message is what it was or above
-pub verdict_rises : (now : Standing) (verdict : Verdict) (answers : List Answer) (turn : Turn) → commands_of.turn_of_verdict now verdict answers ≡ Some turn → now.mailing.number ≤ turn.standing.mailing.number
+-- behind a verdict the number of the next message is what it was or above, and so is that of one that was submitted then
+pub verdict_rises : (now : Standing) (verdict : Verdict) (answers : List Answer) (turn : Turn) → commands_of.turn_of_verdict now verdict answers ≡ Some turn → NumbersRise (without_sent now).mailing turn.standing.mailing
 verdict_rises now verdict answers turn e = of now.mailing.sent e
   where
-    of : (sent : Option Sent) → commands_of.turn_with sent now verdict answers ≡ Some turn → now.mailing.number ≤ turn.standing.mailing.number
+    of : (sent : Option Sent) → commands_of.turn_with sent now verdict answers ≡ Some turn → NumbersRise (without_sent now).mailing turn.standing.mailing
     of None e = absurd (let x : None ≡ Some turn = e in cc)
-    of (Some sent) e = (some_rises (without_sent now).mailing _ turn (played_rises sent.tag (without_sent now) (on_verdict now.selected sent.origin sent.append.mailbox verdict) answers) e).0
+    of (Some sent) e = some_rises (without_sent now).mailing _ turn (played_rises sent.tag (without_sent now) (on_verdict now.mailing now.selected sent.origin sent.append.mailbox verdict) answers) e
 
 -- ---- turns while it idles
 
@@ -306,6 +145,7 @@ idle_keeps (Some s) true now ((Expunged a b c) ∷ more) = tt
 idle_keeps (Some s) true now (Fed a b ∷ []) = refl
 idle_keeps (Some s) true now (Fed a b ∷ d ∷ more) = tt
 idle_keeps (Some s) true now ((Left a) ∷ more) = tt
+idle_keeps (Some s) true now (Discarded ∷ more) = tt
 idle_keeps (Some s) true now (Refused Lapped ∷ []) = refl
 idle_keeps (Some s) true now (Refused Lapped ∷ d ∷ more) = tt
 idle_keeps (Some s) true now (Refused Stranger ∷ []) = refl

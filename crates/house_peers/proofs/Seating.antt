@@ -10,15 +10,17 @@ use Rattle.delivery_token.specs.Laws.{TellPositions}
 use Rattle.delivery_token.specs.Verdicts.{AreKnown, Hears}
 use Rattle.delivery_token.proofs.Copies.{all_put, no-key}
 use Rattle.delivery_token.proofs.Slots.{all-full, heard-for, hears_slots, no-slots}
-use Rattle.imap_session.specs.Exchange.{Call, Answer, Mailing, Sent, Standing, may_send}
-use Rattle.imap_session.specs.Dialogue.{may_follow}
+use Rattle.imap_session.specs.declared.standing.After.{After}
+use Rattle.imap_session.specs.Exchange.{Call, Answer, Mailing, Sent, Standing, Turn, may_send}
+use Rattle.imap_session.specs.Commands.{turn_of_verdict, without_sent}
+use Rattle.imap_session.specs.Dialogue.{Converses, Sends, may_follow}
 use Rattle.house_peers.specs.Visitor.{HasAnswered, Visitor}
 use Rattle.house_peers.specs.HouseSession as place
 use Rattle.house_peers.specs.HouseSession.{Answered, AnsweredVerdict, HouseSession, Turned}
 use Rattle.house_peers.specs.SeatedVisitor.{Awaits, IsAnswered, IsSettled, SeatedVisitor, Works, copies_of, keys_of, sent_by, told}
 use Rattle.house_peers.specs.SeatedVisitor as seated
 use Rattle.delivery_token.specs.Keys.{AtLeast, Below}
-use Rattle.house_peers.proofs.Rising.{NumbersRise, converses_rise, idles_keep, verdict_rises}
+use Rattle.house_peers.proofs.Rising.{NumbersRise, converses_rise, idles_keep, then_rises, verdict_rises}
 use Rattle.house_peers.specs.SeatedSession.{HearsVerdict, key_with, Proceeded, SeatedTurned, SeatedSession, StandsForSeated, submitted_at, with_nobody_there, with_place}
 use Rattle.house_peers.proofs.Going.{awaiting_rests, ended_rests}
 
@@ -109,10 +111,15 @@ record Went {S : Type 0} (step : S → Call → Answer → S → Type 0) (whole 
   pub all : whole ≡ true → HasAnswered after.session
   pub stands : StandsForSeated seat next heard p after
 
-went : {S : Type 0} (step : S → Call → Answer → S → Type 0) (whole : Bool) (seat : ℕ) (next : CopyKey) (heard : List Noted) (v : SeatedVisitor) (old new : S) (p : SeatedSession) (q : HouseSession) → StandsForSeated seat next heard p v → sent_by v ≡ None
-    → Answered step whole v.session old new q → Went step whole seat next heard v old new (with_place q p)
-went step whole seat next heard v old new p q s none a =
-    let empty = none_kept seat v.serial heard (sent_by v) p.slots none s.verdicts in
+-- a message that is submitted has one of these numbers
+abbrev IsBetween : (from below : ℕ) → (sent : Option Sent) → Type 0
+IsBetween from below sent = (x : Sent) → sent ≡ Some x → (from ≤ x.append.message) × (x.append.message < below)
+
+-- nothing is kept of a message before, and what was submitted since has a number from here on
+went_from : {S : Type 0} (step : S → Call → Answer → S → Type 0) (whole : Bool) (seat : ℕ) (next : CopyKey) (heard : List Noted) (v : SeatedVisitor) (old new : S) (p : SeatedSession) (q : HouseSession) (from : ℕ) → p.number ≡ seat → p.serial ≡ v.serial → p.gone ≡ v.gone
+    → p.slots ≡ [] → AtLeast next (record { seat = seat; serial = v.serial; message = from; recipient = 0 }) → (a : Answered step whole v.session old new q) → from ≤ a.after.standing.mailing.number → IsBetween from a.after.standing.mailing.number a.after.standing.mailing.sent
+    → Went step whole seat next heard v old new (with_place q p)
+went_from step whole seat next heard v old new p q from number serial gone empty ahead a later between =
     let sent : Option Sent = a.after.standing.mailing.sent in
     record {
       after = record { session = a.after; serial = v.serial; gone = v.gone; to_put = copies_of seat v.serial sent };
@@ -123,30 +130,31 @@ went step whole seat next heard v old new p q s none a =
       stands = record {
         place = λ live. a.stands;
         submitted = ap (λ (x : Standing). x.mailing.sent) a.stands.connection.session;
-        number = s.number;
-        serial = s.serial;
-        gone = s.gone;
+        number = number;
+        serial = serial;
+        gone = gone;
         to_put = ap (λ (slots : List (Option Verdict)). drop (length slots) (copies_of seat v.serial sent)) (sym empty);
         verdicts = subst (λ (slots : List (Option Verdict)). SlotsFor heard (keys_of seat v.serial sent) slots) (sym empty) (no-slots heard (keys_of seat v.serial sent));
-        numbered = λ x is. below x (rises.1 x is);
+        numbered = λ x is. (between x is).1;
         ahead = subst (λ (slots : List (Option Verdict)). AtLeast next (key_with seat v.serial a.after.standing.mailing.number sent slots)) (sym empty)
-            (rises_on next seat v.serial v.session.standing.mailing.number a.after.standing.mailing.number sent (ahead_unsent seat next v.serial v.session.standing.mailing.number (sent_by v) p.slots none s.ahead) rises.0 (λ x is. later x (rises.1 x is)));
+            (rises_on next seat v.serial from a.after.standing.mailing.number sent ahead later (λ x is. (between x is).0));
       };
     }
+
+went : {S : Type 0} (step : S → Call → Answer → S → Type 0) (whole : Bool) (seat : ℕ) (next : CopyKey) (heard : List Noted) (v : SeatedVisitor) (old new : S) (p : SeatedSession) (q : HouseSession) → StandsForSeated seat next heard p v → sent_by v ≡ None
+    → Answered step whole v.session old new q → Went step whole seat next heard v old new (with_place q p)
+went step whole seat next heard v old new p q s none a =
+    let empty = none_kept seat v.serial heard (sent_by v) p.slots none s.verdicts in
+    went_from step whole seat next heard v old new p q v.session.standing.mailing.number s.number s.serial s.gone empty
+    (ahead_unsent seat next v.serial v.session.standing.mailing.number (sent_by v) p.slots none s.ahead) a rises.0 (λ x is. of x (rises.1 x is))
   where
     rises : NumbersRise v.session.standing.mailing a.after.standing.mailing
     rises = converses_rise step v.session.standing a.answers.sent old new a.said a.answers.how a.after.standing a.answers.converses
 
-    no_such : (x : Sent) → sent_by v ≡ Some x → ⊥
-    no_such x is = let e : None ≡ Some x = sym none ∙ is in cc
-
-    below : (x : Sent) → (sent_by v ≡ Some x) ⊎ ((v.session.standing.mailing.number ≤ x.append.message) × (x.append.message < a.after.standing.mailing.number)) → x.append.message < a.after.standing.mailing.number
-    below x (inl is) = absurd (no_such x is)
-    below x (inr r) = r.1
-
-    later : (x : Sent) → (sent_by v ≡ Some x) ⊎ ((v.session.standing.mailing.number ≤ x.append.message) × (x.append.message < a.after.standing.mailing.number)) → v.session.standing.mailing.number ≤ x.append.message
-    later x (inl is) = absurd (no_such x is)
-    later x (inr r) = r.0
+    of : (x : Sent) → (sent_by v ≡ Some x) ⊎ ((v.session.standing.mailing.number ≤ x.append.message) × (x.append.message < a.after.standing.mailing.number))
+        → (v.session.standing.mailing.number ≤ x.append.message) × (x.append.message < a.after.standing.mailing.number)
+    of x (inl is) = absurd (let e : None ≡ Some x = sym none ∙ is in cc)
+    of x (inr r) = r
 
 -- nothing was submitted: it answers what waits
 pub worked : {S : Type 0} (step : S → Call → Answer → S → Type 0) (whole : Bool) (seat : ℕ) (next : CopyKey) (heard : List Noted) (v : SeatedVisitor) (old new : S) (p : SeatedSession) (q : HouseSession) → StandsForSeated seat next heard p v → p.gone ≡ false
@@ -156,29 +164,32 @@ worked step whole seat next heard v old new p q s there none goes =
     let w = went step whole seat next heard v old new p q s unsent (goes v.session (s.place there)) in
     record { after = w.after; said = w.said; proceeds = seated.talks (sym s.gone ∙ there) (seated.works unsent w.works); kept = w.kept; all = λ all live. w.all all; stands = w.stands }
 
--- the verdict is known: it answers that, and then what waits
+-- behind a verdict, and what was answered then, a message that was submitted has a number that no message before had
+between_told : {S : Type 0} (step : S → Call → Answer → S → Type 0) (now mid next : Standing) (verdict : Verdict) (answers : List Answer) (turn : Turn) (sent : List Sends) (old new : S) (said : List ℕ) (how : After)
+    → turn_of_verdict now verdict answers ≡ Some turn → turn.standing ≡ mid → Converses step mid sent old new said how next → (now.mailing.number ≤ next.mailing.number) × IsBetween now.mailing.number next.mailing.number next.mailing.sent
+between_told step now mid next verdict answers turn sent old new said how played same c =
+    let first : NumbersRise (without_sent now).mailing mid.mailing = subst (λ (x : Standing). NumbersRise (without_sent now).mailing x.mailing) same (verdict_rises now verdict answers turn played) in
+    let second = then_rises (without_sent now).mailing mid.mailing next.mailing first (converses_rise step mid sent old new said how next c) in
+    (second.0, λ x is. of x (second.1 x is))
+  where
+    of : (x : Sent) → (None ≡ Some x) ⊎ ((now.mailing.number ≤ x.append.message) × (x.append.message < next.mailing.number)) → (now.mailing.number ≤ x.append.message) × (x.append.message < next.mailing.number)
+    of x (inl is) = absurd (let e : None ≡ Some x = is in cc)
+    of x (inr r) = r
+
+-- The verdict is known: it answers that, and then what waits. Where the next message of a batch was submitted by that, nothing is answered behind it.
 pub told_and_worked : {S : Type 0} (step : S → Call → Answer → S → Type 0) (whole : Bool) (seat : ℕ) (next : CopyKey) (heard : List Noted) (v : SeatedVisitor) (old mid new : S) (p : SeatedSession) (q r : HouseSession) (verdict : Verdict) → StandsForSeated seat next heard p v
-    → p.gone ≡ false → p.place.link.session.ended ≡ false → is_some p.place.link.session.mailing.sent ≡ true → AreKnown 1 p.slots (verdict ∷ []) → ((w : Visitor) → place.StandsFor p.place w → AnsweredVerdict step verdict w old mid q) → q.link.session.mailing.sent ≡ None
+    → p.gone ≡ false → p.place.link.session.ended ≡ false → is_some p.place.link.session.mailing.sent ≡ true → AreKnown 1 p.slots (verdict ∷ []) → ((w : Visitor) → place.StandsFor p.place w → AnsweredVerdict step verdict w old mid q)
     → ((w : Visitor) → place.StandsFor q w → Answered step whole w mid new r) → Proceeded step whole seat next heard v old new (record { place = r; number = p.number; serial = p.serial; gone = p.gone; slots = [] })
-told_and_worked step whole seat next heard v old mid new p q r verdict s there live sent known tells done goes =
+told_and_worked step whole seat next heard v old mid new p q r verdict s there live sent known tells goes =
     let a = tells v.session (s.place there) in
+    let number : ℕ = v.session.standing.mailing.number in
     let awaited : is_some (sent_by v) ≡ true = ap (λ (o : Option Sent). is_some o) (sym s.submitted) ∙ sent in
-    let unsent : a.after.standing.mailing.sent ≡ None = ap (λ (x : Standing). x.mailing.sent) (sym a.stands.connection.session) ∙ done in
     let between : SeatedVisitor = record { session = a.after; serial = v.serial; gone = v.gone; to_put = [] } in
     let here : SeatedSession = record { place = q; number = p.number; serial = p.serial; gone = p.gone; slots = [] } in
-    let at : StandsForSeated seat next heard here between = record {
-      place = λ live. a.stands;
-      submitted = ap (λ (x : Standing). x.mailing.sent) a.stands.connection.session;
-      number = s.number;
-      serial = s.serial;
-      gone = s.gone;
-      to_put = ap (copies_of seat v.serial) (sym unsent);
-      verdicts = no-slots heard (keys_of seat v.serial a.after.standing.mailing.sent);
-      numbered = λ x is. absurd (let e : None ≡ Some x = sym unsent ∙ is in cc);
-      ahead = subst (λ (o : Option Sent). AtLeast next (key_with seat v.serial a.after.standing.mailing.number o [])) (sym unsent)
-          (ahead_told seat next v.serial v.session.standing.mailing.number a.after.standing.mailing.number (sent_by v) p.slots awaited s.numbered (verdict_rises v.session.standing verdict a.answered.answers _ a.answered.played) s.ahead);
-    } in
-    let w = went step whole seat next heard between mid new here r at unsent (goes a.after a.stands) in
+    let b = goes a.after a.stands in
+    let rises = between_told step v.session.standing a.after.standing b.after.standing verdict a.answered.answers _ b.answers.sent mid new b.said b.answers.how a.answered.played refl b.answers.converses in
+    let ahead = ahead_told seat next v.serial number number (sent_by v) p.slots awaited s.numbered (omega arith) s.ahead in
+    let w = went_from step whole seat next heard between mid new here r number s.number s.serial s.gone refl ahead b rises.0 rises.1 in
     let x = w.works.answers in
     let works : Works step seat (told v a.after.standing) mid new w.after w.said = record { answers = record { sent = x.sent; how = x.how; waited = sym a.waits ∙ x.waited; converses = x.converses }; is = w.works.is } in
     let answered : IsAnswered seat heard v verdict = subst (λ (jobs : List _). AreAnswered heard jobs (keys_of seat v.serial (sent_by v)) (verdict ∷ [])) (sym s.to_put) (answered_of seat v.serial heard (sent_by v) p.slots verdict awaited s.verdicts known) in

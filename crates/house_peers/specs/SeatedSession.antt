@@ -12,7 +12,7 @@ use Rattle.delivery_token.specs.Heard.{SlotsFor}
 use Rattle.delivery_token.specs.Verdicts as verdicts
 use Rattle.delivery_token.specs.Verdicts.{Hears}
 use Rattle.imap_session.specs.Exchange.{Call, Answer, Sent}
-use Rattle.imap_session.specs.Store.{IdleTurns}
+use Rattle.imap_session.specs.Store.{IdleTurns, to_follow}
 use Rattle.house_peers.specs.Visitor.{HasAnswered, Visitor}
 use Rattle.house_peers.specs.HouseSession as place
 use Rattle.house_peers.specs.HouseSession.{HouseSession}
@@ -33,10 +33,10 @@ submitted_at p = p.place.link.session.mailing.sent
 abbrev pub due : SeatedSession → List Job
 due p = submission.due (copies_of p.number p.serial (submitted_at p)) p.slots
 
--- How much is left to do for a session. A byte that waits may end a message, of which one copy is put, and that counts 5 (`put_effort`): so a byte counts 6,
--- and it becomes less by each that is taken.
+-- How much is left to do for a session. Each copy that is put counts 5 (`put_effort`): that of the message at hand, where it is to be put, and those that follow it. A byte that
+-- waits may end a command that copies 32,768 messages, so it counts more than all of these, and it becomes less by each that is taken.
 abbrev pub seat_effort : SeatedSession → ℕ
-seat_effort p = 6 * length p.place.came + put_effort (due p)
+seat_effort p = 163841 * length p.place.came + (put_effort (due p) + 5 * to_follow (submitted_at p))
 
 -- the key of the next copy: of the message that was submitted, or of the next one
 abbrev pub key_with : (seat serial number : ℕ) → Option Sent → List (Option Verdict) → CopyKey

@@ -4,7 +4,7 @@
 ghost use Rattle.std.specs.Prelude.{◌≡◌, ◌<◌, ◌≤◌, true, false, length, None, OnOk, OnErr, IfOk};
 ghost use Rattle.std.specs.Option.{is_some, option_map};
 ghost use Rattle.imap_session.specs.Exchange.{Sent, is_idling};
-ghost use Rattle.imap_session.specs.Store.{Starves};
+ghost use Rattle.imap_session.specs.Store.{Follows, Starves, to_follow};
 ghost use Rattle.imap_session.specs.Dialogue.{Asks};
 ghost use Rattle.house_peers.specs.Visitor as spec;
 ghost use Rattle.house_peers.specs.Visitor.{greeted};
@@ -99,8 +99,8 @@ impl HouseSession {
         self.connection.awaits_verdict()
     }
 
-    /// Answers the verdict on the message that was submitted, over its store. What it says is still to be printed. Whatever it stands for, what
-    /// waits stays, and the store was asked some calls, one after the other, or none.
+    /// Answers the verdict on the message that was submitted, over its store. What it says is still to be printed. Of messages that are copied the next may
+    /// be submitted by that. Whatever it stands for, what waits stays, and the store was asked some calls, one after the other, or none.
     ///
     /// Errors: `AllocError` where memory was refused. Nothing happened then, and the same verdict is waited for.
     pub fn answer<S: Store>(&mut self, verdict: Verdict, store: &mut S) -> Result<(), AllocError>
@@ -112,8 +112,9 @@ impl HouseSession {
         ensures ok { OnOk result ((v : spec.Visitor) → StandsFor self.old v
             → AnsweredVerdict S.step verdict v store.old store.new self.new) }
 
-        // Once it is answered none is awaited. What came stays.
-        ensures done { OnOk result (self.new.link.session.mailing.sent ≡ None) }
+        // Once it is answered none is awaited, or the next message of its batch is. What came stays.
+        ensures follows { OnOk result (Follows self.old.link.session.mailing.sent
+            self.new.link.session.mailing.sent) }
         ensures came { self.new.came ≡ self.old.came }
 
         // Whatever it stands for, the store was asked some calls in turn, or none; an error leaves it and the session as they were.
@@ -148,9 +149,16 @@ impl HouseSession {
             → is_some self.new.link.session.mailing.sent ≡ true →
             length self.new.came < length self.old.came }
 
+        // Behind that one, of those that one command copies, fewer follow than that command names.
+        ensures few { to_follow self.new.link.session.mailing.sent < 32768 }
+
+        // Where a verdict is awaited nothing is changed.
+        ensures rests { is_some self.old.link.session.mailing.sent ≡ true → self.new ≡ self.old }
+
         // An error only where bytes wait.
         ensures asks { OnErr result (0 < length self.old.came) }
     {
+        self.connection.few_follow();
         if self.connection.has_ended() {
             return Ok(());
         }
@@ -159,6 +167,7 @@ impl HouseSession {
         }
         let waits = self.incoming.as_slice();
         let progress = self.connection.take(alloc, waits, store, &mut self.unsaid);
+        self.connection.few_follow();
         self.incoming.take(progress.used);
         match progress.after {
             Some(_) => return Ok(()),

@@ -18,7 +18,7 @@ use Rattle.imap_session.specs.declared.standing.Selected.{Selected}
 use Rattle.imap_session.specs.Exchange as ex
 use Rattle.imap_session.specs.Exchange.{Answer, Batch, Call, Client, Copied, Discarded, Entered, Looked, Found, Counted, Altered, Expunged, Fed, ForDone, ForLiteral, ForNothing, ForVerdict, Left, Mailing, Origin, Refused, Sent, Starved, Exchange, Standing, Turn, Waiting, closed, having, played, refusal_after, saying, waiting, Dropped}
 use Rattle.imap_session.specs.Commands.{appended_words, copied_words, last_number, move_done, on_verdict, refused_text, says, showing, submitted, submitting_first, taking_back, told_appended, told_copied, turn_of_verdict, turn_with, with_copy, with_validity, without_sent}
-use Rattle.imap_session.specs.Store.{AnswersVerdict, to_follow}
+use Rattle.imap_session.specs.Store.{AnswersVerdict, Follows, to_follow}
 use Rattle.imap_session.specs.declared.texts.ResponseText.TheVariants as texts
 use Rattle.imap_session.specs.Texts.{response_text}
 use Rattle.imap_session.proofs.Unkept.{unkept_by}
@@ -264,11 +264,7 @@ played_has P tag now (ex.Discard mailbox uids x) (Starved (suc a) ∷ more) p s 
 
 -- ---- what follows a verdict
 
--- Behind the verdict on a message none is awaited, or the one on the next message of its batch, of which one less is left.
-abbrev pub Follows : (old new : Option Sent) → Type 0
-Follows old new = (new ≡ None) ⊎ (to_follow new + 1 ≡ to_follow old)
-
--- the same, where so many are left
+-- behind a verdict, where so many were left
 FollowsFew : ℕ → ℕ → Option Sent → Type 0
 FollowsFew many number new = (new ≡ None) ⊎ (to_follow new + 1 ≡ many)
 

@@ -147,3 +147,7 @@ to_follow_from (Copied batch) = length batch.left
 abbrev pub to_follow : Option Sent → ℕ
 to_follow None = 0
 to_follow (Some sent) = to_follow_from sent.origin
+
+-- Behind the verdict on a message none is awaited, or the one on the next message of its batch, of which one less is left.
+abbrev pub Follows : (old new : Option Sent) → Type 0
+Follows old new = (new ≡ None) ⊎ (to_follow new + 1 ≡ to_follow old)

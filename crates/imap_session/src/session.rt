@@ -492,11 +492,11 @@ impl Session {
         requires alone { self.old.mailing.begun ≡ None }
         requires unsent { self.old.mailing.sent ≡ None }
         requires fits { vec_len out.old + (length tag.now + STORED) ≤ vec_capacity out.old }
-        ensures had { Had (played tag.now self.old
-            (on_verdict self.old.mailing self.old.selected Client mailbox verdict)) S.step store.old
-            store.new out.old.items out.new.items result self.new }
-        ensures folders { self.new.folders ≡ self.old.folders }
-        ensures alone { self.new.mailing.begun ≡ None }
+        ensures plays { Plays S.step tag.now self.old self.old
+            (on_verdict self.old.mailing self.old.selected Client mailbox verdict) store.old store.new
+            out.old.items out.new.items result }
+        ensures standing { self.new ≡ (closed self.old result).standing }
+        ensures mailing { self.new.mailing ≡ self.old.mailing }
         ensures sends { result ≡ may_send self.new }
     {
         let response = Response::new(tag, STORED, out);

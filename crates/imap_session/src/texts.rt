@@ -12,7 +12,7 @@ use imap_grammar::Verb;
 pub const MOST_TEXT: usize = 45;
 
 /// One of the server has at most so many.
-pub const MOST_SERVER_TEXT: usize = 128;
+pub const MOST_SERVER_TEXT: usize = 136;
 
 /// What a line says behind its tag, where no number is in it; and what one that has none says: behind `* `, `* BYE ` or `+ `.
 #[derive(Clone, Copy, Debug, PartialEq, Eq)]

@@ -1,6 +1,6 @@
 -- What a client says, and the verdicts on the messages that it submits.
-use Rattle.std.proofs.Common.{◌≡◌, ◌≢◌, ℕ, ◌+◌, ◌-◌, ◌<◌, ◌≤◌, ◌⊎◌, inl, inr, Bool, true, false, List, [], ◌∷◌, ◌++◌, length, length-drop, take, drop, append-nil, append_assoc, arith, refl, sym, ap, ap₂, ◌∙◌, subst, Option, None, Some, if◌then◌else◌}
-use Rattle.std.specs.Prelude.{IfSome}
+use Rattle.std.proofs.Common.{◌≡◌, ◌≢◌, ℕ, ◌+◌, ◌-◌, ◌<◌, ◌≤◌, ◌⊎◌, inl, inr, Bool, true, false, List, [], ◌∷◌, ◌++◌, length, length-drop, take, drop, append-nil, append_assoc, arith, refl, sym, ap, ◌∙◌, subst, Option, None, Some, if◌then◌else◌}
+use Rattle.std.specs.Prelude.{Err, IfSome, IsErr, Ok, OnOk, Result}
 use Rattle.std.specs.Option.{option_map}
 use Rattle.std.proofs.lemmas.List.{take_rest}
 use Rattle.delivery_token.specs.declared.Verdict.{Verdict}
@@ -8,16 +8,22 @@ use Rattle.workers_sync.specs.Carried.{Carried}
 use Rattle.workers_sync.specs.declared.courier.Lost.{Lost}
 use Rattle.workers_sync.specs.declared.courier.Lost.TheVariants as lost
 use Rattle.imap_session.specs.declared.standing.After.{After}
-use Rattle.imap_session.specs.declared.standing.After.TheVariants.{Bye, Submit}
+use Rattle.imap_session.specs.declared.standing.After.TheVariants.{Bye, Go, Idle, Literal, Submit}
 use Rattle.imap_session.specs.declared.standing.Append.{Append}
 use Rattle.imap_session.specs.Exchange.{PendingLiteral, Sent, Standing, kept_tag, may_send, waits_begun, waits_idling, waits_sent}
-use Rattle.imap_session.specs.Store.{AnswersVerdict}
+use Rattle.imap_session.specs.Store.{AnswersVerdict, Follows, to_follow}
 use Rattle.imap_session.specs.declared.connection.Progress.{Progress}
 use Rattle.imap_session.specs.Dialogue as dialogue
 use Rattle.imap_session.specs.Dialogue.{Dialogue, ImapConnection, StandsFor, Took, answer_room, may_follow, tag_len}
 use Rattle.house_history.specs.Legal.{HasUid}
 use Rattle.session_thread.specs.Locks.{Holds, LockedStore}
 use Rattle.session_thread.specs.Life.{Says, SaysInPart, Speaks, TellsVerdict, carried_of, hears, moment, short, takes, takes_more, unheard}
+use Rattle.session_thread.specs.inner.Hearing.{HearsOn, verdicts_left}
+
+-- what holds of an Ok alone says nothing of an error
+pub never_ok : {A E : Type 0} (r : Result A E) (P : Type 0) → IsErr r → OnOk r P
+never_ok (Ok x) P e = absurd (let none : false ≡ true = e in cc)
+never_ok (Err x) P e = tt
 
 -- ---- what was carried
 
@@ -103,13 +109,70 @@ said_more bytes used carried old middle new before between after progress was mi
           (record { within = few_here; said = t.said; how = t.how; answered = t.answered; wrote = t.wrote }),
     )
 
--- a verdict more, which was answered
-pub heard_more : (bytes : List ℕ) (used : ℕ) (carried : List Carried) (one : Carried) (old middle new : LockedStore) (before between after : List ℕ) (was mid link : ImapConnection)
-    → ((d : Dialogue) → StandsFor mid d → (next : Dialogue) × StandsFor link next × TellsVerdict one (moment d middle between) (moment next new after))
-    → Spoken bytes used carried was old before mid middle between → Spoken bytes used (carried ++ one ∷ []) was old before link new after
-heard_more bytes used carried one old middle new before between after was mid link tells spoken d stands =
+-- verdicts more, which were answered
+pub heard_more : (bytes : List ℕ) (used : ℕ) (carried more : List Carried) (old middle new : LockedStore) (before between after : List ℕ) (was mid link : ImapConnection)
+    → ((d : Dialogue) → StandsFor mid d → (next : Dialogue) × StandsFor link next × HearsOn more (moment d middle between) (moment next new after))
+    → Spoken bytes used carried was old before mid middle between → Spoken bytes used (carried ++ more) was old before link new after
+heard_more bytes used carried more old middle new before between after was mid link tells spoken d stands =
     let n = spoken d stands in
-    let t = tells n.0 n.1 in (t.0, t.1, hears used carried one (moment n.0 middle between) (moment t.0 new after) n.2 t.2)
+    let t = tells n.0 n.1 in (t.0, t.1, t.2 bytes (moment d old before) used carried n.2)
+
+-- ---- verdicts, one after another
+
+-- So each dialogue was led on by these verdicts.
+abbrev pub Heard : List Carried → ImapConnection → LockedStore → List ℕ → ImapConnection → LockedStore → List ℕ → Type 0
+Heard carried was old before link new after = (d : Dialogue) → StandsFor was d → (next : Dialogue) × StandsFor link next × HearsOn carried (moment d old before) (moment next new after)
+
+pub heard_none : (was : ImapConnection) (old : LockedStore) (before : List ℕ) → Heard [] was old before was old before
+heard_none was old before d stands =
+    (d, stands, λ bytes first used done spoken. subst (λ (all : List Carried). Speaks bytes first used all (moment d old before)) (sym (append-nil done)) spoken)
+
+pub heard_one : (carried : List Carried) (one : Carried) (old middle new : LockedStore) (before between after : List ℕ) (was mid link : ImapConnection)
+    → ((d : Dialogue) → StandsFor mid d → (next : Dialogue) × StandsFor link next × TellsVerdict one (moment d middle between) (moment next new after)) → Heard carried was old before mid middle between
+    → Heard (carried ++ one ∷ []) was old before link new after
+heard_one carried one old middle new before between after was mid link tells heard d stands =
+    let n = heard d stands in
+    let t = tells n.0 n.1 in (
+      t.0,
+      t.1,
+      λ bytes first used done spoken.
+          subst (λ (all : List Carried). Speaks bytes first used all (moment t.0 new after)) (append_assoc done carried (one ∷ []))
+          (hears used (done ++ carried) one (moment n.0 middle between) (moment t.0 new after) (n.2 bytes first used done spoken) t.2),
+    )
+
+-- where no verdict came, nothing was done behind those before
+pub heard_same : (carried : List Carried) (old middle new : LockedStore) (before between after : List ℕ) (was mid link : ImapConnection) → (link ≡ mid) × (new ≡ middle) × (after ≡ between) → Heard carried was old before mid middle between
+    → Heard carried was old before link new after
+heard_same carried old middle new before between after was mid link same heard =
+    subst (λ (l : ImapConnection). Heard carried was old before l new after) (sym same.0)
+    (subst (λ (s : LockedStore). Heard carried was old before mid s after) (sym same.1) (subst (λ (t : List ℕ). Heard carried was old before mid middle t) (sym same.2) heard))
+
+submitted : (ended : Bool) (sent : Option Sent) (begun : Option PendingLiteral) (idling : Option (List ℕ)) → sends ended sent begun idling ≡ Submit → (s : Sent) × (sent ≡ Some s)
+submitted true sent begun idling awaits = absurd (let x : Bye ≡ Submit = awaits in cc)
+submitted false (Some s) begun idling awaits = (s, refl)
+submitted false None None None awaits = absurd (let x : Go ≡ Submit = awaits in cc)
+submitted false None None (Some tag) awaits = absurd (let x : Idle ≡ Submit = awaits in cc)
+submitted false None (Some a) idling awaits = absurd (let x : Literal a.due ≡ Submit = awaits in cc)
+
+fewer_left : (old new : Option Sent) (s : Sent) → old ≡ Some s → Follows old new → verdicts_left new < verdicts_left old
+fewer_left old None s is f = subst (λ (o : Option Sent). 0 < verdicts_left o) (sym is) (omega arith)
+fewer_left old (Some x) s is (inl e) = absurd (let y : Some x ≡ None = e in cc)
+fewer_left old (Some x) s is (inr e) =
+    let many : to_follow old ≡ to_follow (Some s) = ap to_follow is in
+    subst (λ (o : Option Sent). verdicts_left (Some x) < verdicts_left o) (sym is) (omega (arith, e, many))
+
+-- behind a verdict fewer are left
+pub fewer_verdicts : (now : Standing) (new : Option Sent) → may_send now ≡ Submit → Follows now.mailing.sent new → verdicts_left new < verdicts_left now.mailing.sent
+fewer_verdicts now new awaits f = let s = submitted now.ended now.mailing.sent now.mailing.begun now.idling awaits in fewer_left now.mailing.sent new s.0 s.1 f
+
+settled : (ended : Bool) (sent : Option Sent) (begun : Option PendingLiteral) (idling : Option (List ℕ)) → ended ≡ false → sends ended sent begun idling ≢ Submit → sent ≡ None
+settled true sent begun idling going not = absurd (let x : true ≡ false = going in cc)
+settled false (Some s) begun idling going not = absurd (not refl)
+settled false None begun idling going not = refl
+
+-- a session that goes on and waits for no verdict has submitted nothing
+pub unsent_now : (now : Standing) → now.ended ≡ false → may_send now ≢ Submit → now.mailing.sent ≡ None
+unsent_now now going not = settled now.ended now.mailing.sent now.mailing.begun now.idling going not
 
 -- ---- where it ends
 
@@ -147,13 +210,7 @@ said_short room bytes used carried old new before after was link full spoken d s
     let n = spoken d stands in (n.0, n.1, short used carried n.2 (subst (λ (s : Standing). room < length after + (answer_room + tag_len (kept_tag s))) n.1.session full) refl)
 
 -- no verdict came on the message that was submitted
-pub said_unheard : (room : ℕ) (bytes : List ℕ) (used : ℕ) (carried : List Carried) (why : Lost) (old middle new : LockedStore) (before between after : List ℕ) (was mid link : ImapConnection) → may_send mid.session ≡ Submit → (link ≡ mid) × (new ≡ middle) × (after ≡ between)
-    → Spoken bytes used carried was old before mid middle between
-    → (d : Dialogue) → StandsFor was d → (next : Dialogue) × StandsFor link next × SaysInPart room bytes why (moment d old before) (moment next new after)
-said_unheard room bytes used carried why old middle new before between after was mid link awaits same spoken d stands =
-    let n = spoken d stands in
-    let m : moment n.0 new after ≡ moment n.0 middle between = ap₂ (moment n.0) same.1 same.2 in (
-      n.0,
-      subst (λ (l : ImapConnection). StandsFor l n.0) (sym same.0) n.1,
-      subst (SaysInPart room bytes why (moment d old before)) (sym m) (unheard used carried n.2 (subst (λ (s : Standing). may_send s ≡ Submit) n.1.session awaits)),
-    )
+pub said_unheard : (room : ℕ) (bytes : List ℕ) (used : ℕ) (carried : List Carried) (why : Lost) (old new : LockedStore) (before after : List ℕ) (was link : ImapConnection) → may_send link.session ≡ Submit
+    → Spoken bytes used carried was old before link new after → (d : Dialogue) → StandsFor was d → (next : Dialogue) × StandsFor link next × SaysInPart room bytes why (moment d old before) (moment next new after)
+said_unheard room bytes used carried why old new before after was link awaits spoken d stands =
+    let n = spoken d stands in (n.0, n.1, unheard used carried n.2 (subst (λ (s : Standing). may_send s ≡ Submit) n.1.session awaits))

@@ -1,1 +1,2 @@
 pub mod Entering
+pub mod Hearing

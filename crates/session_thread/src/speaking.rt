@@ -1,14 +1,16 @@
 //! What a client says is answered, to the end of what came, over mailboxes behind locks; a message that it
-//! submits is carried, and the verdict on it answered, before anything behind it is taken. Which bytes come,
-//! and what becomes of the answers, stands above.
+//! submits is carried, and the verdict on it answered, before anything behind it is taken; of several messages that
+//! are copied each follows the verdict on the one before. Which bytes come, and what becomes of the answers, stands above.
 
 ghost use Rattle.std.specs.Prelude.{◌≡◌, ◌≢◌, ◌∷◌, ◌++◌, [], List, None, false, true, IfErr, OnErr, OnOk};
 ghost use Rattle.std.specs.Vec.{vec_capacity};
 ghost use Rattle.imap_session.specs.Dialogue.{Dialogue, StandsFor};
 ghost use Rattle.imap_session.specs.Exchange.{may_send};
+ghost use Rattle.imap_session.specs.Store.{Follows};
 ghost use Rattle.imap_session.specs.declared.standing.After.TheVariants as after;
 ghost use Rattle.workers_sync.specs.Carried.{Carried};
 ghost use Rattle.session_thread.specs.Life.{Says, SaysInPart, TellsVerdict, moment};
+ghost use Rattle.session_thread.specs.inner.Hearing.{HearsOn};
 
 use crate::locked_store::LockedStore;
 use house_history::{Naming, uid_fits};
@@ -37,7 +39,8 @@ fn hear_verdict<B: Naming, R: Wait, G: Gate, C: Courier>(
     requires awaits { may_send connection.old.session ≡ after.Submit }
     ensures ready { C.ready courier.new }
     ensures kept { (first : C) → C.kept first courier.old → C.kept first courier.new }
-    ensures unsent { OnOk result (connection.new.session.mailing.sent ≡ None) }
+    ensures follows { OnOk result (Follows connection.old.session.mailing.sent
+        connection.new.session.mailing.sent) }
     ensures told { OnOk result ((one : Carried)
         × ((done : List Carried) → C.carried courier.old done
         → C.carried courier.new (done ++ one ∷ []))
@@ -57,6 +60,32 @@ fn hear_verdict<B: Naming, R: Wait, G: Gate, C: Courier>(
     let Ok(_) = connection.appended(verdict, store, out) else {
         unreachable!()
     };
+    Ok(())
+}
+
+// Carries the message that was submitted, and answers the verdict on it; and so the messages that follow it, where it is one of several that are copied, till no
+// verdict is awaited.
+fn hear_verdicts<B: Naming, R: Wait, G: Gate, C: Courier>(
+    connection: &mut ImapConnection,
+    store: &mut LockedStore<'_, B, R, G>,
+    courier: &mut C,
+    out: &mut Vec<u8>,
+) -> Result<(), Lost>
+    requires ready { C.ready courier.old }
+    ensures ready { C.ready courier.new }
+    ensures kept { (first : C) → C.kept first courier.old → C.kept first courier.new }
+    ensures settled { OnOk result (may_send connection.new.session ≢ after.Submit) }
+    ensures unheard { OnErr result (may_send connection.new.session ≡ after.Submit) }
+    ensures told { (carried : List Carried)
+        × (OnOk result ((done : List Carried) → C.carried courier.old done
+        → C.carried courier.new (done ++ carried)))
+        × ((d : Dialogue) → StandsFor connection.old d
+        → (next : Dialogue) × StandsFor connection.new next
+        × HearsOn carried (moment d store.old out.old.items) (moment next store.new out.new.items)) }
+{
+    while awaits_verdict(connection) {
+        hear_verdict(connection, store, courier, out)?;
+    }
     Ok(())
 }
 
@@ -109,7 +138,7 @@ pub fn answer<B: Naming, R: Wait, G: Gate, C: Courier>(
         if !awaits_verdict(connection) {
             return Ok(());
         }
-        hear_verdict(connection, store, courier, out)?;
+        hear_verdicts(connection, store, courier, out)?;
         if connection.has_ended() {
             return Ok(());
         }

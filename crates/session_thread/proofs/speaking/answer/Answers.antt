@@ -1,8 +1,8 @@
-use Rattle.std.proofs.Common.{◌≡◌, ◌+◌, ◌++◌, ◌∷◌, [], ◌∙◌, None, arith, rules, inl, inr, sym}
+use Rattle.std.proofs.Common.{◌≡◌, ◌+◌, ◌++◌, [], ◌∙◌, None, arith, rules, inl, inr, sym}
 use Rattle.std.specs.Vec.{vec_capacity}
 use Rattle.session_thread.specs.Life.{silent}
 use Rattle.session_thread.proofs.Living.{handed_on}
-use Rattle.session_thread.proofs.Spoken.{heard_more, more_carried, none_more, said_all, said_more, said_short, said_unheard, takes_more_now, was_all}
+use Rattle.session_thread.proofs.Spoken.{heard_more, more_carried, none_more, said_all, said_more, said_short, said_unheard, takes_more_now, unsent_now, was_all}
 use Rattle.session_thread.proofs.speaking.answer.Goals as goal
 
 pub loop-alloc-init : goal.loop-alloc-init
@@ -37,28 +37,29 @@ returns-then-not-awaits_verdict-clause-ok g c =
           (said_more c.args.bytes.now l.used v.5.0 c.args.store.now l.store t.new.store c.args.out.now.items l.out.items t.new.out.items t.result c.args.connection.now l.connection t.new.self v.3 v.4 t.ensures.used t.ensures.took v.5.2),
     )
 
-pub returns-in_err-hear_verdict-clause-err : goal.returns-in_err-hear_verdict-clause-err
-returns-in_err-hear_verdict-clause-err g c =
+pub returns-in_err-hear_verdicts-clause-err : goal.returns-in_err-hear_verdicts-clause-err
+returns-in_err-hear_verdicts-clause-err g c =
     let v = c.loop-alloc.invariant in
     let l = c.loop-alloc in
     let t = c.take-progress in
-    let h = c.hear_verdict.new in
-    handed_on c.from_residual.result c.in_err-hear_verdict.field-0.0 _ c.from_residual.ensures.1
-    (said_unheard (vec_capacity h.out) c.args.bytes.now (l.used + t.result.used) v.5.0 c.in_err-hear_verdict.field-0.0 c.args.store.now t.new.store h.store c.args.out.now.items t.new.out.items h.out.items c.args.connection.now t.new.self h.connection
-    (c.awaits_verdict.ensures.yes c.if-not-awaits_verdict.false) c.in_err-hear_verdict.ensures.same
-    (said_more c.args.bytes.now l.used v.5.0 c.args.store.now l.store t.new.store c.args.out.now.items l.out.items t.new.out.items t.result c.args.connection.now l.connection t.new.self v.3 v.4 t.ensures.used t.ensures.took v.5.2))
+    let h = c.hear_verdicts.new in
+    let more = c.in_err-hear_verdicts.ensures.told in
+    handed_on c.from_residual.result c.in_err-hear_verdicts.field-0.0 _ c.from_residual.ensures.1
+    (said_unheard (vec_capacity h.out) c.args.bytes.now (l.used + t.result.used) (v.5.0 ++ more.0) c.in_err-hear_verdicts.field-0.0 c.args.store.now h.store c.args.out.now.items h.out.items c.args.connection.now h.connection c.in_err-hear_verdicts.ensures.unheard
+    (heard_more c.args.bytes.now (l.used + t.result.used) v.5.0 more.0 c.args.store.now t.new.store h.store c.args.out.now.items t.new.out.items h.out.items c.args.connection.now t.new.self h.connection more.2
+    (said_more c.args.bytes.now l.used v.5.0 c.args.store.now l.store t.new.store c.args.out.now.items l.out.items t.new.out.items t.result c.args.connection.now l.connection t.new.self v.3 v.4 t.ensures.used t.ensures.took v.5.2)))
 
 pub returns-then-has_ended-clause-ok : goal.returns-then-has_ended-clause-ok
 returns-then-has_ended-clause-ok g c =
     let v = c.loop-alloc.invariant in
     let l = c.loop-alloc in
     let t = c.take-progress in
-    let h = c.hear_verdict.new in
-    let one = c.in_ok-hear_verdict.ensures.told in (
-      v.5.0 ++ one.0 ∷ [],
-      more_carried (g.C.Courier.carried c.args.courier.now) (g.C.Courier.carried l.courier) (g.C.Courier.carried h.courier) v.5.0 (one.0 ∷ []) v.5.1 one.1,
-      said_all c.args.bytes.now (l.used + t.result.used) (v.5.0 ++ one.0 ∷ []) c.args.store.now h.store c.args.out.now.items h.out.items c.args.connection.now h.connection (inr (sym c.has_ended.ensures ∙ c.if-has_ended.true))
-          (heard_more c.args.bytes.now (l.used + t.result.used) v.5.0 one.0 c.args.store.now t.new.store h.store c.args.out.now.items t.new.out.items h.out.items c.args.connection.now t.new.self h.connection one.2
+    let h = c.hear_verdicts.new in
+    let more = c.in_ok-hear_verdicts.ensures.told in (
+      v.5.0 ++ more.0,
+      more_carried (g.C.Courier.carried c.args.courier.now) (g.C.Courier.carried l.courier) (g.C.Courier.carried h.courier) v.5.0 more.0 v.5.1 more.1,
+      said_all c.args.bytes.now (l.used + t.result.used) (v.5.0 ++ more.0) c.args.store.now h.store c.args.out.now.items h.out.items c.args.connection.now h.connection (inr (sym c.has_ended.ensures ∙ c.if-has_ended.true))
+          (heard_more c.args.bytes.now (l.used + t.result.used) v.5.0 more.0 c.args.store.now t.new.store h.store c.args.out.now.items t.new.out.items h.out.items c.args.connection.now t.new.self h.connection more.2
           (said_more c.args.bytes.now l.used v.5.0 c.args.store.now l.store t.new.store c.args.out.now.items l.out.items t.new.out.items t.result c.args.connection.now l.connection t.new.self v.3 v.4 t.ensures.used t.ensures.took v.5.2)),
     )
 
@@ -67,13 +68,13 @@ returns-then-used-bytes-clause-ok g c =
     let v = c.loop-alloc.invariant in
     let l = c.loop-alloc in
     let t = c.take-progress in
-    let h = c.hear_verdict.new in
-    let one = c.in_ok-hear_verdict.ensures.told in (
-      v.5.0 ++ one.0 ∷ [],
-      more_carried (g.C.Courier.carried c.args.courier.now) (g.C.Courier.carried l.courier) (g.C.Courier.carried h.courier) v.5.0 (one.0 ∷ []) v.5.1 one.1,
-      said_all c.args.bytes.now (l.used + t.result.used) (v.5.0 ++ one.0 ∷ []) c.args.store.now h.store c.args.out.now.items h.out.items c.args.connection.now h.connection
-          (inl (c.if-used-bytes.true, takes_more_now h.connection.session (sym c.has_ended.ensures ∙ c.if-has_ended.false) c.in_ok-hear_verdict.ensures.unsent))
-          (heard_more c.args.bytes.now (l.used + t.result.used) v.5.0 one.0 c.args.store.now t.new.store h.store c.args.out.now.items t.new.out.items h.out.items c.args.connection.now t.new.self h.connection one.2
+    let h = c.hear_verdicts.new in
+    let more = c.in_ok-hear_verdicts.ensures.told in (
+      v.5.0 ++ more.0,
+      more_carried (g.C.Courier.carried c.args.courier.now) (g.C.Courier.carried l.courier) (g.C.Courier.carried h.courier) v.5.0 more.0 v.5.1 more.1,
+      said_all c.args.bytes.now (l.used + t.result.used) (v.5.0 ++ more.0) c.args.store.now h.store c.args.out.now.items h.out.items c.args.connection.now h.connection
+          (inl (c.if-used-bytes.true, takes_more_now h.connection.session (sym c.has_ended.ensures ∙ c.if-has_ended.false) (unsent_now h.connection.session (sym c.has_ended.ensures ∙ c.if-has_ended.false) c.in_ok-hear_verdicts.ensures.settled)))
+          (heard_more c.args.bytes.now (l.used + t.result.used) v.5.0 more.0 c.args.store.now t.new.store h.store c.args.out.now.items t.new.out.items h.out.items c.args.connection.now t.new.self h.connection more.2
           (said_more c.args.bytes.now l.used v.5.0 c.args.store.now l.store t.new.store c.args.out.now.items l.out.items t.new.out.items t.result c.args.connection.now l.connection t.new.self v.3 v.4 t.ensures.used t.ensures.took v.5.2)),
     )
 
@@ -82,17 +83,17 @@ loop-alloc-preserved g c =
     let v = c.loop-alloc.invariant in
     let l = c.loop-alloc in
     let t = c.take-progress in
-    let h = c.hear_verdict.new in
-    let one = c.in_ok-hear_verdict.ensures.told in (
-      c.in_ok-hear_verdict.ensures.ready,
-      λ first k. c.in_ok-hear_verdict.ensures.kept first (v.1 first k),
+    let h = c.hear_verdicts.new in
+    let more = c.in_ok-hear_verdicts.ensures.told in (
+      c.in_ok-hear_verdicts.ensures.ready,
+      λ first k. c.in_ok-hear_verdicts.ensures.kept first (v.1 first k),
       search rules,
       sym c.has_ended.ensures ∙ c.if-has_ended.false,
-      c.in_ok-hear_verdict.ensures.unsent,
+      unsent_now h.connection.session (sym c.has_ended.ensures ∙ c.if-has_ended.false) c.in_ok-hear_verdicts.ensures.settled,
       (
-        v.5.0 ++ one.0 ∷ [],
-        more_carried (g.C.Courier.carried c.args.courier.now) (g.C.Courier.carried l.courier) (g.C.Courier.carried h.courier) v.5.0 (one.0 ∷ []) v.5.1 one.1,
-        heard_more c.args.bytes.now (l.used + t.result.used) v.5.0 one.0 c.args.store.now t.new.store h.store c.args.out.now.items t.new.out.items h.out.items c.args.connection.now t.new.self h.connection one.2
+        v.5.0 ++ more.0,
+        more_carried (g.C.Courier.carried c.args.courier.now) (g.C.Courier.carried l.courier) (g.C.Courier.carried h.courier) v.5.0 more.0 v.5.1 more.1,
+        heard_more c.args.bytes.now (l.used + t.result.used) v.5.0 more.0 c.args.store.now t.new.store h.store c.args.out.now.items t.new.out.items h.out.items c.args.connection.now t.new.self h.connection more.2
             (said_more c.args.bytes.now l.used v.5.0 c.args.store.now l.store t.new.store c.args.out.now.items l.out.items t.new.out.items t.result c.args.connection.now l.connection t.new.self v.3 v.4 t.ensures.used t.ensures.took v.5.2),
       ),
     )

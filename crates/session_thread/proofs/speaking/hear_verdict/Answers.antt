@@ -1,4 +1,6 @@
 use Rattle.session_thread.specs.Life.{carried_of}
+use Rattle.imap_session.proofs.Following.{verdict_follows}
+use Rattle.session_thread.specs.Locks.{Holds}
 use Rattle.session_thread.proofs.Spoken.{told_verdict}
 use Rattle.session_thread.proofs.speaking.hear_verdict.Goals as goal
 
@@ -10,3 +12,7 @@ returns-clause-told g c = (
       told_verdict d c.in-Some.append.now c.in_ok-verdict.verdict c.args.store.now c.carry.new.self c.appended.new.store c.args.out.now.items c.reserve.new.self.items c.appended.new.out.items c.in-Ok.field-0 c.args.connection.now c.appended.new.self s
       c.in-Some.ensures c.in_ok-verdict.ensures.same c.in_ok-reserve.ensures.items c.uid_fits.ensures (c.in-Ok.ensures.heard d s),
 )
+
+pub returns-clause-follows : goal.returns-clause-follows
+returns-clause-follows g c =
+    verdict_follows Holds c.args.connection.now.session c.in_ok-verdict.verdict c.carry.new.self c.appended.new.store c.reserve.new.self.items c.appended.new.out.items c.in-Ok.field-0 c.appended.new.self.session c.in-Ok.ensures.session

@@ -1,6 +1,9 @@
-use Rattle.std.proofs.Common.{◌∙◌, ap, subst, sym, false, true}
+use Rattle.std.proofs.Common.{◌≤◌, ◌+◌, ◌*◌, ◌∙◌, ap, length, subst, sym, false, true}
 use Rattle.std.proofs.lemmas.Result.{IfOk-weaker, on_err_weaker}
-use Rattle.house_peers.specs.SeatedSession.{SeatedSession, StandsForSeated}
+use Rattle.house_peers.specs.SeatedSession.{SeatedSession, StandsForSeated, due, seat_effort, submitted_at}
+use Rattle.delivery_token.specs.Copies.{put_effort}
+use Rattle.imap_session.specs.Store.{to_follow}
+use Rattle.house_peers.proofs.Efforts.{went_less}
 use Rattle.house_peers.proofs.Seating.{ended, unread, worked}
 use Rattle.house_peers.proofs.seated.SeatedSession.proceed.Goals as goal
 
@@ -28,3 +31,12 @@ returns-clause-ok g c =
     IfOk-weaker c.go_on.result _ _
     (λ done went seat next heard v s. worked g.S.Store.step true seat next heard v c.args.store.now c.go_on.new.store here c.go_on.new.self (subst (λ (p : SeatedSession). StandsForSeated seat next heard p v) (sym c.self.view_is) s) c.if-self.false
     (c.awaits_verdict.ensures.none c.if-awaits_verdict.false) went) c.go_on.ensures.ok
+
+pub returns-clause-less : goal.returns-clause-less
+returns-clause-less g c =
+    let i = c.self.inside in
+    let here : SeatedSession = record { place = i.session; number = i.seat; serial = i.serial; gone = i.is_gone; slots = i.verdicts.slots } in
+    let there : SeatedSession = record { place = c.go_on.new.self; number = i.seat; serial = i.serial; gone = i.is_gone; slots = i.verdicts.slots } in
+    subst (λ (p : SeatedSession). seat_effort there ≤ seat_effort p) c.self.view_is
+    (went_less (length i.verdicts.slots) i.seat i.serial (length i.session.came) (length c.go_on.new.self.came) (put_effort (due here) + 5 * to_follow (submitted_at here)) i.session.link.session.mailing.sent c.go_on.new.self.link.session.mailing.sent
+    (c.awaits_verdict.ensures.none c.if-awaits_verdict.false) c.go_on.ensures.fewer c.go_on.ensures.moves c.go_on.ensures.few)

@@ -1,4 +1,6 @@
-use Rattle.std.proofs.Common.{◌∙◌, refl, sym}
+use Rattle.std.proofs.Common.{◌∙◌, ap, sym}
+use Rattle.imap_session.specs.contracts.session.Session.{the_view}
+use Rattle.imap_session.specs.Exchange.{Standing}
 use Rattle.std.proofs.lemmas.Result.{err_from_is_err_and}
 use Rattle.imap_session.proofs.Copies.{copy_found, copy_missing, copy_refused, copy_starved}
 use Rattle.imap_session.proofs.session.Session.find_copies.Goals as goal
@@ -19,4 +21,4 @@ returns-in_default-2-clause-does g c response =
 pub returns-clause-does : goal.returns-clause-does
 returns-clause-does g c response =
     copy_found g.S.Store.step c.args.self.now c.args.copy.now c.selected.result c.in-Some-2.mailbox _ _ response c.find_messages.result c.selected.ensures (c.in_default.ensures.taken c.args.self.now) (sym c.in_ok-mailbox.ensures ∙ c.in-Some-2.is)
-    (c.find_messages.ensures.does response c.args.self.now.mailing refl)
+    (c.find_messages.ensures.does response c.args.self.now.mailing (sym (ap (λ (s : Standing). s.mailing.most) (ap the_view c.self-inside.view_is ∙ c.self.view_is))))
