@@ -20,10 +20,10 @@ use Rattle.laws_client.proofs.Talked.{met_hears}
 use Rattle.imap_session.specs.Folders.{folders_of}
 use Rattle.house.specs.Scene.{LeavesMailbox, empty_scene}
 use Rattle.house.specs.Setup.{Setup, session_seat}
-use Rattle.laws_client.specs.Appends.{AppendsWereTold, TellsOfAppends, AnswersNoted, AppendsAreTold, AreAnswered, Author, EndsWith, IsAnswered, SaysVerdict, TellsKept, TellsOfNone, as_it_is, author_at, copy_under, CameBy, SaysCopied, last_line, tells_stored, tells_copy, IsCopyOf, SaysMoved, TellsCopied, SaysOfBatch, SaysRefused, awaits_next, has_no_number, all_stored}
+use Rattle.laws_client.specs.Appends.{AppendsWereTold, TellsOfAppends, AnswersNoted, AppendsAreTold, AreAnswered, Author, EndsWith, IsAnswered, SaysVerdict, TellsKept, TellsOfNone, as_it_is, author_at, copy_under, CameBy, SaysCopied, last_line, tells_stored, tells_copy, IsCopyOf, SaysMoved, TellsCopied, SaysOfBatch, SaysRefused, awaits_next, has_no_number, all_stored, EarlierStand}
 use Rattle.laws_client.specs.Clients.{Told, bytes_in}
 use Rattle.laws_client.specs.ClientRecords.{sent_by_then, shown_by_then}
-use Rattle.laws_client.proofs.Answered.{Came, AreNoted, InTurn, IsNoted, KnownAt, still_noted}
+use Rattle.laws_client.proofs.Answered.{Came, AreNoted, InTurn, IsNoted, KnownAt, still_noted, EarlierNoted}
 use Rattle.laws_client.proofs.Entries.{the_client, the_serial}
 use Rattle.laws_client.proofs.RecordKeeping.{KeptBy, kept_by, the_finished, KeepsBy, all_known, arrival_by_then, keeps_by, nobody}
 use Rattle.laws_client.proofs.LastLines.{apart_tells_none, refusal_apart, silence_tells_none, tags_of_words, words_of_tags, IsWord}
@@ -46,6 +46,63 @@ use Rattle.mailbox.specs.declared.clients.MailFault.TheVariants.{Spent}
 author_is : (k : Setup) (place serial : ℕ) (a : Arrival) (sent : List ℕ) → Author
 author_is k place serial a sent = record { place = place; serial = serial; folders = folders_of k.directory a.user; sent = sent }
 
+-- a copy that was stored stands once, under its UID, and with the text and the flags of its message
+record StandsSo (w : World) (noted : Noted) (message : Sent) (uid : ℕ) : Type 0 where
+  pub heard : Contains (w.heard noted.key.seat) noted
+  pub once : StandsOnce (pairs (w.box noted.mailbox).accepted) noted.key uid
+  pub mailbox : noted.mailbox ≡ message.append.mailbox
+  pub copy : Contains (w.box noted.mailbox).accepted (copy_under noted.key message, uid)
+
+heard_there : (w : World) (seat : ℕ) (noted : Noted) → noted.key.seat ≡ seat → Contains (w.heard seat) noted → Contains (w.heard noted.key.seat) noted
+heard_there w seat noted same heard = subst (λ (p : ℕ). Contains (w.heard p) noted) (sym same) heard
+
+stands_so : (k : Setup) (events : List Event) (w : World) (place : ℕ) (a : Arrival) (noted : Noted) (message : Sent) (uid : ℕ) → IsWorld k.config events w → noted.key.seat ≡ session_seat k place
+    → KnownAt k.config (came_as k place a) w noted message → noted.key ≡ (copy_of (session_seat k place) a.serial message).key → noted.verdict ≡ verdicts.Stored uid → StandsSo w noted message uid
+stands_so k events w place a noted message uid came seat known key e = record {
+  heard = there;
+  once = once;
+  mailbox = s.0;
+  copy = subst (λ (x : CopyKey). Contains (w.box noted.mailbox).accepted (copy_under x message, uid)) (sym key) s.1;
+}
+  where
+    there : Contains (w.heard noted.key.seat) noted
+    there = heard_there w (session_seat k place) noted seat known.0
+
+    once : StandsOnce (pairs (w.box noted.mailbox).accepted) noted.key uid
+    once = (always k.config events w came).answered noted.key.seat uid noted there e
+
+    c : Job
+    c = copy_of (session_seat k place) a.serial message
+
+    s : (noted.mailbox ≡ c.mailbox) × Contains (w.box noted.mailbox).accepted (c, uid)
+    s = stored_copy k.config events w (session_seat k place) noted.mailbox uid c came refl (subst (λ (x : CopyKey). StandsOnce (pairs (w.box noted.mailbox).accepted) x uid) key once) known.1
+
+-- each earlier copy of its batch
+earlier_stand : (k : Setup) (events : List Event) (w : World) (place serial : ℕ) (a : Arrival) (sent : List ℕ) (last : Sent) (origin : Origin) → IsWorld k.config events w → serial ≡ a.serial
+    → EarlierNoted (came_as k place a) sent (KnownAt k.config (came_as k place a) w) last origin → EarlierStand k w (author_is k place serial a sent) last origin
+unfolding author_is
+earlier_stand k events w place serial a sent last Client came own h = tt
+earlier_stand k events w place serial a sent last (Copied batch) came own h = λ copies uid behind is.
+    let e = h copies uid behind is in
+    let s = stands_so k events w place a e.noted e.message uid came e.seat e.heard e.key e.stored in record {
+      noted = e.noted;
+      message = e.message;
+      rest = e.rest;
+      number = e.number;
+      origin = e.origin;
+      came = e.came;
+      before = e.before;
+      under = e.under;
+      named = e.named;
+      seat = e.seat;
+      own = e.own ∙ sym own;
+      heard = s.heard;
+      stored = e.stored;
+      once = s.once;
+      mailbox = s.mailbox;
+      copy = s.copy;
+    }
+
 one_answered : (k : Setup) (events : List Event) (w : World) (place serial : ℕ) (a : Arrival) (sent bytes : List ℕ) (verdict : Option Noted) → IsWorld k.config events w → serial ≡ a.serial
     → IsNoted k.config.uidvalidity (came_as k place a) sent (KnownAt k.config (came_as k place a) w) bytes verdict → IsAnswered k w (author_is k place serial a sent) bytes verdict
 unfolding author_is
@@ -53,27 +110,16 @@ one_answered k events w place serial a sent bytes None came own h = h
 one_answered k events w place serial a sent bytes (Some noted) came own h = record {
   seat = h.seat;
   own = h.own ∙ sym own;
-  heard = there;
+  heard = heard_there w (session_seat k place) noted h.seat h.heard.0;
   message = h.message;
   number = h.number;
   came = h.came;
   chosen = h.chosen;
   says = h.says;
-  stands = λ uid e. once uid e;
-  stored = λ uid e.
-      let key : noted.key ≡ c.key = h.key in
-      let s = stored_copy k.config events w (session_seat k place) noted.mailbox uid c came refl (subst (λ (x : CopyKey). StandsOnce (pairs (w.box noted.mailbox).accepted) x uid) key (once uid e)) h.heard.1 in
-      (s.0, subst (λ (x : CopyKey). Contains (w.box noted.mailbox).accepted (copy_under x h.message, uid)) (sym key) s.1);
+  stands = λ uid e. (stands_so k events w place a noted h.message uid came h.seat h.heard h.key e).once;
+  stored = λ uid e. let s = stands_so k events w place a noted h.message uid came h.seat h.heard h.key e in (s.mailbox, s.copy);
+  earlier = earlier_stand k events w place serial a sent h.message h.message.origin came own h.earlier;
 }
-  where
-    c : Job
-    c = copy_of (session_seat k place) a.serial h.message
-
-    once : (uid : ℕ) → noted.verdict ≡ verdicts.Stored uid → StandsOnce (pairs (w.box noted.mailbox).accepted) noted.key uid
-    once uid e = (always k.config events w came).answered noted.key.seat uid noted (subst (λ (p : ℕ). Contains (w.heard p) noted) (sym h.seat) h.heard.0) e
-
-    there : Contains (w.heard noted.key.seat) noted
-    there = subst (λ (p : ℕ). Contains (w.heard p) noted) (sym h.seat) h.heard.0
 
 all_answered : (k : Setup) (events : List Event) (w : World) (place serial : ℕ) (a : Arrival) (sent : List ℕ) (told : List Told) (verdicts : List (Option Noted)) → IsWorld k.config events w → serial ≡ a.serial
     → AreNoted k.config.uidvalidity (came_as k place a) sent (KnownAt k.config (came_as k place a) w) told verdicts → AreAnswered k w (author_is k place serial a sent) told verdicts
@@ -217,6 +263,7 @@ said_copied k w author bytes tag words noted h ends tells = by h.message.origin 
       once = h.stands uid e;
       mailbox = (h.stored uid e).0;
       copy = (h.stored uid e).1;
+      earlier = subst (λ (o : Origin). EarlierStand k w author h.message o) is h.earlier;
     }
 
     by : (origin : Origin) → h.message.origin ≡ origin → CameBy origin author.folders author.sent h.message → (verdict : Verdict)

@@ -153,7 +153,7 @@ appended_more folders sent bytes message h = record {
   whole = ap (λ (x : List ℕ). x ++ bytes) h.whole ∙ append_assoc (h.front ++ (h.bytes ++ crlf) ++ message.append.text ++ crlf) h.behind bytes;
 }
 
-copied_more : (folders : List Folder) (sent bytes : List ℕ) (message : Sent) (batch : Batch) → IsCopyOf folders sent message batch
+pub copied_more : (folders : List Folder) (sent bytes : List ℕ) (message : Sent) (batch : Batch) → IsCopyOf folders sent message batch
     → IsCopyOf folders (sent ++ bytes) message batch
 copied_more folders sent bytes message batch h = record {
   front = h.front;
@@ -194,7 +194,7 @@ same_mail folders sent bytes now next m same waits begun = record {
   waits = subst (λ (o : Option Sent). IfSome o (CameAs folders (sent ++ bytes))) (sym waits) (waits_more folders sent bytes now.mailing.sent m.waits);
 }
 
-command_case : {X : Type 0} (command : Command) → ((append : Append) → command ≡ commands.Append append → X)
+pub command_case : {X : Type 0} (command : Command) → ((append : Append) → command ≡ commands.Append append → X)
     → ((copy : CopyMessages) → command ≡ commands.Copy copy → X) → (SubmitsNone command → X) → X
 command_case commands.Noop f h g = g tt
 command_case (commands.Append append) f h g = f append refl

@@ -1,5 +1,5 @@
 -- What the answers to a client tell of the messages that it appended or had copied (RFC 9051, 6.3.12 and 6.4.7; RFC 4315, 3; RFC 6851).
-use Rattle.std.specs.Prelude.{◌≡◌, ◌⊎◌, ◌==◌, ℕ, false, true, codes, drop, length, reverse, take, List, [], ◌∷◌, ◌++◌, AllPairs, Contains, filter_map, Ok, Option, Some, None, if◌then◌else◌, Bool, ◌||◌, ◌+◌}
+use Rattle.std.specs.Prelude.{◌≡◌, ◌⊎◌, ◌==◌, ℕ, false, true, codes, drop, length, reverse, take, List, [], ◌∷◌, ◌++◌, AllPairs, Contains, filter_map, Ok, Option, Some, None, if◌then◌else◌, Bool, ◌||◌, ◌+◌, ◌<◌}
 use Rattle.delivery_token.specs.Keys.{Below}
 use Rattle.delivery_token.specs.declared.CopyKey.{CopyKey}
 use Rattle.delivery_token.specs.declared.Job.{Job}
@@ -171,6 +171,32 @@ pub record Author : Type 0 where
   pub folders : List Folder
   pub sent : List ℕ
 
+-- An earlier copy of a batch: of its message behind those of which these copies were stored. That was submitted before the last one, by the same command, for the same
+-- mailbox, and was stored under this UID, as the session's seat has heard. It stands so, once, with the text and the flags of its message.
+pub record IsEarlier (k : Setup) (w : World) (author : Author) (last : Sent) (batch : Batch) (copies : List ℕ) (uid : ℕ) : Type 0 where
+  pub noted : Noted
+  pub message : Sent
+  pub rest : List Row
+  pub number : noted.key.message ≡ message.append.message
+  pub origin : message.origin ≡ Copied (record batch { left = rest; copies = copies })
+  pub came : IsCopyOf author.folders author.sent message (record batch { left = rest; copies = copies })
+  pub before : message.append.message < last.append.message
+  pub under : message.tag ≡ last.tag
+  pub named : message.append.mailbox ≡ last.append.mailbox
+  pub seat : noted.key.seat ≡ session_seat k author.place
+  pub own : noted.key.serial ≡ author.serial
+  pub heard : Contains (w.heard noted.key.seat) noted
+  pub stored : noted.verdict ≡ Stored uid
+  pub once : StandsOnce (pairs (w.box noted.mailbox).accepted) noted.key uid
+  pub mailbox : noted.mailbox ≡ message.append.mailbox
+  pub copy : Contains (w.box noted.mailbox).accepted (copy_under noted.key message, uid)
+
+-- of a message of a batch, each of the copies that are stored
+abbrev pub EarlierStand : Setup → World → Author → Sent → Origin → Type 0
+EarlierStand k w author last Client = Unit {0}
+EarlierStand k w author last (Copied batch) =
+    (copies : List ℕ) (uid : ℕ) (behind : List ℕ) → batch.copies ≡ copies ++ uid ∷ behind → IsEarlier k w author last batch copies uid
+
 -- These bytes were said to the verdict on a copy of this session.
 pub record AnswersNoted (k : Setup) (w : World) (author : Author) (bytes : List ℕ) (noted : Noted) : Type 0 where
   -- it is a copy of that very session, and its seat has heard the verdict
@@ -186,6 +212,8 @@ pub record AnswersNoted (k : Setup) (w : World) (author : Author) (bytes : List 
   -- a copy that was stored under a UID stands exactly once in the history of the mailbox that was named, under that UID, and with the text and the flags of that message
   pub stands : (uid : ℕ) → noted.verdict ≡ Stored uid → StandsOnce (pairs (w.box noted.mailbox).accepted) noted.key uid
   pub stored : (uid : ℕ) → noted.verdict ≡ Stored uid → (noted.mailbox ≡ message.append.mailbox) × Contains (w.box noted.mailbox).accepted (copy_under noted.key message, uid)
+  -- and so does each copy of its batch that was stored before
+  pub earlier : EarlierStand k w author message message.origin
 
 -- ---- all that a client was told
 
@@ -224,7 +252,8 @@ pub record TellsKept (k : Setup) (w : World) (author : Author) (tag said : List 
   pub copy : Contains (w.box noted.mailbox).accepted (copy_under noted.key message, uid)
 
 -- These words, under this tag, are the OK for the messages that a client of this session had copied by a COPY under that tag. They tell the house's UIDVALIDITY, these messages'
--- UIDs and those of all copies. The last of the copies stands once under its UID, as its seat has heard: in the mailbox that was named, with the text and the flags of its message.
+-- UIDs and those of all copies, in one order. The last of the copies stands once under its UID, as its seat has heard: in the mailbox that was named, with the text and the flags
+-- of its message. And each before it stands so, under the UID that is told of it.
 pub record TellsCopied (k : Setup) (w : World) (author : Author) (tag said : List ℕ) (noted : Noted) : Type 0 where
   pub message : Sent
   pub batch : Batch
@@ -243,6 +272,7 @@ pub record TellsCopied (k : Setup) (w : World) (author : Author) (tag said : Lis
   pub once : StandsOnce (pairs (w.box noted.mailbox).accepted) noted.key uid
   pub mailbox : noted.mailbox ≡ message.append.mailbox
   pub copy : Contains (w.box noted.mailbox).accepted (copy_under noted.key message, uid)
+  pub earlier : EarlierStand k w author message (Copied batch)
 
 -- the session with this serial at a place, behind a record
 abbrev pub author_at : Setup → List Entry → (place serial : ℕ) → Author
