@@ -14,7 +14,7 @@ use Rattle.imap_grammar.specs.declared.set.SeqNumber.TheVariants.{Number}
 use Rattle.exactly_once.specs.Found.{none_named, one_found, one_gone}
 use Rattle.mailbox.specs.declared.clients.Row.{Row}
 use Rattle.delivery_token.specs.declared.Verdict.TheVariants.{Stored, Refused}
-use Rattle.delivery_token.specs.declared.Refusal.TheVariants.{MailboxFull}
+use Rattle.delivery_token.specs.declared.Refusal.TheVariants.{Full}
 use Rattle.std.proofs.lemmas.Bool.{false≢true}
 
 -- ---- the last line
@@ -150,8 +150,8 @@ told_of_two = record { chosen = refl; last = refl }
 first_of_two : (row : Row) → SaysVerdict 7 (Copied (of_two (row ∷ []) [])) (codes "a1") (Stored 9) []
 first_of_two row = inl (awaits_next row [] refl refl)
 
--- that of the second is refused, since its mailbox is full: the other is removed again
-second_refused : SaysVerdict 7 (Copied (of_two [] (9 ∷ []))) (codes "a1") (Refused MailboxFull) (codes "a1 NO Mailbox full\r\n")
+-- that of the second is refused, since its shard is full: the other is removed again
+second_refused : SaysVerdict 7 (Copied (of_two [] (9 ∷ []))) (codes "a1") (Refused Full) (codes "a1 NO Shard full\r\n")
 second_refused = inl refl
 
 -- of a MOVE, where the message is removed
