@@ -1,5 +1,5 @@
 -- A message that a session submits at a line is the first of its command: no copies of its batch are stored.
-use Rattle.std.proofs.Common.{◌≡◌, ◌⊎◌, inl, inr, ℕ, Bool, List, [], ◌∷◌, ◌++◌, length, refl, sym, ap, ◌∙◌, subst, Option, Some, None, ◌==◌}
+use Rattle.std.proofs.Common.{◌≡◌, ◌⊎◌, inl, inr, ℕ, Bool, List, [], ◌∷◌, length, refl, sym, ap, ◌∙◌, subst, Option, Some, None, ◌==◌}
 use Rattle.std.specs.Prelude.{Result, Ok, Err}
 use Rattle.std.proofs.lemmas.Option.{none-some}
 use Rattle.imap_grammar.specs.Reading.{read}

@@ -40,7 +40,7 @@ use Rattle.imap_session.specs.declared.texts.ResponseText.{ResponseText}
 use Rattle.imap_grammar.specs.Verbs.{copy_verb}
 use Rattle.laws_client.proofs.CopyWords.{copied_plain}
 use Rattle.mailbox.specs.declared.clients.MailFault.{MailFault}
-use Rattle.laws_client.proofs.Moves.{EndsSo, Moves, move_done, move_refused, moves_so}
+use Rattle.laws_client.proofs.Moves.{EndsSo, move_done, move_refused, moves_so}
 use Rattle.laws_client.proofs.Decimals.{decimal_inner}
 use Rattle.laws_client.proofs.TextRows.{row_inner}
 use Rattle.mailbox.specs.declared.clients.Row.{Row}

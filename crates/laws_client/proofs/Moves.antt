@@ -1,5 +1,5 @@
 -- How a MOVE ends whose copies were stored: with its OK, behind all that is pending, or with what is said where the store refuses.
-use Rattle.std.proofs.Common.{◌≡◌, inl, ℕ, false, true, List, [], ◌∷◌, ◌++◌, refl, ap, sym, ◌∙◌, subst, append_assoc, Option, Some}
+use Rattle.std.proofs.Common.{◌≡◌, inl, ℕ, false, true, List, [], ◌∷◌, ◌++◌, refl, ap, sym, ◌∙◌, subst, append_assoc, Some}
 use Rattle.std.proofs.lemmas.Bool.{false≢true}
 use Rattle.std.proofs.lemmas.Option.{none-some}
 use Rattle.cursor_set.specs.Lines.{lines}

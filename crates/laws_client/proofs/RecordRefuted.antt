@@ -1,5 +1,5 @@
 -- What the definitions refuse: a list that is too short, a UID that is another's, events of the session's own, bytes that weren't answered so, a record that leaves out the greeting, two copies of one UID; an OK with another copy's UID, an OK without a verdict, two for one copy; a cut in the middle of an answer.
-use Rattle.std.proofs.Common.{◌≡◌, ◌≢◌, ℕ, ◌^◌, ◌<◌, inl, inr, List, [], ◌∷◌, ◌++◌, length, AllPairs, Contains, ap, ◌∙◌, sym, subst, refl, arith, length-append}
+use Rattle.std.proofs.Common.{true, ◌≡◌, ◌≢◌, ℕ, ◌^◌, ◌<◌, inl, inr, List, [], ◌∷◌, ◌++◌, length, AllPairs, Contains, ap, ◌∙◌, sym, subst, refl, arith, length-append, ◌⊎◌}
 use Rattle.std.proofs.lemmas.Bool.{false≢true}
 use Rattle.std.specs.Prelude.{Some, None, codes, filter_map, flat_map}
 use Rattle.delivery_token.specs.declared.Job.{Job}
@@ -9,8 +9,8 @@ use Rattle.delivery_token.specs.declared.Verdict.TheVariants.{Refused, Stored}
 use Rattle.delivery_token.specs.declared.log.Noted.{Noted}
 use Rattle.line_io.specs.Wire.{crlf}
 use Rattle.world.specs.World.{Box, Feed, World, empty_world}
-use Rattle.imap_session.specs.Exchange.{Answer as StoreAnswer, Origin, Client as FromClient}
-use Rattle.imap_session.specs.Commands.{appended_words, greeting, copies_of, refused_text}
+use Rattle.imap_session.specs.Exchange.{Answer as StoreAnswer, Origin, Client as FromClient, Batch, Copied, Sent, refusal_text}
+use Rattle.imap_session.specs.Commands.{appended_words, greeting, copies_of, refused_text, with_copy}
 use Rattle.imap_session.proofs.Telling.{words_tell_which}
 use Rattle.house.specs.Setup.{Setup}
 use Rattle.house.specs.Scene.{Scene, empty_scene}
@@ -18,10 +18,10 @@ use Rattle.house_peers.specs.SeatedVisitor.{SeatedVisitor}
 use Rattle.laws_client.specs.Beliefs.{IsRight}
 use Rattle.laws_client.specs.Client.{Client, Known, Messages, fresh}
 use Rattle.laws_client.specs.Talks.{LongLine, Turned}
-use Rattle.laws_client.specs.Appends.{Author, EndsWith, IsAnswered, SaysVerdict, TellsKept, TellsOfAppends, as_it_is, copy_under, tells_stored, SaysRefused}
+use Rattle.laws_client.specs.Appends.{Author, EndsWith, IsAnswered, SaysVerdict, TellsKept, TellsOfAppends, as_it_is, copy_under, tells_stored, SaysRefused, IsEarlier, SaysOfBatch, all_stored, awaits_next, has_no_number}
 use Rattle.laws_client.specs.Clients.{IsRightAbout, Told, bytes_in}
 use Rattle.laws_client.specs.Cuts.{Cutter, IsOneAnswer, ends, opens, CutsSo}
-use Rattle.laws_client.proofs.LastLines.{Apart, IsWord, apart_tells_none, refusal_apart, words_of_tags}
+use Rattle.laws_client.proofs.LastLines.{Apart, IsWord, apart_tells_none, refusal_apart, words_of_tags, silence_tells_none}
 use Rattle.laws_client.proofs.LastRests.{no_apart}
 use Rattle.laws_client.proofs.LastWords.{uid_spares}
 use Rattle.laws_client.specs.Lives.{IsSentFor}
@@ -32,6 +32,9 @@ use Rattle.laws_client.specs.Views.{IsOfOthers, NamesTheSame}
 use Rattle.imap_session.specs.declared.standing.Profile.{Profile}
 use Rattle.imap_session.specs.declared.standing.Profile.TheVariants.{Standard, Compatible}
 use Rattle.imap_session.specs.Texts.{response_text}
+use Rattle.mailbox.specs.declared.clients.Row.{Row}
+use Rattle.mailbox.specs.declared.clients.MailFault.{MailFault}
+use Rattle.mailbox.specs.declared.clients.MailFault.TheVariants.{Spent}
 
 abbrev the_list : Messages → List Known
 the_list None = []
@@ -130,6 +133,32 @@ one_copy_twice : (k : Setup) (w : World) (author : Author) (told : List Told) (a
 one_copy_twice k w author told a b same tells is =
     let apart : AllPairs (λ (x y : Noted). Below x.key y.key) (a ∷ b ∷ []) = subst (AllPairs (λ (x y : Noted). Below x.key y.key)) is tells.in_order in
     below_itself a.key b.key (apart 0 1 a (omega arith) (omega arith)) same
+
+-- ---- the OK of a COPY
+
+-- an answer that tells of copies while messages of the batch are left
+told_too_soon : (v uid : ℕ) (batch : Batch) (row : Row) (left : List Row) (tag words bytes : List ℕ) → IsWord tag → batch.left ≡ row ∷ left → SaysVerdict v (Copied batch) tag (Stored uid) bytes → EndsWith tag words bytes
+    → tells_stored words ≡ true → ⊥
+told_too_soon v uid batch row left tag words bytes word more s said tells = by s
+  where
+    silent : bytes ≡ [] → ⊥
+    silent e = false≢true (sym (silence_tells_none tells_stored bytes e tag words said) ∙ tells)
+
+    refused : (fault : MailFault) → bytes ≡ refusal_text tag fault → ⊥
+    refused fault e = false≢true (sym (apart_tells_none tells_stored bytes (subst (Apart tells_stored) (sym e) (refusal_apart tells_stored uid_spares tag word fault)) tag words said) ∙ tells)
+
+    of_batch : SaysOfBatch v (with_copy uid batch) tag bytes → ⊥
+    of_batch (awaits_next next rest is e) = silent e
+    of_batch (has_no_number next rest is e) = refused Spent e
+    of_batch (all_stored none e) = absurd (omega (arith, ap (length {A = Row}) (sym none ∙ more)))
+
+    by : SaysOfBatch v (with_copy uid batch) tag bytes ⊎ ((fault : MailFault) × (bytes ≡ refusal_text tag fault)) → ⊥
+    by (inl h) = of_batch h
+    by (inr (fault, e)) = refused fault e
+
+-- an earlier copy in another mailbox than the COPY named
+earlier_elsewhere : (k : Setup) (w : World) (author : Author) (last : Sent) (batch : Batch) (copies : List ℕ) (uid : ℕ) → (earlier : IsEarlier k w author last batch copies uid) → earlier.noted.mailbox ≢ last.append.mailbox → ⊥
+earlier_elsewhere k w author last batch copies uid earlier other = other (earlier.mailbox ∙ earlier.named)
 
 -- ---- cuts
 

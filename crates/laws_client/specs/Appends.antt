@@ -171,7 +171,7 @@ pub record Author : Type 0 where
   pub folders : List Folder
   pub sent : List ℕ
 
--- An earlier copy of a batch: of its message behind those of which these copies were stored. That was submitted before the last one, by the same command, for the same
+-- An earlier copy of a batch: of its message behind those of which these copies were stored. That was submitted before the last one, under the same tag, for the same
 -- mailbox, and was stored under this UID, as the session's seat has heard. It stands so, once, with the text and the flags of its message.
 pub record IsEarlier (k : Setup) (w : World) (author : Author) (last : Sent) (batch : Batch) (copies : List ℕ) (uid : ℕ) : Type 0 where
   pub noted : Noted
