@@ -1,5 +1,5 @@
 -- Where an exchange leads, by what it may submit: the number of the next message, and the message that waits for its verdict.
-use Rattle.std.proofs.Common.{◌≡◌, ◌⊎◌, inl, inr, ℕ, zero, suc, ◌+◌, ◌≤◌, arith, Bool, true, false, List, [], ◌∷◌, length, ◌++◌, refl, sym, subst, Option, Some, None}
+use Rattle.std.proofs.Common.{◌≡◌, ◌⊎◌, inl, inr, ℕ, zero, suc, ◌+◌, arith, Bool, true, false, List, [], ◌∷◌, length, ◌++◌, refl, sym, subst, Option, Some, None}
 use Rattle.std.specs.Prelude.{nat_le, if◌then◌else◌}
 use Rattle.std.specs.Option.{option_map}
 use Rattle.change_ring.specs.declared.change.Change.{Change}
@@ -16,8 +16,8 @@ use Rattle.imap_session.specs.declared.standing.After.TheVariants.{Go, Bye}
 use Rattle.imap_session.specs.declared.standing.After.TheVariants as afters
 use Rattle.imap_session.specs.declared.standing.Selected.{Selected}
 use Rattle.imap_session.specs.Exchange as ex
-use Rattle.imap_session.specs.Exchange.{Answer, Batch, Call, Client, Copied, Discarded, Entered, Looked, Found, Counted, Altered, Expunged, Fed, ForDone, ForLiteral, ForNothing, ForVerdict, Left, Mailing, Origin, Refused, Sent, Starved, Exchange, Standing, Turn, Waiting, closed, having, played, refusal_after, saying, waiting, Dropped}
-use Rattle.imap_session.specs.Commands.{appended_words, copied_words, last_number, move_done, on_verdict, refused_text, says, showing, submitted, submitting_first, taking_back, told_appended, told_copied, turn_of_verdict, turn_with, with_copy, with_validity, without_sent}
+use Rattle.imap_session.specs.Exchange.{Answer, Batch, Call, Client, Copied, Discarded, Entered, Looked, Found, Counted, Altered, Expunged, Fed, ForDone, ForLiteral, ForNothing, ForVerdict, Left, Mailing, Origin, Refused, Sent, Starved, Exchange, Standing, Turn, Waiting, closed, having, played, refusal_after, saying, waiting}
+use Rattle.imap_session.specs.Commands.{appended_words, copied_words, last_number, on_verdict, refused_text, says, showing, submitted, submitting_first, taking_back, told_copied, turn_with, with_copy, with_validity, without_sent}
 use Rattle.imap_session.specs.Store.{AnswersVerdict, Follows, to_follow}
 use Rattle.imap_session.specs.declared.texts.ResponseText.TheVariants as texts
 use Rattle.imap_session.specs.Texts.{response_text}
