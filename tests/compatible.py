@@ -23,7 +23,7 @@ import time
 from serving_house import House
 
 USERS = ("alice", "bob")
-CAPABILITIES = ("IMAP4REV2", "IMAP4REV1", "AUTH=PLAIN", "ENABLE", "ID", "IDLE", "LITERAL-", "NAMESPACE", "SASL-IR", "UIDPLUS", "UNSELECT")
+CAPABILITIES = ("IMAP4REV2", "IMAP4REV1", "AUTH=PLAIN", "ENABLE", "ID", "IDLE", "LITERAL-", "MOVE", "NAMESPACE", "SASL-IR", "UIDPLUS", "UNSELECT")
 PATIENCE = 20
 MOST_SESSIONS = 16
 
@@ -179,7 +179,7 @@ def idling(client, house):
 
 
 def copying(house):
-    """One message is copied and moved by one command, with its flags; several are refused, and nothing is copied (RFC 9051, 6.4.7 and 6.4.8)."""
+    """Messages are copied and moved, one and several by one command, with their flags (RFC 9051, 6.4.7 and 6.4.8)."""
     client = connect(house.imap_ports[1])
     client.login("bob", "")
     expect("his mail", client.select(), ("OK", [b"1"]))
@@ -192,17 +192,18 @@ def copying(house):
     texts = [part[1] for part in client.fetch("1:3", "(BODY.PEEK[])")[1] if isinstance(part, tuple)]
     expect("the copies' texts", texts, [texts[0]] * 3)
     expect("the copies' flags", client.fetch("1:3", "(FLAGS)")[1], [b"%d (FLAGS (\\Flagged))" % number for number in (1, 2, 3)])
-    one_at_a_time = ("NO", [b"[LIMIT] One message at a time"])
-    expect("COPY of two", client.copy("1:2", "INBOX"), one_at_a_time)
-    expect("MOVE of all", client.uid("MOVE", "1:*", "INBOX"), one_at_a_time)
     expect("COPY elsewhere", client.copy("1", "Play")[0], "NO")
     expect("what is there", client.status("INBOX", "(MESSAGES UIDNEXT)"), ("OK", [b"INBOX (MESSAGES 3 UIDNEXT 4)"]))
     expect("UID MOVE", client.uid("MOVE", "1", "INBOX")[0], "OK")
     expect("what is there then", client.uid("SEARCH", "ALL"), ("OK", [b"2 3 4"]))
-    for uid in (2, 3):
+    expect("COPY of two", client.copy("1:2", "INBOX"), ("OK", [b"[COPYUID 7 2:3 5:6] COPY completed"]))
+    expect("MOVE of all", client.uid("MOVE", "1:*", "INBOX")[0], "OK")
+    expect("where they are", client.response("COPYUID")[1][-1], b"7 2:6 7:11")
+    expect("what is there now", client.uid("SEARCH", "FLAGGED"), ("OK", [b"7 8 9 10 11"]))
+    for uid in (7, 8, 9, 10):
         expect("a flag", client.uid("STORE", str(uid), "+FLAGS.SILENT", r"(\Deleted)")[0], "OK")
     expect("EXPUNGE", client.expunge()[0], "OK")
-    expect("what is left", client.uid("SEARCH", "ALL"), ("OK", [b"4"]))
+    expect("what is left", client.uid("SEARCH", "ALL"), ("OK", [b"11"]))
     client.logout()
 
 

@@ -55,22 +55,37 @@ is_right() {
 }
 
 # Whether each copy that was answered as delivered, or that a client appended or had copied, stands in the mailbox, where the script came that far: the UIDs that were told are UIDs of
-# messages that were added, none is told twice, and no more copies are answered than were added.
+# messages that were added, none is told twice, and no more copies are answered than were added. Where all mail came from a client that isn't told BYE, whatever else was added is gone
+# again: of a COPY or MOVE of several messages that was refused no copy stays.
 is_kept() {
     grep -q '^T alice total' "$room/out" || return 0
     awk '
-        /^L1 250 2\.1\.5 Delivered$/ { answered++ }
-        $1 == "I1" && $3 == "OK" && ($4 == "[APPENDUID" || $4 == "[COPYUID") {
+        function tell(uid) {
             answered++
-            uid = $4 == "[COPYUID" ? $7 : $6
-            sub(/\]$/, "", uid)
-            if ($5 != 7 || uid in told) wrong = 1
+            if (uid in told) wrong = 1
             told[uid] = 1
         }
+        function tell_set(set, runs, ends, count, run, uid) {
+            sub(/\]$/, "", set)
+            count = split(set, runs, ",")
+            for (run = 1; run <= count; run++) {
+                if (split(runs[run], ends, ":") == 1) ends[2] = ends[1]
+                for (uid = ends[1] + 0; uid <= ends[2] + 0; uid++) tell(uid)
+            }
+        }
+        /^L1 250 2\.1\.5 Delivered$/ { answered++ }
+        /^L1/ || /BYE/ { others = 1 }
+        $1 == "I1" && $3 == "OK" && ($4 == "[APPENDUID" || $4 == "[COPYUID") {
+            if ($5 != 7) wrong = 1
+            tell_set($4 == "[COPYUID" ? $7 : $6)
+        }
         /^T alice add / { added[$4] = 1; count++ }
+        /^T alice gone / { gone[$4] = 1 }
         END {
             for (uid in told)
                 if (!(uid in added)) wrong = 1
+            for (uid in added)
+                if (!others && !(uid in told) && !(uid in gone)) wrong = 1
             exit (wrong || answered > count)
         }
     ' "$room/out"

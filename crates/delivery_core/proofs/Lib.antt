@@ -5,6 +5,7 @@ pub mod Mailed
 pub mod Calls
 pub mod Shown
 pub mod Gone
+pub mod Discarding
 pub mod Looks
 pub mod Boxes
 pub mod Delivers

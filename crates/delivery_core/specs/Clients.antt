@@ -5,7 +5,7 @@ use Rattle.change_ring.specs.declared.change.Change.{Change}
 use Rattle.change_ring.specs.declared.change.Flags.{Flags}
 use Rattle.change_ring.specs.declared.flag_op.FlagOp.{FlagOp}
 use Rattle.change_ring.specs.Log.{Row, replay, rows_of, view_at}
-use Rattle.change_ring.specs.Logged.{flags_logged, removals, removals_if, seen_logged}
+use Rattle.change_ring.specs.Logged.{discards, flags_logged, removals, removals_if, seen_logged}
 use Rattle.cursor_set.specs.Lines.{lines}
 use Rattle.mailbox.specs.Events.{was_logged}
 use Rattle.mailbox.specs.declared.clients.MailFault.{MailFault}
@@ -14,7 +14,7 @@ use Rattle.mailbox.specs.declared.clients.Opening.{Opening}
 use Rattle.mailbox.specs.declared.clients.Row as read
 use Rattle.mailbox.specs.declared.mailbox.Status.{Status}
 use Rattle.shard_queue.specs.At.{set_at}
-use Rattle.world.specs.World.{Config, World, Box, Session, Event, Enter, Logs, Step, Selected, most_changes, most_entries, next_uid, pending, shows}
+use Rattle.world.specs.World.{Config, World, Box, Session, Event, Enter, Discard, Logs, Step, Selected, most_changes, most_entries, next_uid, pending, shows}
 use Rattle.delivery_core.specs.DeliveryCore.{DeliveryCore, view_of}
 use Rattle.delivery_core.specs.Stands.{StandsFor}
 
@@ -121,3 +121,27 @@ pub record IsStatus (k : Config) (b : Box) (status : Status) : Type 0 where
   pub unseen : status.unseen ≡ count_by (λ (row : Row). not row.flags.seen) (rows_of b.log)
   pub deleted : status.deleted ≡ count_by (λ (row : Row). row.flags.deleted) (rows_of b.log)
   pub size : status.size ≡ sum_by (λ (row : Row). length (text_with row.uid b.accepted)) (rows_of b.log)
+
+-- Mailbox m logged these changes, and nothing else changed.
+pub record Discards (k : Config) (m : ℕ) (changes : List Change) (w v : World) : Type 0 where
+  pub there : m < k.mailboxes
+  pub mailbox : Box
+  pub logs : Logs k (w.box m) changes [] mailbox
+  pub made : v ≡ record w { box = set_at w.box m mailbox }
+
+-- there is no such mailbox, or its log has no room for these changes
+abbrev pub DiscardsNot : Config → (m : ℕ) → List Change → World → MailFault → Type 0
+DiscardsNot k m changes w Stranger = k.mailboxes ≤ m
+DiscardsNot k m changes w Lapped = ⊥
+DiscardsNot k m changes w Spent = (m < k.mailboxes) × (most_changes < length (w.box m).log + length changes)
+DiscardsNot k m changes w NoMemory = ⊥
+
+-- these changes were logged in mailbox m, or that was refused and nothing changed
+abbrev pub IsDiscarded : Config → (m : ℕ) → List Change → World → Result (Unit {0}) MailFault → World → Type 0
+IsDiscarded k m changes w (Ok done) v = Discards k m changes w v
+IsDiscarded k m changes w (Err fault) v = (v ≡ w) × DiscardsNot k m changes w fault
+
+-- From each world for which the old one stood, the messages of mailbox m go whose UIDs pass, or that is refused, and the new one stands for what
+-- comes of it.
+abbrev pub Removes : Config → DeliveryCore → (m : ℕ) → (ℕ → Bool) → Result (Unit {0}) MailFault → DeliveryCore → Type 0
+Removes k old m goes result new = (w : World) → StandsFor k old w → (v : World) × Step k w (Discard m goes) v × StandsFor k new v × IsDiscarded k m (discards goes (rows_of (w.box m).log)) w result v

@@ -10,7 +10,7 @@ ghost use Rattle.mailbox.specs.Events.{in_set};
 ghost use Rattle.mailbox.specs.Mailbox.{Mailbox, SameMailbox};
 ghost use Rattle.world.specs.World.{Config, World, Expunge, Feed, Leave, Read, Selected, Store, pending};
 ghost use Rattle.delivery_core.specs.Changes.{SameCounts, SameDelivery};
-ghost use Rattle.delivery_core.specs.Clients.{Alters, Does, Enters, Expunges, Feeds, IsStatus, Leaves, Makes, Reads, Sees};
+ghost use Rattle.delivery_core.specs.Clients.{Alters, Does, Enters, Expunges, Feeds, IsStatus, Leaves, Makes, Reads, Removes, Sees};
 ghost use Rattle.delivery_core.specs.DeliveryCore.{behind, client_of, pending_for, view_of};
 ghost use Rattle.delivery_core.specs.Stands.{StandsFor};
 
@@ -367,5 +367,39 @@ impl DeliveryCore {
             return None;
         }
         Some(self.boxes[number].status())
+    }
+
+    /// Removes the messages of these UIDs from a mailbox, whatever their flags, whether a session entered
+    /// it or not (RFC 9051, 6.4.7 and 6.4.8). UIDs that no message has are passed over. Stranger where there
+    /// is no such mailbox, else Spent where the log has no room for the removals; nothing is then changed.
+    /// It takes no memory.
+    pub fn discard(&mut self, mailbox: u8, uids: &[u32]) -> Result<(), MailFault>
+        // Stranger exactly where there is no such mailbox; the only other fault is Spent.
+        ensures stranger { (result ≡ Err MailFault.Stranger) ↔ (length self.old.boxes ≤ mailbox) }
+        ensures faults { IfErr result (λ fault. (fault ≡ MailFault.Stranger)
+            ⊎ (fault ≡ MailFault.Spent)) }
+
+        // Unless Stranger: from each world for which it stood, the event leads to one for which it stands. After Ok what goes is logged there
+        // and nothing else changed; after Spent there is no room for it.
+        ensures event { result ≢ Err MailFault.Stranger → (k : Config)
+            → Removes k self.old mailbox (in_set (Some uids.now)) result self.new }
+
+        // No session is shown anything: clients and views stay.
+        ensures clients { self.new.clients ≡ self.old.clients }
+        ensures views { (session : ℕ) → view_of self.new session ≡ view_of self.old session }
+        // Nothing between seats and mailboxes has changed, no mailbox has other settings, and there are as many of each.
+        ensures rest { SameDelivery self.old self.new }
+        ensures same { OnOk result ((m : ℕ) (d : Mailbox)
+            → SameMailbox (slice_index_or self.old.boxes m d) (slice_index_or self.new.boxes m d)) }
+        ensures counts { SameCounts self.old self.new }
+
+        // After an error nothing has changed.
+        ensures refused { OnErr result (self.new ≡ self.old) }
+    {
+        let number = usize::from(mailbox);
+        if number >= self.boxes.len() {
+            return Err(MailFault::Stranger);
+        }
+        self.boxes[number].discard(uids)
     }
 }

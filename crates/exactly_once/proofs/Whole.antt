@@ -33,7 +33,7 @@ use Rattle.imap_session.specs.declared.standing.After.TheVariants.{Go, Bye}
 use Rattle.imap_session.specs.declared.standing.After.TheVariants as afters
 use Rattle.imap_session.specs.declared.standing.Selected.{Selected}
 use Rattle.imap_session.specs.Exchange as ex
-use Rattle.imap_session.specs.Exchange.{Answer, PendingLiteral, ForVerdict, Mailing, Call, Entered, Looked, Found, Counted, Altered, Expunged, Fed, Left, Refused, Starved, Exchange, Folder, Standing, Turn, played, refused, refusal_text, refusal_after, saying, having, closed, tagged, bye, is_idling}
+use Rattle.imap_session.specs.Exchange.{Answer, Batch, Origin, Client, Copied, PendingLiteral, ForVerdict, Mailing, Call, Entered, Looked, Found, Counted, Altered, Expunged, Fed, Left, Discarded, Refused, Starved, Exchange, Folder, Standing, Turn, played, refused, refusal_text, refusal_after, saying, having, closed, tagged, bye, is_idling}
 use Rattle.imap_session.specs.Commands.{appending, is_over, last_number, most_unasked, nowhere, number_named, on_rest, on_text, over, found_in, search_done, search_known, search_messages, searching, wanting, wanting_for, closing, completed, counting, entering, expunge_set, fetch_messages, fetched, fetching, folder_of, greeting, idle_turn_in, messages_done, on_chosen, on_command, on_found, on_idle_line, says, showing, store_messages, storing, telling_recent, unlimited, wrong_state, notice, noticing}
 use Rattle.imap_session.specs.Commands as commands_of
 use Rattle.imap_session.proofs.Unkept.{unkept_by}
@@ -55,9 +55,7 @@ use Rattle.imap_session.proofs.Parts.{IsPart, asks_part, challenge_part, comes_p
 use Rattle.imap_answers.specs.declared.list.Listing.{Listing}
 use Rattle.imap_answers.specs.declared.list.Listing.TheVariants.{All, Subscribed}
 use Rattle.imap_grammar.specs.declared.command.CopyMessages.{CopyMessages}
-use Rattle.imap_session.specs.declared.standing.Origin.{Origin}
-use Rattle.imap_session.specs.declared.standing.Origin.TheVariants.{Client, Copied}
-use Rattle.exactly_once.proofs.Copying.{copies_so}
+use Rattle.exactly_once.proofs.Copying.{TakesBack, back_so, copies_so, stored_so}
 
 -- nothing, or lines of which the last one has ended
 abbrev pub IsWhole : List ℕ → Type 0
@@ -128,6 +126,7 @@ SaysWhole (ex.Alter uid op next) = (flags : Option Flags) → SaysWhole (next fl
 SaysWhole (ex.Expunge uids x) = SaysWhole x
 SaysWhole (ex.Feed limit x) = SaysWhole x
 SaysWhole (ex.Leave remove x) = SaysWhole x
+SaysWhole (ex.Discard mailbox uids x) = SaysWhole x
 
 -- of a turn, if there is one
 abbrev pub TurnWhole : Option Turn → Type 0
@@ -158,6 +157,7 @@ played_whole tag now (ex.Wait bytes waits) ((Altered a) ∷ more) p = tt
 played_whole tag now (ex.Wait bytes waits) ((Expunged a b c) ∷ more) p = tt
 played_whole tag now (ex.Wait bytes waits) ((Fed a b) ∷ more) p = tt
 played_whole tag now (ex.Wait bytes waits) ((Left a) ∷ more) p = tt
+played_whole tag now (ex.Wait bytes waits) (Discarded ∷ more) p = tt
 played_whole tag now (ex.Wait bytes waits) ((Refused a) ∷ more) p = tt
 played_whole tag now (ex.Wait bytes waits) (Starved n ∷ []) p =
     unkept_by TurnWhole tt tag now (refused_whole tag now NoMemory) (λ flags size. inl refl) (whole_append (ex.bye (response_text texts.ByeOutOfMemory)) [] (bye_whole (response_text texts.ByeOutOfMemory)) (inl refl)) waits n
@@ -171,6 +171,7 @@ played_whole tag now (ex.Write bytes x) ((Altered a) ∷ more) p = then_saying b
 played_whole tag now (ex.Write bytes x) ((Expunged a b c) ∷ more) p = then_saying bytes (played tag now x ((Expunged a b c) ∷ more)) p.0 (played_whole tag now x ((Expunged a b c) ∷ more) p.1)
 played_whole tag now (ex.Write bytes x) ((Fed a b) ∷ more) p = then_saying bytes (played tag now x ((Fed a b) ∷ more)) p.0 (played_whole tag now x ((Fed a b) ∷ more) p.1)
 played_whole tag now (ex.Write bytes x) ((Left a) ∷ more) p = then_saying bytes (played tag now x ((Left a) ∷ more)) p.0 (played_whole tag now x ((Left a) ∷ more) p.1)
+played_whole tag now (ex.Write bytes x) (Discarded ∷ more) p = then_saying bytes (played tag now x (Discarded ∷ more)) p.0 (played_whole tag now x (Discarded ∷ more) p.1)
 played_whole tag now (ex.Write bytes x) ((Refused a) ∷ more) p = then_saying bytes (played tag now x ((Refused a) ∷ more)) p.0 (played_whole tag now x ((Refused a) ∷ more) p.1)
 played_whole tag now (ex.Write bytes x) (Starved zero ∷ []) p = refused_whole tag now NoMemory
 played_whole tag now (ex.Write bytes x) (Starved zero ∷ d ∷ more) p = then_saying bytes (played tag now x (Starved zero ∷ d ∷ more)) p.0 (played_whole tag now x (Starved zero ∷ d ∷ more) p.1)
@@ -186,6 +187,7 @@ played_whole tag now (ex.Enter selected next) ((Altered a) ∷ more) p = tt
 played_whole tag now (ex.Enter selected next) ((Expunged a b c) ∷ more) p = tt
 played_whole tag now (ex.Enter selected next) ((Fed a b) ∷ more) p = tt
 played_whole tag now (ex.Enter selected next) ((Left a) ∷ more) p = tt
+played_whole tag now (ex.Enter selected next) (Discarded ∷ more) p = tt
 played_whole tag now (ex.Enter selected next) (Refused a ∷ []) p = refused_whole tag now a
 played_whole tag now (ex.Enter selected next) (Refused a ∷ d ∷ more) p = tt
 played_whole tag now (ex.Enter selected next) ((Starved zero) ∷ more) p = tt
@@ -199,6 +201,7 @@ played_whole tag now (ex.Look by_uid set next) ((Altered a) ∷ more) p = tt
 played_whole tag now (ex.Look by_uid set next) ((Expunged a b c) ∷ more) p = tt
 played_whole tag now (ex.Look by_uid set next) ((Fed a b) ∷ more) p = tt
 played_whole tag now (ex.Look by_uid set next) ((Left a) ∷ more) p = tt
+played_whole tag now (ex.Look by_uid set next) (Discarded ∷ more) p = tt
 played_whole tag now (ex.Look by_uid set next) (Refused a ∷ []) p = refused_whole tag now a
 played_whole tag now (ex.Look by_uid set next) (Refused a ∷ d ∷ more) p = tt
 played_whole tag now (ex.Look by_uid set next) (Starved a ∷ more) p = tt
@@ -211,6 +214,7 @@ played_whole tag now (ex.Read uid mark next) ((Altered a) ∷ more) p = tt
 played_whole tag now (ex.Read uid mark next) ((Expunged a b c) ∷ more) p = tt
 played_whole tag now (ex.Read uid mark next) ((Fed a b) ∷ more) p = tt
 played_whole tag now (ex.Read uid mark next) ((Left a) ∷ more) p = tt
+played_whole tag now (ex.Read uid mark next) (Discarded ∷ more) p = tt
 played_whole tag now (ex.Read uid mark next) (Refused a ∷ []) p = refused_whole tag now a
 played_whole tag now (ex.Read uid mark next) (Refused a ∷ d ∷ more) p = tt
 played_whole tag now (ex.Read uid mark next) ((Starved zero) ∷ more) p = tt
@@ -224,6 +228,7 @@ played_whole tag now (ex.Count mailbox next) ((Altered a) ∷ more) p = tt
 played_whole tag now (ex.Count mailbox next) ((Expunged a b c) ∷ more) p = tt
 played_whole tag now (ex.Count mailbox next) ((Fed a b) ∷ more) p = tt
 played_whole tag now (ex.Count mailbox next) ((Left a) ∷ more) p = tt
+played_whole tag now (ex.Count mailbox next) (Discarded ∷ more) p = tt
 played_whole tag now (ex.Count mailbox next) (Refused a ∷ []) p = refused_whole tag now a
 played_whole tag now (ex.Count mailbox next) (Refused a ∷ d ∷ more) p = tt
 played_whole tag now (ex.Count mailbox next) ((Starved zero) ∷ more) p = tt
@@ -237,6 +242,7 @@ played_whole tag now (ex.Alter uid op next) ((Altered a) ∷ more) p = then_havi
 played_whole tag now (ex.Alter uid op next) ((Expunged a b c) ∷ more) p = tt
 played_whole tag now (ex.Alter uid op next) ((Fed a b) ∷ more) p = tt
 played_whole tag now (ex.Alter uid op next) ((Left a) ∷ more) p = tt
+played_whole tag now (ex.Alter uid op next) (Discarded ∷ more) p = tt
 played_whole tag now (ex.Alter uid op next) (Refused a ∷ []) p = refused_whole tag now a
 played_whole tag now (ex.Alter uid op next) (Refused a ∷ d ∷ more) p = tt
 played_whole tag now (ex.Alter uid op next) ((Starved zero) ∷ more) p = tt
@@ -250,6 +256,7 @@ played_whole tag now (ex.Expunge uids x) ((Altered a) ∷ more) p = tt
 played_whole tag now (ex.Expunge uids x) ((Expunged a b c) ∷ more) p = then_showing (ex.Expunge uids) (Expunged a b c) a b (played tag now x more) (played_whole tag now x more p)
 played_whole tag now (ex.Expunge uids x) ((Fed a b) ∷ more) p = tt
 played_whole tag now (ex.Expunge uids x) ((Left a) ∷ more) p = tt
+played_whole tag now (ex.Expunge uids x) (Discarded ∷ more) p = tt
 played_whole tag now (ex.Expunge uids x) (Refused a ∷ []) p = refused_whole tag now a
 played_whole tag now (ex.Expunge uids x) (Refused a ∷ d ∷ more) p = tt
 played_whole tag now (ex.Expunge uids x) ((Starved zero) ∷ more) p = tt
@@ -263,6 +270,7 @@ played_whole tag now (ex.Feed limit x) ((Altered a) ∷ more) p = tt
 played_whole tag now (ex.Feed limit x) ((Expunged a b c) ∷ more) p = tt
 played_whole tag now (ex.Feed limit x) ((Fed a b) ∷ more) p = then_showing (ex.Feed limit) (Fed a b) a b (played tag now x more) (played_whole tag now x more p)
 played_whole tag now (ex.Feed limit x) ((Left a) ∷ more) p = tt
+played_whole tag now (ex.Feed limit x) (Discarded ∷ more) p = tt
 played_whole tag now (ex.Feed limit x) (Refused a ∷ []) p = refused_whole tag now a
 played_whole tag now (ex.Feed limit x) (Refused a ∷ d ∷ more) p = tt
 played_whole tag now (ex.Feed limit x) ((Starved zero) ∷ more) p = tt
@@ -275,11 +283,26 @@ played_whole tag now (ex.Leave remove x) ((Counted a) ∷ more) p = tt
 played_whole tag now (ex.Leave remove x) ((Altered a) ∷ more) p = tt
 played_whole tag now (ex.Leave remove x) ((Expunged a b c) ∷ more) p = tt
 played_whole tag now (ex.Leave remove x) ((Fed a b) ∷ more) p = tt
+played_whole tag now (ex.Leave remove x) (Discarded ∷ more) p = tt
 played_whole tag now (ex.Leave remove x) ((Left a) ∷ more) p = then_having (ex.Leave remove) (Left a) (played tag (record now { selected = None }) x more) (played_whole tag (record now { selected = None }) x more p)
 played_whole tag now (ex.Leave remove x) (Refused a ∷ []) p = refused_whole tag now a
 played_whole tag now (ex.Leave remove x) (Refused a ∷ d ∷ more) p = tt
 played_whole tag now (ex.Leave remove x) ((Starved zero) ∷ more) p = tt
 played_whole tag now (ex.Leave remove x) ((Starved (suc a)) ∷ more) p = tt
+played_whole tag now (ex.Discard mailbox uids x) [] p = tt
+played_whole tag now (ex.Discard mailbox uids x) ((Entered a) ∷ more) p = tt
+played_whole tag now (ex.Discard mailbox uids x) ((Looked a) ∷ more) p = tt
+played_whole tag now (ex.Discard mailbox uids x) ((Found a) ∷ more) p = tt
+played_whole tag now (ex.Discard mailbox uids x) ((Counted a) ∷ more) p = tt
+played_whole tag now (ex.Discard mailbox uids x) ((Altered a) ∷ more) p = tt
+played_whole tag now (ex.Discard mailbox uids x) ((Expunged a b c) ∷ more) p = tt
+played_whole tag now (ex.Discard mailbox uids x) ((Fed a b) ∷ more) p = tt
+played_whole tag now (ex.Discard mailbox uids x) ((Left a) ∷ more) p = tt
+played_whole tag now (ex.Discard mailbox uids x) (Discarded ∷ more) p = then_having (ex.Discard mailbox uids) Discarded (played tag now x more) (played_whole tag now x more p)
+played_whole tag now (ex.Discard mailbox uids x) (Refused a ∷ []) p = refused_whole tag now a
+played_whole tag now (ex.Discard mailbox uids x) (Refused a ∷ d ∷ more) p = tt
+played_whole tag now (ex.Discard mailbox uids x) ((Starved zero) ∷ more) p = tt
+played_whole tag now (ex.Discard mailbox uids x) ((Starved (suc a)) ∷ more) p = tt
 
 -- ---- the commands
 
@@ -402,7 +425,7 @@ in_copy : (now : Standing) (copy : CopyMessages) → SaysWhole (on_command now (
 in_copy now copy =
     copies_so SaysWhole
     (record { told = λ text. tt; wanted = λ x p. (inl refl, p); looked = λ by_uid set next p. p; found = λ uid mark next p. p }) now copy
-    (λ source mailbox row copied. (inl refl, inl refl))
+    (λ batch mailbox row copied. inl refl)
 
 in_notice : (said : Option (List ℕ)) (x : Exchange) → SaysWhole x → SaysWhole (noticing said x)
 in_notice None x whole = whole
@@ -511,19 +534,31 @@ converses_whole step (goes_on now between next one others old mid new first seco
 
 -- ---- verdicts
 
-in_stored : (selected : Option Selected) (origin : Origin) (uidvalidity uid : ℕ) → SaysWhole (commands_of.told_stored selected origin uidvalidity uid)
-in_stored selected Client uidvalidity uid = in_showing selected _ tt
-in_stored selected (Copied source) uidvalidity uid =
-    in_either source.moves _ _ (ends (codes "* ") (commands_of.moved_words uidvalidity source.uid uid), λ flags. tt) (in_showing selected _ tt)
+in_back : TakesBack SaysWhole
+in_back = record { told = λ text. tt; removed = λ mailbox uids x p. p }
 
-in_verdict : (selected : Option Selected) (origin : Origin) (mailbox : ℕ) (verdict : Verdict)
-    → SaysWhole (commands_of.on_verdict selected origin mailbox verdict)
-in_verdict selected origin mailbox (verdicts.Stored uid) = λ status. in_stored selected origin status.uidvalidity uid
-in_verdict selected origin mailbox (verdicts.Refused why) = tt
+in_moving : (selected : Option Selected) (uidvalidity : ℕ) (batch : Batch) → SaysWhole (commands_of.moving selected uidvalidity batch)
+in_moving selected uidvalidity batch = (
+  ends (codes "* ") (commands_of.moved_words uidvalidity batch),
+  in_found (λ (s : Selected). ex.Discard s.mailbox batch.uids (ex.Feed unlimited (commands_of.move_done batch))) (commands_of.move_done batch) (λ s. tt) tt selected,
+)
+
+in_copied : (selected : Option Selected) (batch : Batch) (uidvalidity : ℕ) → SaysWhole (commands_of.told_copied selected batch uidvalidity)
+in_copied selected batch uidvalidity = in_either batch.moves _ _ (in_moving selected uidvalidity batch) (in_showing selected _ tt)
+
+in_stored : (mailing : Mailing) (selected : Option Selected) (origin : Origin) (mailbox uid : ℕ) → SaysWhole (commands_of.on_stored mailing selected origin mailbox uid)
+in_stored mailing selected Client mailbox uid = λ status. in_showing selected _ tt
+in_stored mailing selected (Copied batch) mailbox uid =
+    stored_so SaysWhole in_back mailing selected batch mailbox uid (λ row left is. inl refl) (λ none status. in_copied selected (commands_of.with_copy uid batch) status.uidvalidity)
+
+in_verdict : (mailing : Mailing) (selected : Option Selected) (origin : Origin) (mailbox : ℕ) (verdict : Verdict)
+    → SaysWhole (commands_of.on_verdict mailing selected origin mailbox verdict)
+in_verdict mailing selected origin mailbox (verdicts.Stored uid) = in_stored mailing selected origin mailbox uid
+in_verdict mailing selected origin mailbox (verdicts.Refused why) = back_so SaysWhole in_back mailbox (commands_of.copies_of origin) (commands_of.refused_text why)
 
 verdict_whole : (sent : Option ex.Sent) (now : Standing) (verdict : Verdict) (answers : List Answer) → TurnWhole (commands_of.turn_with sent now verdict answers)
 verdict_whole None now verdict answers = tt
-verdict_whole (Some sent) now verdict answers = played_whole sent.tag (commands_of.without_sent now) (commands_of.on_verdict now.selected sent.origin sent.append.mailbox verdict) answers (in_verdict now.selected sent.origin sent.append.mailbox verdict)
+verdict_whole (Some sent) now verdict answers = played_whole sent.tag (commands_of.without_sent now) (commands_of.on_verdict now.mailing now.selected sent.origin sent.append.mailbox verdict) answers (in_verdict now.mailing now.selected sent.origin sent.append.mailbox verdict)
 
 verdict_answered : {S : Type 0} (step : S → Call → Answer → S → Type 0) (now : Standing) (verdict : Verdict) (old new : S) (said : List ℕ) (how : After) (next : Standing) → AnswersVerdict step now verdict old new [] said how next → IsWhole said
 verdict_answered step now verdict old new said how next a = subst IsWhole (sym a.wrote) (some_whole _ _ (verdict_whole now.mailing.sent now verdict a.answers) a.played)
@@ -555,6 +590,7 @@ idle_whole (Some s) true now ((Expunged a b c) ∷ more) = tt
 idle_whole (Some s) true now (Fed a b ∷ []) = whole_append (lines a b) [] (lines_whole a b) (inl refl)
 idle_whole (Some s) true now (Fed a b ∷ d ∷ more) = tt
 idle_whole (Some s) true now ((Left a) ∷ more) = tt
+idle_whole (Some s) true now (Discarded ∷ more) = tt
 idle_whole (Some s) true now (Refused Lapped ∷ []) = refused_whole [] now Lapped
 idle_whole (Some s) true now (Refused Lapped ∷ d ∷ more) = tt
 idle_whole (Some s) true now (Refused Stranger ∷ []) = refused_whole [] now Stranger

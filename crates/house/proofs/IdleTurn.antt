@@ -11,7 +11,7 @@ use Rattle.delivery_core.specs.Stands as core
 use Rattle.house.specs.Setup.{Setup}
 use Rattle.imap_session.specs.declared.standing.After.TheVariants as afters
 use Rattle.imap_session.specs.declared.standing.Selected.{Selected as Chosen}
-use Rattle.imap_session.specs.Exchange.{Answer, Entered, Looked, Found, Counted, Altered, Expunged, Fed, Left, Refused, Starved, Event, Feed, Standing, Turn, having, is_idling, nothing_more, refused, saying}
+use Rattle.imap_session.specs.Exchange.{Answer, Entered, Looked, Found, Counted, Altered, Expunged, Fed, Left, Discarded, Refused, Starved, Event, Feed, Standing, Turn, having, is_idling, nothing_more, refused, saying}
 use Rattle.imap_session.specs.Exchange as calls
 use Rattle.imap_session.specs.Commands.{count_shown, idle_turn, idle_turn_in, most_changes}
 use Rattle.imap_session.specs.Store.{IdleTurns, Met, Starves}
@@ -71,6 +71,7 @@ in_mailbox s now (Counted status ∷ more) t e = cc
 in_mailbox s now (Altered flags ∷ more) t e = cc
 in_mailbox s now (Expunged view changes gone ∷ more) t e = cc
 in_mailbox s now (Left gone ∷ more) t e = cc
+in_mailbox s now (Discarded ∷ more) t e = cc
 in_mailbox s now (Starved n ∷ more) t e = cc
 
 chosen : (o : Option Chosen) → IsSome o → (s : Chosen) × (o ≡ Some s)

@@ -6,7 +6,7 @@ use Rattle.change_ring.specs.declared.change.Change.{Change}
 use Rattle.shard_queue.proofs.AtLaws.{at_cases}
 use Rattle.shard_queue.specs.At.{set_at}
 use Rattle.world.specs.World as ev
-use Rattle.world.specs.World.{Config, World, Session, Event, Step, Steps, IsWorld, empty_world, MailStep, LeaveStep, put_joins, put_full, put_no_memory, put_shut, end_joins, end_full, takes, take_empty, delivers, deliver_spent, deliver_full, deliver_no_memory, answers, answer_full, hears_one, enters, enter_spent, enter_no_memory, mails, mail_lapped, mail_spent, mail_no_memory, leaves, leave_spent}
+use Rattle.world.specs.World.{Config, World, Session, Event, Step, Steps, IsWorld, empty_world, MailStep, LeaveStep, put_joins, put_full, put_no_memory, put_shut, end_joins, end_full, takes, take_empty, delivers, deliver_spent, deliver_full, deliver_no_memory, answers, answer_full, hears_one, enters, enter_spent, enter_no_memory, mails, mail_lapped, mail_spent, mail_no_memory, leaves, leave_spent, discards_them, discard_spent}
 use Rattle.delivery_core.specs.DeliveryCore.{DeliveryCore, client_of}
 use Rattle.delivery_core.specs.Stands.{StandsFor, StandsForPlace}
 
@@ -56,6 +56,8 @@ step_keeps k w (ev.Store n u op) v none (s, is, step) = mail_keeps k w n s _ _ _
 step_keeps k w (ev.Expunge n may_go) v none (s, is, step) = mail_keeps k w n s _ _ _ v none is step
 step_keeps k w (ev.Feed n limit) v none (s, is, step) = mail_keeps k w n s _ _ _ v none is step
 step_keeps k w (ev.Leave n removing) v none (s, is, step) = leave_keeps k w n s _ v none is step
+step_keeps k w (ev.Discard m goes) v none (discards_them b there L e) = rw e none
+step_keeps k w (ev.Discard m goes) v none (discard_spent there many e) = rw e none
 
 steps_keep : (k : Config) (w : World) (events : List Event) (v : World) → NoneBeyond k w → Steps k w events v → NoneBeyond k v
 steps_keep k w [] v none e = rw e none

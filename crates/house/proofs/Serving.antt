@@ -5,7 +5,7 @@ use Rattle.change_ring.specs.declared.change.Change.{Change}
 use Rattle.change_ring.specs.declared.change.Flags.{Flags}
 use Rattle.change_ring.specs.declared.flag_op.FlagOp.{FlagOp}
 use Rattle.change_ring.specs.Log.{rows_of, view_at}
-use Rattle.change_ring.specs.Logged.{flags_logged, removals, removals_if, seen_logged}
+use Rattle.change_ring.specs.Logged.{discards, flags_logged, removals, removals_if, seen_logged}
 use Rattle.mailbox.specs.Events.{in_set}
 use Rattle.mailbox.specs.Mailbox.{Mailbox}
 use Rattle.mailbox.specs.declared.clients.MailFault.{MailFault}
@@ -16,7 +16,7 @@ use Rattle.mailbox.specs.declared.mailbox.Status.{Status}
 use Rattle.world.specs.World as world
 use Rattle.world.specs.World.{Config, World, Box, Session, Event, Step, Allowed, EnterStep, enters, enter_spent, enter_no_memory, LeaveStep, leave_spent, MailStep, mails, mail_lapped, mail_spent, mail_no_memory, Selected, pending}
 use Rattle.delivery_core.specs.Changes.{SameCounts, SameDelivery}
-use Rattle.delivery_core.specs.Clients.{Alters, Does, Done, Enters, Expunges, Feeds, IsStatus, Leaves, Makes, Opens, Reads, Refuses, Sees}
+use Rattle.delivery_core.specs.Clients.{Alters, DiscardsNot, Does, Done, Enters, Expunges, Feeds, IsStatus, Leaves, Makes, Opens, Reads, Refuses, Removes, Sees}
 use Rattle.delivery_core.specs.declared.client.Client.{Client}
 use Rattle.delivery_core.specs.DeliveryCore.{DeliveryCore, behind, client_of, pending_for, view_of}
 use Rattle.delivery_core.specs.Stands.{StandsFor}
@@ -24,7 +24,7 @@ use Rattle.delivery_core.proofs.Looks.{pending_seen, view_seen}
 use Rattle.delivery_core.proofs.Mailed.{session_at, there_at}
 use Rattle.imap_grammar.specs.Sets.{names_one}
 use Rattle.imap_grammar.specs.declared.set.SeqRange.{SeqRange}
-use Rattle.imap_session.specs.Exchange.{Enter, Look, Read, Count, Alter, Expunge, Feed, Leave, Entered, Looked, Found, Counted, Altered, Left, Refused}
+use Rattle.imap_session.specs.Exchange.{Enter, Look, Read, Count, Alter, Expunge, Feed, Leave, Discard, Entered, Looked, Found, Counted, Altered, Left, Refused}
 use Rattle.imap_session.specs.Store.{answer}
 use Rattle.imap_session.specs.Store as store
 use Rattle.house.specs.declared.core_store.CoreStore.{CoreStore}
@@ -308,6 +308,43 @@ counted core n m status l is validity = record {
   rest = same_delivery core;
   counts = same_counts core;
   view = refl;
+  behind = tt;
+}
+
+-- ---- Discard
+
+-- a Discard was refused: as a stranger where there is no such mailbox, and else as the event says
+not_discarded : (k : Config) (w : World) (old : DeliveryCore) (m : ℕ) (changes : List Change) (fault : MailFault) → StandsFor k old w → (fault ≡ Stranger → length old.boxes ≤ m) → ((fault ≡ Stranger → ⊥) → DiscardsNot k m changes w fault) → DiscardsNot k m changes w fault
+not_discarded k w old m changes Stranger S few other = omega (arith, few refl, S.mailboxes)
+not_discarded k w old m changes Lapped S few other = other (λ e. cc)
+not_discarded k w old m changes Spent S few other = other (λ e. cc)
+not_discarded k w old m changes NoMemory S few other = other (λ e. cc)
+
+pub discarded : (old new : DeliveryCore) (n m : ℕ) (uids : List ℕ) (result : Result (Unit {0}) MailFault) → (result ≡ Err Stranger) ↔ (length old.boxes ≤ m)
+    → ((result ≡ Err Stranger → ⊥) → (k : Config) → Removes k old m (in_set (Some uids)) result new)
+    → ((session : ℕ) → view_of new session ≡ view_of old session) → SameDelivery old new → SameCounts old new → OnErr result (new ≡ old)
+    → store.Discards (λ a. Serves (serving old n) (Discard m uids) a (serving new n)) result
+discarded old new n m uids (Ok done) strange event views rest counts refused = record {
+  same = refl;
+  meets = λ k w S. let d = event (λ e. cc) k w S in (d.0, d.3, d.2);
+  rest = rest;
+  counts = counts;
+  view = views n;
+  behind = tt;
+}
+discarded old new n m uids (Err fault) strange event views rest counts refused = record {
+  same = refl;
+  meets = λ k w S. (
+    w,
+    (
+      refl,
+      not_discarded k w old m (discards (in_set (Some uids)) (rows_of (w.box m).log)) fault S (λ e. strange.0 (ap (λ f. Err f) e)) (λ other. (event (λ e. other (same_fault (Err fault) fault Stranger refl e)) k w S).3.1),
+    ),
+    subst (λ h. StandsFor k h w) (sym refused) S,
+  );
+  rest = rest;
+  counts = counts;
+  view = views n;
   behind = tt;
 }
 

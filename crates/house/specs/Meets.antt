@@ -1,5 +1,5 @@
 -- What a session's call comes to in the world, with the answer that it gets.
-use Rattle.std.specs.Prelude.{◌≡◌, ℕ, ◌+◌, ◌<◌, ◌≤◌, true, List, [], length, take, Some, None, Ok, Err}
+use Rattle.std.specs.Prelude.{◌≡◌, ℕ, ◌<◌, ◌≤◌, true, List, [], length, take, Some, None, Ok, Err}
 use Rattle.change_ring.specs.declared.change.Change.{Change}
 use Rattle.change_ring.specs.Log.{rows_of, view_at}
 use Rattle.change_ring.specs.Logged.{discards, flags_logged, removals, seen_logged}
@@ -7,9 +7,8 @@ use Rattle.mailbox.specs.Events.{in_set}
 use Rattle.mailbox.specs.declared.clients.MailFault.{MailFault}
 use Rattle.mailbox.specs.declared.clients.MailFault.TheVariants.{Stranger, Lapped, Spent, NoMemory}
 use Rattle.world.specs.World as world
-use Rattle.world.specs.World.{Config, World, Box, Logs, Session, Event, Step, Allowed, Selected, most_changes, most_entries, pending}
-use Rattle.shard_queue.specs.At.{set_at}
-use Rattle.delivery_core.specs.Clients.{Alters, Done, IsStatus, Leaves, Opens, Reads, Refuses}
+use Rattle.world.specs.World.{Config, World, Box, Session, Event, Step, Allowed, Selected, most_entries, pending}
+use Rattle.delivery_core.specs.Clients.{Alters, Discards, DiscardsNot, Done, IsStatus, Leaves, Opens, Reads, Refuses}
 use Rattle.imap_grammar.specs.Sets.{names_one}
 use Rattle.imap_session.specs.Exchange.{Call, Answer, Enter, Look, Read, Count, Alter, Expunge, Feed, Leave, Discard, Entered, Looked, Found, Counted, Altered, Expunged, Fed, Left, Discarded, Refused}
 
@@ -42,20 +41,6 @@ pub record Shows (view : List ℕ) (changes shown : List Change) (b : Box) (s : 
   pub kept : b.base ≤ s.cursor
   pub counted : view ≡ view_at b.log s.cursor
   pub handed : changes ≡ shown
-
--- Mailbox m logged these changes, and nothing else changed.
-pub record Discards (k : Config) (m : ℕ) (changes : List Change) (w v : World) : Type 0 where
-  pub there : m < k.mailboxes
-  pub mailbox : Box
-  pub logs : Logs k (w.box m) changes [] mailbox
-  pub made : v ≡ record w { box = set_at w.box m mailbox }
-
--- there is no such mailbox, or its log has no room for these changes
-abbrev pub DiscardsNot : Config → (m : ℕ) → List Change → World → MailFault → Type 0
-DiscardsNot k m changes w Stranger = k.mailboxes ≤ m
-DiscardsNot k m changes w Lapped = ⊥
-DiscardsNot k m changes w Spent = (m < k.mailboxes) × (most_changes < length (w.box m).log + length changes)
-DiscardsNot k m changes w NoMemory = ⊥
 
 -- Session n's call leads from world w to world v with this answer.
 abbrev pub Meets : Config → ℕ → World → Call → Answer → World → Type 0

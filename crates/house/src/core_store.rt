@@ -19,7 +19,8 @@ pub struct CoreStore {
 }
 
 /// Each call is the core's own of this session. Stranger where the session has entered no mailbox, and for
-/// `enter` and `status` where there is none of this number; nothing is changed by a call that is refused.
+/// `enter`, `status` and `discard` where there is none of this number; nothing is changed by a call that is
+/// refused.
 impl Store for CoreStore {
     ghost step = { λ old call answered new. Serves old call answered new };
 
@@ -66,5 +67,9 @@ impl Store for CoreStore {
 
     fn leave(&mut self, remove: bool) -> Result<usize, MailFault> {
         self.core.leave(self.session, remove)
+    }
+
+    fn discard(&mut self, mailbox: u8, uids: &[u32]) -> Result<(), MailFault> {
+        self.core.discard(mailbox, uids)
     }
 }

@@ -1,5 +1,5 @@
 -- A mailbox's log stays legal under what a client's call logs.
-use Rattle.std.proofs.Common.{◌≡◌, true, false, ℕ, suc, ◌<◌, List, [], ◌∷◌, ◌++◌, AllPairs, sym, ap, ◌∙◌, subst, refl, arith}
+use Rattle.std.proofs.Common.{◌≡◌, true, false, ℕ, suc, ◌<◌, List, [], ◌∷◌, ◌++◌, AllPairs, Some, sym, ap, ◌∙◌, subst, refl, arith}
 use Rattle.std.specs.List.Sorted.{IsStrictlyIncreasing}
 use Rattle.std.proofs.lemmas.List.{append-nil}
 use Rattle.std.proofs.lemmas.List.Kept.{AllPairs-from_increasing}
@@ -8,9 +8,9 @@ use Rattle.change_ring.specs.Log.{FitsView, IsLegalLog, Row, added, rows_of}
 use Rattle.change_ring.proofs.LogLaws.{FitsView-append, added-append, uids-rows_after}
 use Rattle.mailbox.specs.Events.{in_set}
 use Rattle.world.proofs.Base.{Rising, every_of_all}
-use Rattle.world.proofs.Mails.{added_flags, added_removals, flags_there, removals_there, rows_rising, uids}
+use Rattle.world.proofs.Mails.{added_discards, added_flags, added_removals, discards_there, flags_there, removals_there, rows_rising, uids}
 use Rattle.house_history.specs.declared.event.Step.{Step}
-use Rattle.house_history.specs.declared.event.Step.TheVariants.{Read, Alter, Expunge, Leave}
+use Rattle.house_history.specs.declared.event.Step.TheVariants.{Read, Alter, Expunge, Leave, Discard}
 use Rattle.house_history.specs.Events.{logged}
 
 pub legal_empty_log : IsLegalLog []
@@ -30,6 +30,7 @@ added_logged (Alter uid op) rows = added_flags rows uid op
 added_logged (Expunge set) rows = added_removals (in_set set) rows
 added_logged (Leave true) rows = added_removals (λ _. true) rows
 added_logged (Leave false) rows = refl
+added_logged (Discard uids) rows = added_discards (in_set (Some uids)) rows
 
 logged_there : (s : Step) (rows : List Row) → Rising (λ u v. u < v) (uids rows) → FitsView (uids rows) (logged s rows)
 logged_there (Read uid true) rows rise = flags_there rows uid _
@@ -38,6 +39,7 @@ logged_there (Alter uid op) rows rise = flags_there rows uid op
 logged_there (Expunge set) rows rise = removals_there (in_set set) rows rise
 logged_there (Leave true) rows rise = removals_there (λ _. true) rows rise
 logged_there (Leave false) rows rise = tt
+logged_there (Discard uids) rows rise = discards_there (in_set (Some uids)) rows rise
 
 legal_more : (log cs : List Change) → IsLegalLog log → FitsView (uids (rows_of log)) cs → added cs ≡ [] → IsLegalLog (log ++ cs)
 legal_more log cs legal fits none = record {

@@ -96,6 +96,21 @@ impl Entry<LeaveCall, Event> for Leaving {
     ghost entry = { λ x. events.Changed x.mailbox (steps.Leave x.remove) };
 }
 
+#[derive(Drop)]
+struct DiscardCall<'a> {
+    mailbox: u8,
+    gone: &'a [u32],
+}
+
+struct Discarding;
+
+impl<'a> Entry<DiscardCall<'a>, Event> for Discarding {
+    ghost use Rattle.house_history.specs.declared.event.Event.TheVariants as events;
+    ghost use Rattle.house_history.specs.declared.event.Step.TheVariants as steps;
+
+    ghost entry = { λ x. events.Changed x.mailbox (steps.Discard x.gone.now) };
+}
+
 /// The right of whoever holds a mailbox.
 #[derive(Drop)]
 pub struct MailboxPart<B: Naming> {
@@ -229,5 +244,21 @@ impl<B: Naming> MailboxPart<B> {
         };
         self.owner
             .add::<LeaveCall, Leaving>(&mut front.seen, &about);
+    }
+
+    /// Says that the messages of these UIDs were removed, whatever their flags.
+    pub fn discard(&mut self, front: &mut Front<B>, uids: &[u32])
+        ensures part { (self.new.number ≡ self.old.number)
+            × (self.new.events ≡ self.old.events
+            ++ events.Changed self.old.number (steps.Discard uids.now) ∷ []) }
+        ensures seen { IsPrefix front.old front.new × Legal front.new }
+        ensures all { part concerns self.old.number front.new ≡ self.new.events }
+    {
+        let about = DiscardCall {
+            mailbox: self.number,
+            gone: uids,
+        };
+        self.owner
+            .add::<DiscardCall<'_>, Discarding>(&mut front.seen, &about);
     }
 }

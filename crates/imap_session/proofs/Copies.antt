@@ -1,7 +1,10 @@
 -- What is said of a message that was stored, whatever it comes from; and what a COPY or MOVE comes to.
-use Rattle.std.proofs.Common.{◌≡◌, ◌++◌, ◌+◌, ◌<◌, ◌==◌, ℕ, List, [], ◌∷◌, true, false, Option, Some, None, Result, Ok, Err, refl, sym, ap, ◌∙◌, subst, append_assoc, append-nil, add-one, drop, drop-cons, get_or, length, map}
-use Rattle.std.specs.Prelude.{option_to_list, if◌then◌else◌}
+use Rattle.std.proofs.Common.{◌≡◌, arith, ◌++◌, ◌+◌, ◌<◌, ◌==◌, ℕ, List, [], ◌∷◌, true, false, Option, Some, None, Result, Ok, Err, refl, sym, ap, ◌∙◌, subst, append_assoc, append-nil, add-one, drop, drop-cons, get_or, length, map}
+use Rattle.std.proofs.lemmas.Bool.Decides.{nat_tests}
+use Rattle.std.specs.Prelude.{nat_le, option_to_list, reverse, if◌then◌else◌}
+use Rattle.std.proofs.lemmas.List.{length-reverse, reverse-append}
 use Rattle.mailbox.specs.declared.clients.Row.{Row}
+use Rattle.change_ring.specs.declared.change.Flags.{Flags}
 use Rattle.mailbox.specs.declared.clients.MailFault.{MailFault}
 use Rattle.mailbox.specs.declared.clients.MailFault.TheVariants.{NoMemory}
 use Rattle.imap_grammar.specs.declared.command.CopyMessages.{CopyMessages}
@@ -15,8 +18,8 @@ use Rattle.imap_session.specs.declared.standing.Selected.{Selected}
 use Rattle.imap_session.specs.declared.texts.ResponseText.{ResponseText}
 use Rattle.imap_session.specs.declared.texts.ResponseText.TheVariants as texts
 use Rattle.imap_session.specs.Exchange as ex
-use Rattle.imap_session.specs.Exchange.{Batch, Origin, Client, Copied, Discarded, Answer, Call, Exchange, Mailing, Standing, closed, played}
-use Rattle.imap_session.specs.Commands.{copy_messages, copy_to, gathering, is_over, most_copied, nowhere, number_named, on_found, on_verdict, over, says, submitting_first, taking_back, told_copied, wanting, with_copy, with_message, with_validity, wrong_state}
+use Rattle.imap_session.specs.Exchange.{Batch, Origin, Client, Copied, Discarded, ForVerdict, Answer, Call, Exchange, Mailing, Standing, closed, played, waiting}
+use Rattle.imap_session.specs.Commands.{copy_messages, copy_to, gathering, is_over, most_copied, nowhere, number_named, on_found, on_verdict, over, says, last_number, submitting, submitting_first, taking_back, told_copied, wanting, with_copy, with_message, with_validity, wrong_state}
 use Rattle.imap_session.specs.Texts.{response_text}
 use Rattle.imap_session.specs.Response.{Response}
 use Rattle.imap_session.specs.inner.Appends.{Leads}
@@ -76,13 +79,13 @@ copy_found step now copy selected mailbox old new response r is e some d =
 
 -- ---- messages that are read one after another
 
-abbrev taken_at : Mailing → CopyMessages → (mailbox : ℕ) → (named : List ℕ) → (i : ℕ) → (uids : List ℕ) → (left : List Row) → Row → Exchange
+abbrev pub taken_at : Mailing → CopyMessages → (mailbox : ℕ) → (named : List ℕ) → (i : ℕ) → (uids : List ℕ) → (left : List Row) → Row → Exchange
 taken_at mailing copy mailbox named i uids left row = gathering mailing copy mailbox (drop (i + 1) named) (with_message (get_or named i 0) row (batch_with copy uids left))
 
-abbrev passed_at : Mailing → CopyMessages → (mailbox : ℕ) → (named : List ℕ) → (i : ℕ) → (uids : List ℕ) → (left : List Row) → Exchange
+abbrev pub passed_at : Mailing → CopyMessages → (mailbox : ℕ) → (named : List ℕ) → (i : ℕ) → (uids : List ℕ) → (left : List Row) → Exchange
 passed_at mailing copy mailbox named i uids left = gathering mailing copy mailbox (drop (i + 1) named) (batch_with copy uids left)
 
-abbrev read_at : Mailing → CopyMessages → (mailbox : ℕ) → (named : List ℕ) → (i : ℕ) → (uids : List ℕ) → (left : List Row) → Exchange
+abbrev pub read_at : Mailing → CopyMessages → (mailbox : ℕ) → (named : List ℕ) → (i : ℕ) → (uids : List ℕ) → (left : List Row) → Exchange
 read_at mailing copy mailbox named i uids left =
     ex.Read (get_or named i 0) false (on_found (λ row. if is_over (most_copied mailing.most) (length row.text) then over (most_copied mailing.most) else taken_at mailing copy mailbox named i uids left row)
     (if copy.by_uid then passed_at mailing copy mailbox named i uids left else says (response_text texts.MessagesGone)))
@@ -124,9 +127,42 @@ pub taken_back_some : (mailbox : ℕ) (copies : List ℕ) (x : Exchange) → (le
 taken_back_some mailbox [] x h = cc
 taken_back_some mailbox (uid ∷ uids) x h = refl
 
+not_none : (uid : ℕ) (uids : List ℕ) → (length (uid ∷ uids) == 0) ≡ true → ⊥
+not_none uid uids h = grind (arith, nat_tests)
+
 pub taken_back_none : (mailbox : ℕ) (copies : List ℕ) (x : Exchange) → (length copies == 0) ≡ true → taking_back mailbox copies x ≡ x
 taken_back_none mailbox [] x h = refl
-taken_back_none mailbox (uid ∷ uids) x h = cc
+taken_back_none mailbox (uid ∷ uids) x h = absurd (not_none uid uids h)
+
+pub sent_next : (m : Mailing) (b : Batch) (mailbox : ℕ) (done : Exchange) (row : Row) (left : List Row) → b.left ≡ row ∷ left → nat_le last_number m.number ≡ false
+    → submitting m b mailbox done ≡ ex.Wait [] (ForVerdict (Copied (record b { left = left })) mailbox row.flags row.text)
+sent_next m b mailbox done row left is free = rw (is, free) refl
+
+pub spent_next : (m : Mailing) (b : Batch) (mailbox : ℕ) (done : Exchange) (row : Row) (left : List Row) → b.left ≡ row ∷ left → nat_le last_number m.number ≡ true
+    → submitting m b mailbox done ≡ taking_back mailbox b.copies (says (response_text texts.MailboxSpent))
+spent_next m b mailbox done row left is spent = rw (is, spent) refl
+
+-- the standing of a session that submitted one of these
+pub sent_under : {s now : Standing} (tag : List ℕ) (a b : Batch) (mailbox : ℕ) (flags : Flags) (text : List ℕ) → a ≡ b → s ≡ now
+    → waiting tag (ForVerdict (Copied a) mailbox flags text) s ≡ waiting tag (ForVerdict (Copied b) mailbox flags text) now
+sent_under {s} {now} tag a b mailbox flags text e f =
+    ap (λ (x : Batch). waiting tag (ForVerdict (Copied x) mailbox flags text) s) e ∙ ap (λ (t : Standing). waiting tag (ForVerdict (Copied b) mailbox flags text) t) f
+
+-- the next of messages that are kept with the next one last
+pub last_first : (kept rest : List Row) (row : Option Row) → kept ≡ rest ++ option_to_list row → (one : Row) → row ≡ Some one → reverse kept ≡ one ∷ reverse rest
+last_first kept rest row is one some = rw (is, some) (reverse-append rest (one ∷ []))
+
+-- where there are some, there is a next one
+pub some_left : (kept : List Row) → (length kept == 0) ≡ false → (one : Row) × (rest : List Row) × (reverse kept ≡ one ∷ rest)
+some_left kept some = of (reverse kept) (length-reverse kept)
+  where
+    none_some : (kept : List Row) → 0 ≡ length kept → (length kept == 0) ≡ false → ⊥
+    none_some [] e s = cc
+    none_some (row ∷ rows) e s = absurd (omega (arith, e))
+
+    of : (turned : List Row) → length turned ≡ length kept → (one : Row) × (rest : List Row) × (turned ≡ one ∷ rest)
+    of [] e = absurd (none_some kept e some)
+    of (one ∷ rest) e = (one, rest, refl)
 
 -- what is done about a verdict goes by the number of the next message alone
 first_same : (m n : Mailing) (batch : Batch) (mailbox : ℕ) (done : Exchange) (left : List Row) → m.number ≡ n.number → submitting_first m batch mailbox done left ≡ submitting_first n batch mailbox done left
@@ -159,3 +195,8 @@ had_led step now next x y old new response after how p led =
       met = Met-append step old new new p.events [] p.met refl;
       wrote = led.3 ∙ ap (λ (t : List ℕ). t ++ led.1) p.wrote.1 ∙ append_assoc response.text p.bytes led.1;
     }
+
+-- the store wasn't asked, and this led here
+pub had_led_alone : {S : Type 0} (step : S → Call → Answer → S → Type 0) (tag : List ℕ) (now next : Standing) (x : Exchange) (s : S) (before after : List ℕ) (how : After)
+    → Leads tag now x before after how next → Had (played tag now x) step s s before after how next
+had_led_alone step tag now next x s before after how led = record { answers = led.0; events = []; bytes = led.1; played = led.2; met = refl; wrote = led.3 }

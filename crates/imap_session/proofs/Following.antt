@@ -16,7 +16,7 @@ use Rattle.imap_session.specs.declared.standing.After.TheVariants.{Go, Bye}
 use Rattle.imap_session.specs.declared.standing.After.TheVariants as afters
 use Rattle.imap_session.specs.declared.standing.Selected.{Selected}
 use Rattle.imap_session.specs.Exchange as ex
-use Rattle.imap_session.specs.Exchange.{Answer, Batch, Call, Client, Copied, Discarded, Entered, Looked, Found, Counted, Altered, Expunged, Fed, ForDone, ForLiteral, ForNothing, ForVerdict, Left, Mailing, Origin, Refused, Sent, Starved, Exchange, Standing, Turn, Waiting, closed, having, played, refusal_after, saying, waiting}
+use Rattle.imap_session.specs.Exchange.{Answer, Batch, Call, Client, Copied, Discarded, Entered, Looked, Found, Counted, Altered, Expunged, Fed, ForDone, ForLiteral, ForNothing, ForVerdict, Left, Mailing, Origin, Refused, Sent, Starved, Exchange, Standing, Turn, Waiting, closed, having, played, refusal_after, saying, waiting, Dropped}
 use Rattle.imap_session.specs.Commands.{appended_words, copied_words, last_number, on_verdict, refused_text, says, showing, submitted, submitting_first, taking_back, told_copied, turn_with, with_copy, with_validity, without_sent}
 use Rattle.imap_session.specs.Store.{AnswersVerdict, Follows, to_follow}
 use Rattle.imap_session.specs.declared.texts.ResponseText.TheVariants as texts

@@ -113,6 +113,7 @@ leads_write tag now bytes x (Altered f ∷ more) turn h = (Altered f ∷ more, a
 leads_write tag now bytes x (Expunged v c n ∷ more) turn h = (Expunged v c n ∷ more, ap (option_map (saying bytes)) h)
 leads_write tag now bytes x (Fed v c ∷ more) turn h = (Fed v c ∷ more, ap (option_map (saying bytes)) h)
 leads_write tag now bytes x (Left n ∷ more) turn h = (Left n ∷ more, ap (option_map (saying bytes)) h)
+leads_write tag now bytes x (Discarded ∷ more) turn h = (Discarded ∷ more, ap (option_map (saying bytes)) h)
 leads_write tag now bytes x (Refused f ∷ more) turn h = (Refused f ∷ more, ap (option_map (saying bytes)) h)
 
 pub reaches_write : {S : Type 0} (step : S → Call → Answer → S → Type 0) (tag : List ℕ) (now : Standing) (bytes : List ℕ) (x : Exchange) (s : S) (before after : Response)

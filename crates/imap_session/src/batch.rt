@@ -1,8 +1,8 @@
 //! The messages that one COPY or MOVE copies, while they are on their way (RFC 9051, 6.4.7 to 6.4.9; RFC 6851), and how the next of them is submitted. How
 //! they are found stands in `copying`, and what is said of them in `copied`.
 
-ghost use Rattle.std.specs.Prelude.{◌≡◌, ◌≤◌};
-ghost use Rattle.imap_session.specs.Commands.{most_in_batch};
+ghost use Rattle.std.specs.Prelude.{◌≡◌, ◌≤◌, nat_le};
+ghost use Rattle.imap_session.specs.Commands.{last_number, most_in_batch};
 ghost use Rattle.imap_session.specs.Store.{room_of_sets};
 ghost use Rattle.imap_session.specs.inner.Seen.{IsRoomy, origin_of};
 
@@ -55,6 +55,34 @@ impl Origin {
     }
 }
 
+impl Batch {
+    ghost use Rattle.std.specs.Prelude.{◌≡◌, ◌==◌, ◌+◌, ◌∷◌, false, length};
+    ghost use Rattle.imap_session.specs.inner.Seen.{batch_of};
+
+    // Takes out the next message that is to be submitted.
+    fn take_next(self) -> (Row, Batch)
+        requires some { (length self.left.items == 0) ≡ false }
+        ensures taken { (batch_of self).left ≡ result.0 ∷ (batch_of result.1).left }
+        ensures rest { batch_of result.1
+            ≡ record (batch_of self) { left = (batch_of result.1).left } }
+        ensures fewer { length result.1.left.items + 1 ≡ length self.left.items }
+        ensures kept { (result.1.copies ≡ self.copies) × (result.1.uids ≡ self.uids) }
+    {
+        let mut batch = self;
+        match batch.left.pop() {
+            Some(row) => (row, batch),
+            None => unreachable!(),
+        }
+    }
+}
+
+// Whether no number is left for a message.
+fn is_spent(number: u32) -> bool
+    ensures { result ≡ nat_le last_number number }
+{
+    LAST_NUMBER <= number
+}
+
 /// A batch of which no message was submitted, with its tag.
 #[derive(Drop)]
 pub(crate) struct Unsent {
@@ -74,12 +102,7 @@ impl Session {
     ghost use Rattle.imap_session.specs.inner.Seen.{batch_of};
 
     // Submits the next message of a batch, or gives the batch back where none goes.
-    pub(crate) fn submit_next(
-        &mut self,
-        mailbox: u8,
-        tag: Tag,
-        batch: Batch,
-    ) -> Result<(), Unsent>
+    pub(crate) fn submit_next(&mut self, mailbox: u8, tag: Tag, batch: Batch) -> Result<(), Unsent>
         requires going { self.old.ended ≡ false }
         requires awake { self.old.idling ≡ None }
         requires alone { self.old.mailing.begun ≡ None }
@@ -100,26 +123,24 @@ impl Session {
         ensures same { IfErr result (λ _. self.new ≡ self.old) }
         ensures folders { self.new.folders ≡ self.old.folders }
         ensures waits { OnOk result (may_send self.new ≡ After.Submit) }
+        ensures alone { self.new.mailing.begun ≡ self.old.mailing.begun }
     {
         let message = self.mailing.number;
-        let mut batch = batch;
-        if batch.left.is_empty() {
+        if batch.left.as_slice().is_empty() {
             return Err(Unsent {
                 tag,
                 batch,
                 spent: false,
             });
         }
-        if message >= LAST_NUMBER {
+        if is_spent(message) {
             return Err(Unsent {
                 tag,
                 batch,
                 spent: true,
             });
         }
-        let Some(row) = batch.left.pop() else {
-            unreachable!()
-        };
+        let (row, batch) = batch.take_next();
         let Row {
             uid: _,
             flags,

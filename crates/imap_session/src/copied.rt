@@ -118,11 +118,13 @@ fn remove_moved<S: Store>(
     ensures { Does S.step (removing selected (batch_of batch.now)) last store.old store.new
         response.old response.new result }
 {
-    if let Some(selected) = selected {
-        store.discard(selected.mailbox, batch.uids.as_slice())?;
-        response.show(usize::MAX, store)?;
-    }
-    Ok(ResponseText::Completed(copy_verb(batch.by_uid, true)))
+    let done = ResponseText::Completed(copy_verb(batch.by_uid, true));
+    let Some(selected) = selected else {
+        return Ok(done);
+    };
+    store.discard(selected.mailbox, batch.uids.as_slice())?;
+    response.show(usize::MAX, store)?;
+    Ok(done)
 }
 
 // Tells where the copies of messages are that are moved, and removes those.
@@ -240,6 +242,7 @@ impl Session {
             (taking_back mailbox copies.now (says (response_text text))) store.old store.new
             out.old.items out.new.items result }
         ensures standing { self.new ≡ (closed self.old result).standing }
+        ensures mailing { self.new.mailing ≡ self.old.mailing }
         ensures sends { result ≡ may_send self.new }
     {
         let response = Response::new(tag, STORED, out);
@@ -270,6 +273,7 @@ impl Session {
             (with_validity mailbox (told_copied self.old.selected (batch_of batch.now))) store.old
             store.new out.old.items out.new.items result }
         ensures standing { self.new ≡ (closed self.old result).standing }
+        ensures mailing { self.new.mailing ≡ self.old.mailing }
         ensures sends { result ≡ may_send self.new }
     {
         let room = STORED + ROOM_IN_SETS * batch.uids.len();

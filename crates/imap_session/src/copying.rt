@@ -1,15 +1,16 @@
 //! COPY and MOVE, and their forms by UID (RFC 9051, 6.4.7 to 6.4.9): the messages that they name are read, and then the first is submitted as a copy of its
 //! own, which shares its text. What is done once a verdict is there stands in `copied`.
 
-ghost use Rattle.std.specs.Prelude.{◌≡◌, ◌<◌, ◌≤◌, ◌+◌, ◌++◌, ℕ, List, [], ◌∷◌, false, true, map, length, vec_capacity, vec_len, IfErr, IfOk, IfSome, IfNone, OnOk, option_to_list};
+ghost use Rattle.std.specs.Prelude.{◌≡◌, ◌<◌, ◌≤◌, ◌+◌, ◌++◌, ℕ, List, [], ◌∷◌, false, true, map, length, vec_capacity, vec_len, IfErr, IfOk, IfSome, IfNone, OnOk, nat_lt, option_to_list, if◌then◌else◌};
 ghost use Rattle.imap_grammar.specs.Sets.{named_at};
 ghost use Rattle.mailbox.specs.declared.clients.Row.{Row as RowSpec};
 ghost use Rattle.imap_session.specs.Exchange.{Exchange, Mailing as MailingSpec, Read, Standing};
-ghost use Rattle.imap_session.specs.Commands.{copy_messages, copy_to, empty_batch, gathering, is_over, most_copied, most_in_batch, nowhere, number_named, on_found, over, says, wanting, wrong_state};
+ghost use Rattle.imap_grammar.specs.declared.command.Command.TheVariants as commands;
+ghost use Rattle.imap_session.specs.Commands.{completed, copy_messages, copy_to, empty_batch, gathering, is_over, most_copied, most_in_batch, nowhere, number_named, on_found, over, says, wanting, wrong_state};
 ghost use Rattle.imap_session.specs.Response.{Response as ResponseSpec};
 ghost use Rattle.imap_session.specs.Texts.{response_text};
 ghost use Rattle.imap_session.specs.declared.texts.ResponseText.TheVariants as texts;
-ghost use Rattle.imap_session.specs.inner.Copies.{IsFound, batch_with, found_next, gathered, picked};
+ghost use Rattle.imap_session.specs.inner.Copies.{IsFound, batch_with, found_next, gathered, picked, unsent_next};
 ghost use Rattle.imap_session.specs.inner.Store.{Does};
 
 use crate::batch::{Batch, MOST_IN_BATCH};
@@ -108,11 +109,11 @@ fn read_one<S: Store>(
     uid: u32,
     store: &mut S,
 ) -> Result<Result<Option<Row>, ResponseText>, MailFault>
-    ensures { (response : ResponseSpec) (taken : RowSpec → Exchange) (passed : Exchange)
-        → Does S.step
-        (Read uid false (on_found
-        (λ row. if is_over (most_copied most) (length row.text) then over (most_copied most)
-        else taken row)
+    ensures { (response : ResponseSpec) (named : ℕ) → uid ≡ named → (mailing : MailingSpec)
+        → mailing.most ≡ most → (taken : RowSpec → Exchange) (passed : Exchange) → Does S.step
+        (Read named false (on_found
+        (λ row. if is_over (most_copied mailing.most) (length row.text)
+        then over (most_copied mailing.most) else taken row)
         (if copy.now.by_uid then passed else says (response_text texts.MessagesGone))))
         (picked taken passed) store.old store.new response response result }
 {
@@ -126,7 +127,8 @@ fn read_one<S: Store>(
 fn keep(uid: u32, row: Option<Row>, uids: &mut Vec<u32>, left: &mut Vec<Row>)
     requires uid_room { vec_len uids.old < vec_capacity uids.old }
     requires row_room { vec_len left.old < vec_capacity left.old }
-    ensures uids { uids.new.items ≡ uids.old.items ++ map (λ _. uid) (option_to_list row) }
+    ensures uids { (named : ℕ) → uid ≡ named
+        → uids.new.items ≡ uids.old.items ++ map (λ _. named) (option_to_list row) }
     ensures left { left.new.items ≡ left.old.items ++ option_to_list row }
     ensures uid_len { vec_len uids.new ≤ vec_len uids.old + 1 }
     ensures row_len { vec_len left.new ≤ vec_len left.old + 1 }
@@ -150,6 +152,7 @@ fn gather<S: Store>(
     store: &mut S,
 ) -> Result<Result<(), ResponseText>, MailFault>
     requires none { (uids.old.items ≡ []) × (left.old.items ≡ []) }
+    requires empty { (vec_len uids.old ≡ 0) × (vec_len left.old ≡ 0) }
     requires uid_room { length messages.now ≤ vec_capacity uids.old }
     requires row_room { length messages.now ≤ vec_capacity left.old }
     ensures does { (response : ResponseSpec) (view named : List ℕ)
@@ -210,6 +213,13 @@ fn gather_batch<S: Store>(
     })
 }
 
+// Whether one command may not copy as many.
+fn are_too_many(messages: &[Named]) -> bool
+    ensures { result ≡ nat_lt most_in_batch (length messages.now) }
+{
+    MOST_IN_BATCH < messages.len()
+}
+
 // Finds the messages that are named and reads them. They go to this mailbox, under this tag.
 fn find_messages<S: Store>(
     alloc: Global,
@@ -228,15 +238,26 @@ fn find_messages<S: Store>(
     let Some(messages) = store.choose(alloc, &copy.set, copy.by_uid)? else {
         return Ok(Found::Said(ResponseText::SequenceTooHigh));
     };
-    if messages.len() > MOST_IN_BATCH {
+    if are_too_many(messages.as_slice()) {
         return Ok(Found::Said(ResponseText::TooManyMessages));
     }
     gather_batch(alloc, copy, most, tag, mailbox, messages.as_slice(), store)
 }
 
+// What the last line says where no message goes: no number is left for one, or there is none.
+fn unsent_text(copy: &CopyMessages<'_>, spent: bool) -> ResponseText
+    ensures { (mailbox : ℕ) → unsent_next spent mailbox [] (completed (commands.Copy copy.now))
+        ≡ says (response_text result) }
+{
+    if spent {
+        ResponseText::MailboxSpent
+    } else {
+        ResponseText::Completed(copy_verb(copy.by_uid, copy.moves))
+    }
+}
+
 impl Session {
     ghost use Rattle.std.specs.Prelude.{◌≡◌, ◌++◌, IfOk, false, None};
-    ghost use Rattle.imap_grammar.specs.declared.command.Command.TheVariants as commands;
     ghost use Rattle.imap_session.specs.Exchange.{closed, may_send, played, refusal_after, refusal_text};
     ghost use Rattle.imap_session.specs.Commands.{completed, copy_messages, on_command, on_found, submitting, wrong_state};
     ghost use Rattle.imap_session.specs.Response.{Response as ResponseSpec};
@@ -282,7 +303,7 @@ impl Session {
         requires awake { self.old.idling ≡ None }
         requires alone { self.old.mailing.begun ≡ None }
         requires unsent { self.old.mailing.sent ≡ None }
-        requires tag { tag ≡ response.entry.tag }
+        requires tag { tag ≡ response.tag }
         requires gathered { IsGathered batch }
         ensures leads { Leads response.entry.tag self.old
             (submitting self.old.mailing (batch_of batch) mailbox
@@ -296,12 +317,7 @@ impl Session {
                 After::Submit
             }
             Err(unsent) => {
-                let text = if unsent.spent {
-                    ResponseText::MailboxSpent
-                } else {
-                    ResponseText::Completed(copy_verb(copy.by_uid, copy.moves))
-                };
-                response.end(text, out);
+                response.end(unsent_text(copy, unsent.spent), out);
                 After::Go
             }
         }
@@ -344,11 +360,13 @@ impl Session {
         ensures sends { result ≡ may_send self.new }
     {
         match self.find_copies(alloc, copy, response.tag, store) {
-            Ok(Found::Messages {
-                mailbox,
-                tag,
-                batch,
-            }) => self.submit_first(copy, mailbox, tag, batch, response, out),
+            Ok(
+                Found::Messages {
+                    mailbox,
+                    tag,
+                    batch,
+                },
+            ) => self.submit_first(copy, mailbox, tag, batch, response, out),
             Ok(Found::Said(text)) => {
                 response.end(text, out);
                 After::Go

@@ -5,7 +5,7 @@ ghost use Rattle.imap_grammar.specs.declared.command.ImapFault.{ImapFault};
 ghost use Rattle.mailbox.specs.declared.clients.MailFault.{MailFault};
 ghost use Rattle.std.specs.Prelude.{◌≡◌, ◌&&◌, ◌++◌, ℕ, Bool, true, List, Option, Some};
 ghost use Rattle.delivery_token.specs.declared.Verdict.{Verdict};
-ghost use Rattle.imap_session.specs.Exchange.{Exchange, PendingLiteral, Mailing, Standing, kept_tag, refusal_text};
+ghost use Rattle.imap_session.specs.Exchange.{Exchange, PendingLiteral, Mailing, Origin, Standing, kept_tag, refusal_text};
 ghost use Rattle.imap_session.specs.Commands.{answering, appended_words, fault_tag, fault_text, given_up, on_idle_line, on_rest, on_verdict, turn_of_long_line, unfinished, with_bytes};
 ghost use Rattle.imap_session.specs.Shows.{DoneShowsInOrder, PartShowsNone, RestShowsNone, ShowsInOrder, VerdictShowsInOrder};
 ghost use Rattle.imap_session.specs.Telling.{LineTellsNoUid, RefusalTellsNoUid, TellsNoUid, VerdictTellsUid, WordsTellWhich, tells_uid};
@@ -63,8 +63,8 @@ pub fn only_a_stored_verdict_tells_a_uid()
     ensures numbers { WordsTellWhich }
 
     // Where the verdict on an appended message was `Stored`, the last line tells its UID, behind the UIDVALIDITY as the mailbox was counted; else none.
-    ensures verdicts { (mailing : Mailing) (selected : Option Selected) (origin : Origin) (mailbox : ℕ)
-        (verdict : Verdict) → VerdictTellsUid selected origin mailbox verdict (on_verdict mailing selected origin mailbox verdict) }
+    ensures verdicts { (mailing : Mailing) (selected : Option Selected) (origin : Origin)
+        (mailbox : ℕ) (verdict : Verdict) → VerdictTellsUid selected origin mailbox verdict (on_verdict mailing selected origin mailbox verdict) }
 
     // No last line of a command, of an IDLE, or behind a literal tells one.
     ensures commands { (now : Standing) (command : Command) → TellsNoUid (answering now command) }

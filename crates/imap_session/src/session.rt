@@ -277,7 +277,7 @@ impl Session {
         ensures refused { OnErr result ((self.new ≡ self.old) × (store.new ≡ store.old)
             × (out.new.items ≡ out.old.items)) }
         ensures memory { OnErr result (vec_capacity out.old
-            < vec_len out.old + (length line.now + 152)) }
+            < vec_len out.old + (length line.now + 157)) }
         ensures folders { self.new.folders ≡ self.old.folders }
         ensures sends { IfOk result (λ after. after ≡ may_send self.new) }
     {
@@ -355,8 +355,8 @@ impl Session {
     /// quoted string stands that says the same, and the line may have 8,190 bytes then. So the response goes behind AUTHENTICATE (6.2.2).
     ///
     /// Errors, after which the session, the store and `out` are as they were: `Ended` exactly where the session has ended; `NoMemory` where
-    /// memory was refused, and `out` has no room for the line's length and 152 bytes more; where the line ends an IDLE or an APPEND, for the
-    /// length of its tag and 48 more; where it goes on with another command, for the length of its tag and 8,342 more.
+    /// memory was refused, and `out` has no room for the line's length and 157 bytes more; where the line ends an IDLE or an APPEND, for the
+    /// length of its tag and 48 more; where it goes on with another command, for the length of its tag and 8,347 more.
     pub fn line<S: Store>(
         &mut self,
         alloc: Global,
@@ -492,11 +492,11 @@ impl Session {
         requires alone { self.old.mailing.begun ≡ None }
         requires unsent { self.old.mailing.sent ≡ None }
         requires fits { vec_len out.old + (length tag.now + STORED) ≤ vec_capacity out.old }
-        ensures had { Had (played tag.now self.old
-            (on_verdict self.old.mailing self.old.selected Client mailbox verdict)) S.step store.old
-            store.new out.old.items out.new.items result self.new }
-        ensures folders { self.new.folders ≡ self.old.folders }
-        ensures alone { self.new.mailing.begun ≡ None }
+        ensures plays { Plays S.step tag.now self.old self.old
+            (on_verdict self.old.mailing self.old.selected Client mailbox verdict) store.old store.new
+            out.old.items out.new.items result }
+        ensures standing { self.new ≡ (closed self.old result).standing }
+        ensures mailing { self.new.mailing ≡ self.old.mailing }
         ensures sends { result ≡ may_send self.new }
     {
         let response = Response::new(tag, STORED, out);

@@ -23,7 +23,7 @@ use mailbox::MailFault;
 use std::alloc::Global;
 
 /// Room for the line that CAPABILITY, NAMESPACE, ID, ENABLE or LOGOUT writes before its last one, or by which SELECT or EXAMINE tells that a mailbox was left.
-pub(crate) const FIRST: usize = 104;
+pub(crate) const FIRST: usize = 109;
 
 // Writes what is said of a line that is no command, in room that was reserved.
 pub(crate) fn put_fault(profile: Profile, fault: &ImapFault<'_>, out: &mut Vec<u8>)

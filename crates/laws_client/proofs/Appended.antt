@@ -11,42 +11,97 @@ use Rattle.world.specs.World.{Config, Event, IsWorld, Steps, World}
 use Rattle.world.specs.Law.{StandsOnce, pairs}
 use Rattle.world.proofs.Always.{always}
 use Rattle.world.proofs.Base.{Every, Rising, rising_pair}
-use Rattle.imap_session.specs.Commands.{appended_words, copied_words, refused_text}
+use Rattle.imap_session.specs.Commands.{appended_words, copied_words, refused_text, with_copy, copies_of}
 use Rattle.imap_session.specs.Telling.{tells_uid}
 use Rattle.imap_session.specs.Exchange as calls
-use Rattle.imap_session.specs.Exchange.{Event as Happened, Sent, refusal_text, tagged}
+use Rattle.imap_session.specs.Exchange.{Event as Happened, Sent, refusal_text, tagged, Origin, Client, Copied, Batch}
 use Rattle.exactly_once.proofs.Grown.{heard_stays_heard}
 use Rattle.laws_client.proofs.Talked.{met_hears}
 use Rattle.imap_session.specs.Folders.{folders_of}
 use Rattle.house.specs.Scene.{LeavesMailbox, empty_scene}
 use Rattle.house.specs.Setup.{Setup, session_seat}
-use Rattle.laws_client.specs.Appends.{AppendsWereTold, TellsOfAppends, AnswersNoted, AppendsAreTold, AreAnswered, Author, EndsWith, IsAnswered, SaysVerdict, TellsKept, TellsOfNone, as_it_is, author_at, copy_under, CameBy, SaysCopied, last_line, tells_stored, tells_copy, IsCopyOf, SaysMoved, TellsCopied}
+use Rattle.laws_client.specs.Appends.{AppendsWereTold, TellsOfAppends, AnswersNoted, AppendsAreTold, AreAnswered, Author, EndsWith, IsAnswered, SaysVerdict, TellsKept, TellsOfNone, as_it_is, author_at, copy_under, CameBy, SaysCopied, last_line, tells_stored, tells_copy, IsCopyOf, SaysMoved, TellsCopied, SaysOfBatch, SaysRefused, awaits_next, has_no_number, all_stored, EarlierStand}
 use Rattle.laws_client.specs.Clients.{Told, bytes_in}
 use Rattle.laws_client.specs.ClientRecords.{sent_by_then, shown_by_then}
-use Rattle.laws_client.proofs.Answered.{Came, AreNoted, InTurn, IsNoted, KnownAt, still_noted}
+use Rattle.laws_client.proofs.Answered.{Came, AreNoted, InTurn, IsNoted, KnownAt, still_noted, EarlierNoted}
 use Rattle.laws_client.proofs.Entries.{the_client, the_serial}
 use Rattle.laws_client.proofs.RecordKeeping.{KeptBy, kept_by, the_finished, KeepsBy, all_known, arrival_by_then, keeps_by, nobody}
-use Rattle.laws_client.proofs.LastLines.{apart_tells_none, refusal_apart, tags_of_words, words_of_tags, IsWord}
+use Rattle.laws_client.proofs.LastLines.{apart_tells_none, refusal_apart, silence_tells_none, tags_of_words, words_of_tags, IsWord}
 use Rattle.laws_client.proofs.LastRests.{no_apart}
 use Rattle.laws_client.proofs.LastWords.{uid_spares, row_tells_neither}
 use Rattle.laws_client.proofs.Out.{copy_of, fate_met, fate_step}
 use Rattle.laws_client.proofs.Recording.{Arrival, Finished, came_as}
 use Rattle.laws_client.proofs.Stored.{stored_copy}
-use Rattle.imap_session.specs.declared.standing.Origin.{Origin}
-use Rattle.imap_session.specs.declared.standing.Origin.TheVariants.{Client, Copied}
-use Rattle.imap_session.specs.declared.standing.Source.{Source}
 use Rattle.imap_session.specs.Texts.{response_text}
 use Rattle.imap_session.specs.declared.texts.ResponseText.TheVariants as texts
 use Rattle.imap_grammar.specs.Verbs.{copy_verb}
 use Rattle.mailbox.specs.declared.clients.MailFault.{MailFault}
 use Rattle.delivery_token.specs.declared.Refusal.{Refusal}
 use Rattle.imap_session.specs.declared.texts.ResponseText.{ResponseText}
+use Rattle.mailbox.specs.declared.clients.MailFault.TheVariants.{Spent}
 
 -- ---- each answer
 
 -- its author, where it was let in so
 author_is : (k : Setup) (place serial : ℕ) (a : Arrival) (sent : List ℕ) → Author
 author_is k place serial a sent = record { place = place; serial = serial; folders = folders_of k.directory a.user; sent = sent }
+
+-- a copy that was stored stands once, under its UID, and with the text and the flags of its message
+record StandsSo (w : World) (noted : Noted) (message : Sent) (uid : ℕ) : Type 0 where
+  pub heard : Contains (w.heard noted.key.seat) noted
+  pub once : StandsOnce (pairs (w.box noted.mailbox).accepted) noted.key uid
+  pub mailbox : noted.mailbox ≡ message.append.mailbox
+  pub copy : Contains (w.box noted.mailbox).accepted (copy_under noted.key message, uid)
+
+heard_there : (w : World) (seat : ℕ) (noted : Noted) → noted.key.seat ≡ seat → Contains (w.heard seat) noted → Contains (w.heard noted.key.seat) noted
+heard_there w seat noted same heard = subst (λ (p : ℕ). Contains (w.heard p) noted) (sym same) heard
+
+stands_so : (k : Setup) (events : List Event) (w : World) (place : ℕ) (a : Arrival) (noted : Noted) (message : Sent) (uid : ℕ) → IsWorld k.config events w → noted.key.seat ≡ session_seat k place
+    → KnownAt k.config (came_as k place a) w noted message → noted.key ≡ (copy_of (session_seat k place) a.serial message).key → noted.verdict ≡ verdicts.Stored uid → StandsSo w noted message uid
+stands_so k events w place a noted message uid came seat known key e = record {
+  heard = there;
+  once = once;
+  mailbox = s.0;
+  copy = subst (λ (x : CopyKey). Contains (w.box noted.mailbox).accepted (copy_under x message, uid)) (sym key) s.1;
+}
+  where
+    there : Contains (w.heard noted.key.seat) noted
+    there = heard_there w (session_seat k place) noted seat known.0
+
+    once : StandsOnce (pairs (w.box noted.mailbox).accepted) noted.key uid
+    once = (always k.config events w came).answered noted.key.seat uid noted there e
+
+    c : Job
+    c = copy_of (session_seat k place) a.serial message
+
+    s : (noted.mailbox ≡ c.mailbox) × Contains (w.box noted.mailbox).accepted (c, uid)
+    s = stored_copy k.config events w (session_seat k place) noted.mailbox uid c came refl (subst (λ (x : CopyKey). StandsOnce (pairs (w.box noted.mailbox).accepted) x uid) key once) known.1
+
+-- each earlier copy of its batch
+earlier_stand : (k : Setup) (events : List Event) (w : World) (place serial : ℕ) (a : Arrival) (sent : List ℕ) (last : Sent) (origin : Origin) → IsWorld k.config events w → serial ≡ a.serial
+    → EarlierNoted (came_as k place a) sent (KnownAt k.config (came_as k place a) w) last origin → EarlierStand k w (author_is k place serial a sent) last origin
+unfolding author_is
+earlier_stand k events w place serial a sent last Client came own h = tt
+earlier_stand k events w place serial a sent last (Copied batch) came own h = λ copies uid behind is.
+    let e = h copies uid behind is in
+    let s = stands_so k events w place a e.noted e.message uid came e.seat e.heard e.key e.stored in record {
+      noted = e.noted;
+      message = e.message;
+      rest = e.rest;
+      number = e.number;
+      origin = e.origin;
+      came = e.came;
+      before = e.before;
+      under = e.under;
+      named = e.named;
+      seat = e.seat;
+      own = e.own ∙ sym own;
+      heard = s.heard;
+      stored = e.stored;
+      once = s.once;
+      mailbox = s.mailbox;
+      copy = s.copy;
+    }
 
 one_answered : (k : Setup) (events : List Event) (w : World) (place serial : ℕ) (a : Arrival) (sent bytes : List ℕ) (verdict : Option Noted) → IsWorld k.config events w → serial ≡ a.serial
     → IsNoted k.config.uidvalidity (came_as k place a) sent (KnownAt k.config (came_as k place a) w) bytes verdict → IsAnswered k w (author_is k place serial a sent) bytes verdict
@@ -55,27 +110,16 @@ one_answered k events w place serial a sent bytes None came own h = h
 one_answered k events w place serial a sent bytes (Some noted) came own h = record {
   seat = h.seat;
   own = h.own ∙ sym own;
-  heard = there;
+  heard = heard_there w (session_seat k place) noted h.seat h.heard.0;
   message = h.message;
   number = h.number;
   came = h.came;
   chosen = h.chosen;
   says = h.says;
-  stands = λ uid e. once uid e;
-  stored = λ uid e.
-      let key : noted.key ≡ c.key = h.key in
-      let s = stored_copy k.config events w (session_seat k place) noted.mailbox uid c came refl (subst (λ (x : CopyKey). StandsOnce (pairs (w.box noted.mailbox).accepted) x uid) key (once uid e)) h.heard.1 in
-      (s.0, subst (λ (x : CopyKey). Contains (w.box noted.mailbox).accepted (copy_under x h.message, uid)) (sym key) s.1);
+  stands = λ uid e. (stands_so k events w place a noted h.message uid came h.seat h.heard h.key e).once;
+  stored = λ uid e. let s = stands_so k events w place a noted h.message uid came h.seat h.heard h.key e in (s.mailbox, s.copy);
+  earlier = earlier_stand k events w place serial a sent h.message h.message.origin came own h.earlier;
 }
-  where
-    c : Job
-    c = copy_of (session_seat k place) a.serial h.message
-
-    once : (uid : ℕ) → noted.verdict ≡ verdicts.Stored uid → StandsOnce (pairs (w.box noted.mailbox).accepted) noted.key uid
-    once uid e = (always k.config events w came).answered noted.key.seat uid noted (subst (λ (p : ℕ). Contains (w.heard p) noted) (sym h.seat) h.heard.0) e
-
-    there : Contains (w.heard noted.key.seat) noted
-    there = subst (λ (p : ℕ). Contains (w.heard p) noted) (sym h.seat) h.heard.0
 
 all_answered : (k : Setup) (events : List Event) (w : World) (place serial : ℕ) (a : Arrival) (sent : List ℕ) (told : List Told) (verdicts : List (Option Noted)) → IsWorld k.config events w → serial ≡ a.serial
     → AreNoted k.config.uidvalidity (came_as k place a) sent (KnownAt k.config (came_as k place a) w) told verdicts → AreAnswered k w (author_is k place serial a sent) told verdicts
@@ -115,17 +159,39 @@ fault_untold tag t bytes fault s other words ends =
 same_end : (bytes tag words other said : List ℕ) → EndsWith tag words bytes → EndsWith other said bytes → words ≡ said
 same_end bytes tag words other said a b = words_of_tags tag other words said a.chosen b.chosen (sym a.last ∙ b.last)
 
+-- where copies were removed again, or could not be
+back_untold : (tag : List ℕ) → IsWord tag → (bytes : List ℕ) (why : Refusal) (copies : List ℕ) → SaysRefused copies tag (response_text (refused_text why)) bytes → TellsOfNone bytes
+back_untold tag t bytes why [] s = refusal_untold tag t bytes why s
+back_untold tag t bytes why (uid ∷ uids) (inl s) = refusal_untold tag t bytes why s
+back_untold tag t bytes why (uid ∷ uids) (inr (fault, s)) = fault_untold tag t bytes fault (ap last_line s)
+
 -- of a MOVE
-moved_untold : (v uid : ℕ) (source : Source) (tag bytes : List ℕ) → IsWord tag → SaysMoved v uid source tag bytes → TellsOfNone bytes
-moved_untold v uid source tag bytes t s other words ends = by s.ends
+moved_untold : (v : ℕ) (batch : Batch) (tag bytes : List ℕ) → IsWord tag → SaysMoved v batch tag bytes → TellsOfNone bytes
+moved_untold v batch tag bytes t s other words ends = by s.ends
   where
     done : ResponseText
-    done = texts.Completed (copy_verb source.by_uid true)
+    done = texts.Completed (copy_verb batch.by_uid true)
 
     by : EndsWith tag (response_text done) bytes ⊎ ((fault : MailFault) × (last_line bytes ≡ last_line (refusal_text tag fault)))
         → tells_stored words ≡ false
     by (inl own) = ap tells_stored (same_end bytes other words tag (response_text done) ends own) ∙ row_tells_neither done
     by (inr (fault, e)) = fault_untold tag t bytes fault e other words ends
+
+-- all messages of a COPY are stored, and that is told
+record AllAreTold (v : ℕ) (batch : Batch) (tag bytes : List ℕ) : Type 0 where
+  pub left : batch.left ≡ []
+  pub stays : batch.moves ≡ false
+  pub ends : EndsWith tag (copied_words v batch) bytes
+
+-- of a batch nothing is told else
+batch_tells : (v : ℕ) (batch : Batch) (tag bytes : List ℕ) → IsWord tag → SaysOfBatch v batch tag bytes → TellsOfNone bytes ⊎ AllAreTold v batch tag bytes
+batch_tells v batch tag bytes t (awaits_next row left is none) = inl (silence_tells_none tells_stored bytes none)
+batch_tells v batch tag bytes t (has_no_number row left is s) = inl (fault_untold tag t bytes Spent (ap last_line s))
+batch_tells v batch tag bytes t (all_stored none s) = by batch.moves refl s
+  where
+    by : (moves : Bool) → batch.moves ≡ moves → SaysCopied moves v batch tag bytes → TellsOfNone bytes ⊎ AllAreTold v batch tag bytes
+    by true is s = inl (moved_untold v batch tag bytes t s)
+    by false is s = inr (record { left = none; stays = is; ends = s })
 
 -- what was said to a verdict tells a UID where that is stored
 said_kept : (k : Setup) (w : World) (author : Author) (bytes tag words : List ℕ) (noted : Noted) → AnswersNoted k w author bytes noted
@@ -135,18 +201,19 @@ said_kept k w author bytes tag words noted h ends tells = by h.message.origin re
     none : TellsOfNone bytes → ⊥
     none n = untold bytes tag words n ends (uid_stored words tells)
 
-    copied : (source : Source) (moves : Bool) (uid : ℕ) → SaysCopied moves k.config.uidvalidity uid source h.message.tag bytes → ⊥
-    copied source true uid s = none (moved_untold k.config.uidvalidity uid source h.message.tag bytes h.chosen s)
-    copied source false uid s =
-        let same : words ≡ copied_words k.config.uidvalidity source.uid uid =
-        same_end bytes tag words h.message.tag (copied_words k.config.uidvalidity source.uid uid) ends s in
+    copied : (batch : Batch) → TellsOfNone bytes ⊎ AllAreTold k.config.uidvalidity batch h.message.tag bytes → ⊥
+    copied batch (inl n) = none n
+    copied batch (inr s) =
+        let same : words ≡ copied_words k.config.uidvalidity batch =
+        same_end bytes tag words h.message.tag (copied_words k.config.uidvalidity batch) ends s.ends in
         false≢true (sym (ap tells_uid same) ∙ tells)
 
     by : (origin : Origin) → h.message.origin ≡ origin → CameBy origin author.folders author.sent h.message → (verdict : Verdict)
         → noted.verdict ≡ verdict
         → SaysVerdict k.config.uidvalidity origin h.message.tag verdict bytes → TellsKept k w author tag words noted
-    by origin is came (verdicts.Refused why) e s = absurd (none (refusal_untold h.message.tag h.chosen bytes why s))
-    by (Copied source) is came (verdicts.Stored uid) e (inl s) = absurd (copied source source.moves uid s)
+    by origin is came (verdicts.Refused why) e s = absurd (none (back_untold h.message.tag h.chosen bytes why (copies_of origin) s))
+    by (Copied batch) is came (verdicts.Stored uid) e (inl s) =
+        absurd (copied (with_copy uid batch) (batch_tells k.config.uidvalidity (with_copy uid batch) h.message.tag bytes h.chosen s))
     by Client is came (verdicts.Stored uid) e (inl s) = record {
       message = h.message;
       number = h.number;
@@ -165,7 +232,7 @@ said_kept k w author bytes tag words noted h ends tells = by h.message.origin re
     }
     by origin is came (verdicts.Stored uid) e (inr (fault, s)) = absurd (none (fault_untold h.message.tag h.chosen bytes fault (ap last_line s)))
 
--- or a COPYUID, of a message that was copied
+-- or a COPYUID, of messages that were copied
 said_copied : (k : Setup) (w : World) (author : Author) (bytes tag words : List ℕ) (noted : Noted) → AnswersNoted k w author bytes noted
     → EndsWith tag words bytes → tells_copy words ≡ true → TellsCopied k w author tag words noted
 said_copied k w author bytes tag words noted h ends tells = by h.message.origin refl h.came noted.verdict refl h.says
@@ -173,21 +240,22 @@ said_copied k w author bytes tag words noted h ends tells = by h.message.origin 
     none : TellsOfNone bytes → ⊥
     none n = untold bytes tag words n ends (copy_stored words tells)
 
-    copied : (source : Source) → h.message.origin ≡ Copied source → IsCopyOf author.folders author.sent h.message source → (uid : ℕ)
+    copied : (batch : Batch) → h.message.origin ≡ Copied batch → IsCopyOf author.folders author.sent h.message batch → (uid : ℕ)
         → noted.verdict ≡ verdicts.Stored uid
-        → (moves : Bool) → source.moves ≡ moves → SaysCopied moves k.config.uidvalidity uid source h.message.tag bytes
+        → TellsOfNone bytes ⊎ AllAreTold k.config.uidvalidity (with_copy uid batch) h.message.tag bytes
         → TellsCopied k w author tag words noted
-    copied source is came uid e true moves s = absurd (none (moved_untold k.config.uidvalidity uid source h.message.tag bytes h.chosen s))
-    copied source is came uid e false moves s = record {
+    copied batch is came uid e (inl n) = absurd (none n)
+    copied batch is came uid e (inr s) = record {
       message = h.message;
-      source = source;
+      batch = batch;
       number = h.number;
       origin = is;
-      stays = moves;
+      stays = s.stays;
+      last = s.left;
       came = came;
-      under = tags_of_words tag h.message.tag words (copied_words k.config.uidvalidity source.uid uid) ends.chosen h.chosen (sym ends.last ∙ s.last);
+      under = tags_of_words tag h.message.tag words (copied_words k.config.uidvalidity (with_copy uid batch)) ends.chosen h.chosen (sym ends.last ∙ s.ends.last);
       uid = uid;
-      words = same_end bytes tag words h.message.tag (copied_words k.config.uidvalidity source.uid uid) ends s;
+      words = same_end bytes tag words h.message.tag (copied_words k.config.uidvalidity (with_copy uid batch)) ends s.ends;
       seat = h.seat;
       own = h.own;
       heard = h.heard;
@@ -195,13 +263,15 @@ said_copied k w author bytes tag words noted h ends tells = by h.message.origin 
       once = h.stands uid e;
       mailbox = (h.stored uid e).0;
       copy = (h.stored uid e).1;
+      earlier = subst (λ (o : Origin). EarlierStand k w author h.message o) is h.earlier;
     }
 
     by : (origin : Origin) → h.message.origin ≡ origin → CameBy origin author.folders author.sent h.message → (verdict : Verdict)
         → noted.verdict ≡ verdict
         → SaysVerdict k.config.uidvalidity origin h.message.tag verdict bytes → TellsCopied k w author tag words noted
-    by origin is came (verdicts.Refused why) e s = absurd (none (refusal_untold h.message.tag h.chosen bytes why s))
-    by (Copied source) is came (verdicts.Stored uid) e (inl s) = copied source is came uid e source.moves refl s
+    by origin is came (verdicts.Refused why) e s = absurd (none (back_untold h.message.tag h.chosen bytes why (copies_of origin) s))
+    by (Copied batch) is came (verdicts.Stored uid) e (inl s) =
+        copied batch is came uid e (batch_tells k.config.uidvalidity (with_copy uid batch) h.message.tag bytes h.chosen s)
     by Client is came (verdicts.Stored uid) e (inl s) =
         let same : words ≡ appended_words k.config.uidvalidity uid =
         same_end bytes tag words h.message.tag (appended_words k.config.uidvalidity uid) ends s in

@@ -3,7 +3,7 @@ use Rattle.std.proofs.Common.{◌≡◌, ℕ, ◌<◌, ◌≤◌, List, [], ◌�
 use Rattle.shard_queue.proofs.AtLaws.{at_cases}
 use Rattle.delivery_token.specs.declared.Job.{Job}
 use Rattle.change_ring.specs.declared.change.Change.{Change}
-use Rattle.world.specs.World.{Config, World, Box, Session, Event, Put, PutEnd, Take, Deliver, Answer, Hear, Enter, Status, Read, Store, Expunge, Feed, Leave, Step, Steps, IsWorld, put_joins, put_full, put_no_memory, put_shut, end_joins, end_full, takes, take_empty, delivers, deliver_spent, deliver_full, deliver_no_memory, answers, answer_full, hears_one, enters, enter_spent, enter_no_memory, MailStep, mails, mail_lapped, mail_spent, mail_no_memory, LeaveStep, leaves, leave_spent, Logs, last_uid, most_changes, next_uid, empty_world}
+use Rattle.world.specs.World.{Config, World, Box, Session, Event, Put, PutEnd, Take, Deliver, Answer, Hear, Enter, Status, Read, Store, Expunge, Feed, Leave, Step, Steps, IsWorld, put_joins, put_full, put_no_memory, put_shut, end_joins, end_full, takes, take_empty, delivers, deliver_spent, deliver_full, deliver_no_memory, answers, answer_full, hears_one, enters, enter_spent, enter_no_memory, MailStep, mails, mail_lapped, mail_spent, mail_no_memory, LeaveStep, leaves, leave_spent, Logs, last_uid, most_changes, next_uid, empty_world, Discard, DiscardStep, discards_them, discard_spent}
 use Rattle.laws_client.specs.Sizes.{HasSmallNumbers}
 
 pub data Goes (k : Config) (old new : Box) : Type 0 where
@@ -22,6 +22,11 @@ leave_goes : (k : Config) (w : World) (n : ℕ) (s : Session) (changes : List Ch
 leave_goes k w n s changes v m (leaves b L e) =
     rw e (at_cases (λ x. Goes k (w.box m) x) w.box s.mailbox b m (λ is. logged changes (subst (λ j. Logs k (w.box j) changes [] b) (sym is) L)) (λ other. unmoved refl))
 leave_goes k w n s changes v m (leave_spent i e) = rw e (unmoved refl)
+
+discard_goes : (k : Config) (w : World) (i : ℕ) (changes : List Change) (v : World) (m : ℕ) → DiscardStep k w i changes v → Goes k (w.box m) (v.box m)
+discard_goes k w i changes v m (discards_them b there L e) =
+    rw e (at_cases (λ x. Goes k (w.box m) x) w.box i b m (λ is. logged changes (subst (λ j. Logs k (w.box j) changes [] b) (sym is) L)) (λ other. unmoved refl))
+discard_goes k w i changes v m (discard_spent there i_full e) = rw e (unmoved refl)
 
 pub box_goes : (k : Config) (w : World) (e : Event) (v : World) (m : ℕ) → Step k w e v → Goes k (w.box m) (v.box m)
 box_goes k w (Put q s c) v m (put_joins may live room e) = rw e (unmoved refl)
@@ -50,6 +55,7 @@ box_goes k w (Store n u op) v m (s, is, step) = mail_goes k w n s _ _ _ v m step
 box_goes k w (Expunge n may_go) v m (s, is, step) = mail_goes k w n s _ _ _ v m step
 box_goes k w (Feed n limit) v m (s, is, step) = mail_goes k w n s _ _ _ v m step
 box_goes k w (Leave n removing) v m (s, is, step) = leave_goes k w n s _ v m step
+box_goes k w (Discard i goes) v m step = discard_goes k w i _ v m step
 
 -- ---- a mailbox stays small
 

@@ -24,8 +24,8 @@ use Rattle.imap_grammar.specs.declared.command.ImapFault.{ImapFault}
 use Rattle.imap_grammar.specs.declared.command.ImapFault.TheVariants.{NoTag, Unknown, LeftOut, Arguments}
 use Rattle.imap_session.specs.declared.standing.After.TheVariants.{Go}
 use Rattle.imap_session.specs.declared.standing.Selected.{Selected}
-use Rattle.imap_session.specs.Exchange.{Answer, PendingLiteral, Exchange, Expunge, Feed, Folder, ForNothing, ForVerdict, Mailing, Sent, Standing, Turn, Wait, Write, bye, kept_behind, tagged, untagged}
-use Rattle.imap_session.specs.Commands.{appended_words, appending, last_number, long_idle_text, long_rest_text, long_text, most_unasked, nowhere, number_named, on_rest, on_text, on_verdict, is_over, over, turn_with, wanting, wanting_for, without_begun, without_sent, completed, counting, expunge_set, fault_text, fetch_messages, fetched, fetching, folder_of, in_selected, in_writable, messages_done, on_chosen, on_command, on_found, on_idle_line, on_read, on_set, only_says, says, showing, store_messages, stored, storing, subscribing, unlimited, wrong_state, arguments_text, asking, coming, logged_in, refused_text, found_in, search_done, search_known, search_messages, searching, on_text_line, flags_for, mailbox_for, told_stored, moving, copied_words}
+use Rattle.imap_session.specs.Exchange.{Answer, PendingLiteral, Exchange, Expunge, Feed, Folder, ForNothing, ForVerdict, Mailing, Sent, Standing, Turn, Wait, Write, bye, kept_behind, tagged, untagged, Origin, Client, Copied, Discard, Batch}
+use Rattle.imap_session.specs.Commands.{appended_words, appending, last_number, long_idle_text, long_rest_text, long_text, most_unasked, nowhere, number_named, on_rest, on_text, on_verdict, is_over, over, turn_with, wanting, wanting_for, without_begun, without_sent, completed, counting, expunge_set, fault_text, fetch_messages, fetched, fetching, folder_of, in_selected, in_writable, messages_done, on_chosen, on_command, on_found, on_idle_line, on_read, on_set, only_says, says, showing, store_messages, stored, storing, subscribing, unlimited, wrong_state, arguments_text, asking, coming, logged_in, refused_text, found_in, search_done, search_known, search_messages, searching, on_text_line, flags_for, mailbox_for, moving, copied_words, on_stored, move_done, with_copy, copies_of}
 use Rattle.imap_answers.specs.Answers.{flags_answer, list_answer}
 use Rattle.imap_answers.specs.declared.list.Listing.{Listing}
 use Rattle.imap_answers.specs.declared.list.Listing.TheVariants.{All, Subscribed}
@@ -57,11 +57,8 @@ use Rattle.imap_grammar.specs.Keys.{all_messages}
 use Rattle.laws_client.proofs.Sought.{found_tells_nothing}
 use Rattle.imap_session.proofs.Parts.{IsPart, tells_part, ends_part, asks_part, comes_part, challenge_part, is_parting}
 use Rattle.laws_client.proofs.WholeLines.{turn_has, text_has}
-use Rattle.imap_session.specs.declared.standing.Origin.{Origin}
-use Rattle.imap_session.specs.declared.standing.Origin.TheVariants.{Client, Copied}
-use Rattle.imap_session.specs.declared.standing.Source.{Source}
 use Rattle.laws_client.proofs.CopyWords.{copied_plain, moved_tells_nothing}
-use Rattle.exactly_once.proofs.Copying.{copies_so}
+use Rattle.exactly_once.proofs.Copying.{copies_so, TakesBack, back_so, stored_so}
 use Rattle.imap_grammar.specs.declared.command.CopyMessages.{CopyMessages}
 
 -- a last line with a text of the table
@@ -292,27 +289,34 @@ stored_plain uidvalidity uid v u =
       inner = inner_both (front ++ codes "] APPEND complete") (100 ∷ []) (inner_both front (codes "] APPEND complete") inner refl) refl;
     }
 
--- of a copy, and before and behind a message that is moved
-copied_says : (tag view : List ℕ) (selected : Option Selected) (source : Source) (moves : Bool) (uidvalidity uid : ℕ) → IsTag tag
-    → Says tag view (if moves then moving source uidvalidity uid else showing selected (says (copied_words uidvalidity source.uid uid)))
-copied_says tag view selected source true uidvalidity uid t =
-    (leaves view _ (moved_tells_nothing uidvalidity source.uid uid), λ flags new newer. last tag newer (texts.Completed (copy_verb source.by_uid true)) t)
-copied_says tag view selected source false uidvalidity uid t =
-    shows_then tag view selected (says (copied_words uidvalidity source.uid uid))
-    (λ new. leaves new _ (tagged_tells_nothing tag (copied_words uidvalidity source.uid uid) t (copied_plain uidvalidity source.uid uid)))
+-- of copies, and before and behind messages that are moved
+copied_says : (tag view : List ℕ) (selected : Option Selected) (batch : Batch) (moves : Bool) (uidvalidity : ℕ) → IsTag tag
+    → Says tag view (if moves then moving selected uidvalidity batch else showing selected (says (copied_words uidvalidity batch)))
+copied_says tag view selected batch true uidvalidity t = (leaves view _ (moved_tells_nothing uidvalidity batch), moved selected)
+  where
+    moved : (s : Option Selected) → Says tag view (on_found (λ (s : Selected). Discard s.mailbox batch.uids (Feed unlimited (move_done batch))) (move_done batch) s)
+    moved None = last tag view (texts.Completed (copy_verb batch.by_uid true)) t
+    moved (Some s) = λ newer. last tag newer (texts.Completed (copy_verb batch.by_uid true)) t
+copied_says tag view selected batch false uidvalidity t =
+    shows_then tag view selected (says (copied_words uidvalidity batch))
+    (λ new. leaves new _ (tagged_tells_nothing tag (copied_words uidvalidity batch) t (copied_plain uidvalidity batch)))
 
-told_says : (tag view : List ℕ) (selected : Option Selected) (origin : Origin) (uidvalidity uid : ℕ) → IsTag tag → uidvalidity < 2 ^ 64 → uid < 2 ^ 64
-    → Says tag view (told_stored selected origin uidvalidity uid)
-told_says tag view selected Client uidvalidity uid t v u =
-    shows_then tag view selected (says (appended_words uidvalidity uid))
-    (λ new. leaves new _ (tagged_tells_nothing tag (appended_words uidvalidity uid) t (stored_plain uidvalidity uid v u)))
-told_says tag view selected (Copied source) uidvalidity uid t v u = copied_says tag view selected source source.moves uidvalidity uid t
+takes_back : (tag view : List ℕ) → IsTag tag → TakesBack (Says tag view)
+takes_back tag view t = record { told = λ text. last tag view text t; removed = λ mailbox uids x p. p }
 
-verdict_says : (tag view : List ℕ) (selected : Option Selected) (origin : Origin) (mailbox : ℕ) (verdict : Verdict) → IsTag tag → IsPrinted verdict
-    → Says tag view (on_verdict selected origin mailbox verdict)
-verdict_says tag view selected origin mailbox (verdicts.Stored uid) t u =
-    λ status counted. told_says tag view selected origin status.uidvalidity uid t counted.uidvalidity u
-verdict_says tag view selected origin mailbox (verdicts.Refused why) t u = last tag view (refused_text why) t
+stored_says : (tag view : List ℕ) (mailing : Mailing) (selected : Option Selected) (origin : Origin) (mailbox uid : ℕ) → IsTag tag → uid < 2 ^ 64
+    → Says tag view (on_stored mailing selected origin mailbox uid)
+stored_says tag view mailing selected Client mailbox uid t u =
+    λ status counted. shows_then tag view selected (says (appended_words status.uidvalidity uid))
+    (λ new. leaves new _ (tagged_tells_nothing tag (appended_words status.uidvalidity uid) t (stored_plain status.uidvalidity uid counted.uidvalidity u)))
+stored_says tag view mailing selected (Copied batch) mailbox uid t u =
+    stored_so (Says tag view) (takes_back tag view t) mailing selected batch mailbox uid (λ row left is. nothing_leaves view)
+    (λ none status counted. copied_says tag view selected (with_copy uid batch) batch.moves status.uidvalidity t)
+
+verdict_says : (tag view : List ℕ) (mailing : Mailing) (selected : Option Selected) (origin : Origin) (mailbox : ℕ) (verdict : Verdict) → IsTag tag → IsPrinted verdict
+    → Says tag view (on_verdict mailing selected origin mailbox verdict)
+verdict_says tag view mailing selected origin mailbox (verdicts.Stored uid) t u = stored_says tag view mailing selected origin mailbox uid t u
+verdict_says tag view mailing selected origin mailbox (verdicts.Refused why) t u = back_so (Says tag view) (takes_back tag view t) mailbox (copies_of origin) (refused_text why)
 
 -- COPY and MOVE tell nothing before the verdict
 copy_says : (tag view : List ℕ) (now : Standing) (copy : CopyMessages) → IsTag tag → Says tag view (on_command now (commands.Copy copy))
@@ -323,7 +327,7 @@ copy_says tag view now copy t =
       looked = λ by_uid set next p. p view;
       found = λ uid mark next p row is. p row;
     }) now copy
-    (λ source mailbox row copied. (nothing_leaves view, nothing_leaves view))
+    (λ batch mailbox row copied. nothing_leaves view)
 
 -- ---- all of them
 
@@ -458,8 +462,8 @@ heard_follows : (sent : Option Sent) (now : Standing) (verdict : Verdict) (view 
     → IfSome sent (λ s. IsTag s.tag) → IsPrinted verdict → turn_with sent now verdict answers ≡ Some turn → SeesAll view turn.events new → Leads view turn.bytes new
 heard_follows None now verdict view answers turn new t u e sees = absurd (none-some turn e)
 heard_follows (Some sent) now verdict view answers turn new t u e sees =
-    turn_follows sent.tag (refusals sent.tag t) view (without_sent now) (on_verdict now.selected sent.origin sent.append.mailbox verdict) answers turn new e
-    (verdict_says sent.tag view now.selected sent.origin sent.append.mailbox verdict t u) sees
+    turn_follows sent.tag (refusals sent.tag t) view (without_sent now) (on_verdict now.mailing now.selected sent.origin sent.append.mailbox verdict) answers turn new e
+    (verdict_says sent.tag view now.mailing now.selected sent.origin sent.append.mailbox verdict t u) sees
 
 pub verdict_is_followed : VerdictIsFollowed
 verdict_is_followed now verdict view answers turn new t u e sees = heard_follows now.mailing.sent now verdict view answers turn new t u e sees

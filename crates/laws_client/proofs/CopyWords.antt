@@ -1,8 +1,9 @@
--- What is told of a copy stands in one line, and tells nothing of the selected mailbox.
-use Rattle.std.proofs.Common.{◌≡◌, ℕ, true, List, [], ◌∷◌, ◌++◌, refl, ap, sym, ◌∙◌, append_assoc}
-use Rattle.std.specs.Prelude.{codes, decimal}
+-- What is told of copies stands in one line, and tells nothing of the selected mailbox.
+use Rattle.std.proofs.Common.{◌≡◌, ℕ, ◌+◌, ◌==◌, Bool, true, false, List, [], ◌∷◌, ◌++◌, refl, ap, sym, ◌∙◌, append_assoc}
+use Rattle.std.specs.Prelude.{codes, decimal, if◌then◌else◌}
 use Rattle.std.specs.List.{list_all}
-use Rattle.imap_session.specs.Exchange.{untagged}
+use Rattle.imap_answers.specs.Answers.{range_text, runs_text, uid_set}
+use Rattle.imap_session.specs.Exchange.{Batch, untagged}
 use Rattle.imap_session.specs.Commands.{copied_words, moved_words}
 use Rattle.laws_client.specs.Beliefs.{TellsNothing}
 use Rattle.laws_client.specs.Client.{Messages, into_first, knowing, reads, status, words_from}
@@ -10,42 +11,69 @@ use Rattle.laws_client.specs.ListTurns.{IsPlain, is_inner}
 use Rattle.laws_client.proofs.Decimals.{decimal_inner}
 use Rattle.laws_client.proofs.Untold.{inner_both, line_tells_nothing}
 
--- up to the last of the numbers
-abbrev numbers : (uidvalidity uid copy_uid : ℕ) → List ℕ
-numbers uidvalidity uid copy_uid = codes "OK [COPYUID " ++ decimal uidvalidity ++ codes " " ++ decimal uid ++ codes " " ++ decimal copy_uid
+-- ---- sets of UIDs
 
-numbers_inner : (uidvalidity uid copy_uid : ℕ) → list_all is_inner (numbers uidvalidity uid copy_uid) ≡ true
-numbers_inner v u c =
-    inner_both (codes "OK [COPYUID " ++ decimal v ++ codes " " ++ decimal u ++ codes " ") (decimal c)
-    (inner_both (codes "OK [COPYUID " ++ decimal v ++ codes " " ++ decimal u) (codes " ")
-    (inner_both (codes "OK [COPYUID " ++ decimal v ++ codes " ") (decimal u)
+range_inner : (first last : ℕ) → list_all is_inner (range_text first last) ≡ true
+range_inner first last = by (first == last)
+  where
+    by : (b : Bool) → list_all is_inner (if b then decimal first else decimal first ++ codes ":" ++ decimal last) ≡ true
+    by true = decimal_inner first
+    by false = inner_both (decimal first ++ codes ":") (decimal last) (inner_both (decimal first) (codes ":") (decimal_inner first) refl) (decimal_inner last)
+
+runs_inner : (first last : ℕ) (uids : List ℕ) → list_all is_inner (runs_text first last uids) ≡ true
+runs_inner first last [] = range_inner first last
+runs_inner first last (uid ∷ uids) = by (uid == last + 1) (runs_inner first uid uids) (runs_inner uid uid uids)
+  where
+    by : (b : Bool) → list_all is_inner (runs_text first uid uids) ≡ true → list_all is_inner (runs_text uid uid uids) ≡ true
+        → list_all is_inner (if b then runs_text first uid uids else range_text first last ++ codes "," ++ runs_text uid uid uids) ≡ true
+    by true on anew = on
+    by false on anew =
+        inner_both (range_text first last ++ codes ",") (runs_text uid uid uids) (inner_both (range_text first last) (codes ",") (range_inner first last) refl) anew
+
+set_inner : (uids : List ℕ) → list_all is_inner (uid_set uids) ≡ true
+set_inner [] = refl
+set_inner (uid ∷ uids) = runs_inner uid uid uids
+
+-- ---- the words
+
+-- up to the last of the numbers
+abbrev numbers : (uidvalidity : ℕ) → Batch → List ℕ
+numbers uidvalidity batch = codes "OK [COPYUID " ++ decimal uidvalidity ++ codes " " ++ uid_set batch.uids ++ codes " " ++ uid_set batch.copies
+
+numbers_inner : (uidvalidity : ℕ) (batch : Batch) → list_all is_inner (numbers uidvalidity batch) ≡ true
+numbers_inner v batch =
+    let u = uid_set batch.uids in
+    let c = uid_set batch.copies in
+    inner_both (codes "OK [COPYUID " ++ decimal v ++ codes " " ++ u ++ codes " ") c
+    (inner_both (codes "OK [COPYUID " ++ decimal v ++ codes " " ++ u) (codes " ")
+    (inner_both (codes "OK [COPYUID " ++ decimal v ++ codes " ") u
     (inner_both (codes "OK [COPYUID " ++ decimal v) (codes " ") (inner_both (codes "OK [COPYUID ") (decimal v) refl (decimal_inner v)) refl)
-    (decimal_inner u)) refl) (decimal_inner c)
+    (set_inner batch.uids)) refl) (set_inner batch.copies)
 
 -- words behind them, but for the last byte
 ends_in : (a x y front last : List ℕ) → x ++ y ≡ front ++ last → (a ++ x) ++ y ≡ (a ++ front) ++ last
 ends_in a x y front last e = append_assoc a x y ∙ ap (λ (t : List ℕ). a ++ t) e ∙ sym (append_assoc a front last)
 
-with_words : (uidvalidity uid copy_uid : ℕ) (front : List ℕ) (last : ℕ) → list_all is_inner front ≡ true → list_all is_inner (last ∷ []) ≡ true
-    → list_all is_inner ((numbers uidvalidity uid copy_uid ++ front) ++ last ∷ []) ≡ true
-with_words v u c front last h k = inner_both (numbers v u c ++ front) (last ∷ []) (inner_both (numbers v u c) front (numbers_inner v u c) h) k
+with_words : (uidvalidity : ℕ) (batch : Batch) (front : List ℕ) (last : ℕ) → list_all is_inner front ≡ true → list_all is_inner (last ∷ []) ≡ true
+    → list_all is_inner ((numbers uidvalidity batch ++ front) ++ last ∷ []) ≡ true
+with_words v batch front last h k = inner_both (numbers v batch ++ front) (last ∷ []) (inner_both (numbers v batch) front (numbers_inner v batch) h) k
 
-pub copied_plain : (uidvalidity uid copy_uid : ℕ) → IsPlain (copied_words uidvalidity uid copy_uid)
-copied_plain v u c = record {
-  front = numbers v u c ++ codes "] COPY complete";
+pub copied_plain : (uidvalidity : ℕ) (batch : Batch) → IsPlain (copied_words uidvalidity batch)
+copied_plain v batch = record {
+  front = numbers v batch ++ codes "] COPY complete";
   last = 100;
-  is = ends_in (numbers v u c) (codes "] ") (codes "COPY completed") (codes "] COPY complete") (100 ∷ []) refl;
+  is = ends_in (numbers v batch) (codes "] ") (codes "COPY completed") (codes "] COPY complete") (100 ∷ []) refl;
   no_count = refl;
-  inner = with_words v u c (codes "] COPY complete") 100 refl refl;
+  inner = with_words v batch (codes "] COPY complete") 100 refl refl;
 }
 
-pub moved_plain : (uidvalidity uid copy_uid : ℕ) → IsPlain (moved_words uidvalidity uid copy_uid)
-moved_plain v u c = record {
-  front = numbers v u c ++ codes "] Move";
+pub moved_plain : (uidvalidity : ℕ) (batch : Batch) → IsPlain (moved_words uidvalidity batch)
+moved_plain v batch = record {
+  front = numbers v batch ++ codes "] Move";
   last = 100;
-  is = ends_in (numbers v u c) (codes "] ") (codes "Moved") (codes "] Move") (100 ∷ []) refl;
+  is = ends_in (numbers v batch) (codes "] ") (codes "Moved") (codes "] Move") (100 ∷ []) refl;
   no_count = refl;
-  inner = with_words v u c (codes "] Move") 100 refl refl;
+  inner = with_words v batch (codes "] Move") 100 refl refl;
 }
 
 -- a word in brackets that begins otherwise than that of a list that is over
@@ -53,10 +81,10 @@ other_status : (words : List (List ℕ)) (o : Messages) → status (into_first 9
 other_status [] o = refl
 other_status (word ∷ words) o = refl
 
--- the line that is told of a copy before its message is removed
-pub moved_tells_nothing : (uidvalidity uid copy_uid : ℕ) → TellsNothing (untagged (moved_words uidvalidity uid copy_uid))
-moved_tells_nothing v u c messages =
-    ap (λ (w : List ℕ). reads (knowing messages) (untagged w)) (ends_in (numbers v u c) (codes "] ") (codes "Moved") (codes "] Move") (100 ∷ []) refl)
-    ∙ line_tells_nothing (codes "* " ++ (numbers v u c ++ codes "] Move")) 100 refl
-    (inner_both (codes "* ") ((numbers v u c ++ codes "] Move") ++ 100 ∷ []) refl (with_words v u c (codes "] Move") 100 refl refl))
-    (other_status (words_from true ((codes "PYUID " ++ decimal v ++ codes " " ++ decimal u ++ codes " " ++ decimal c ++ codes "] Move") ++ 100 ∷ []))) messages
+-- the line that is told of copies before their messages are removed
+pub moved_tells_nothing : (uidvalidity : ℕ) (batch : Batch) → TellsNothing (untagged (moved_words uidvalidity batch))
+moved_tells_nothing v batch messages =
+    ap (λ (w : List ℕ). reads (knowing messages) (untagged w)) (ends_in (numbers v batch) (codes "] ") (codes "Moved") (codes "] Move") (100 ∷ []) refl)
+    ∙ line_tells_nothing (codes "* " ++ (numbers v batch ++ codes "] Move")) 100 refl
+    (inner_both (codes "* ") ((numbers v batch ++ codes "] Move") ++ 100 ∷ []) refl (with_words v batch (codes "] Move") 100 refl refl))
+    (other_status (words_from true ((codes "PYUID " ++ decimal v ++ codes " " ++ uid_set batch.uids ++ codes " " ++ uid_set batch.copies ++ codes "] Move") ++ 100 ∷ []))) messages

@@ -30,8 +30,8 @@ use Rattle.imap_session.specs.declared.standing.After.TheVariants as afters
 use Rattle.imap_session.specs.declared.standing.Selected.{Selected}
 use Rattle.imap_session.proofs.Unkept.{unkept_by}
 use Rattle.imap_session.specs.Exchange as ex
-use Rattle.imap_session.specs.Exchange.{Answer, PendingLiteral, Call, Entered, Looked, Found, Counted, Altered, Expunged, Fed, Left, Refused, Starved, Event as Happened, Exchange, Folder, ForVerdict, Mailing, Sent, Standing, Turn, bye, closed, having, is_idling, kept_behind, kept_tag, played, refusal_after, refusal_text, refused, saying, tagged, untagged}
-use Rattle.imap_session.specs.Commands.{appended_words, appending, closing, completed, counting, entering, expunge_set, fetch_messages, fetched, fetching, folder_of, idle_turn_in, if_writable, is_over, last_number, long_rest_text, long_text, messages_done, most_unasked, nowhere, number_named, on_chosen, on_command, on_found, on_idle_line, on_read, on_rest, on_text, on_verdict, over, refused_text, says, showing, store_messages, storing, turn_of, turn_with, unlimited, wanting, wanting_for, without_begun, without_sent, wrong_state, arguments_text, entered_text, logged_in, subscribing, telling_recent, found_in, search_done, search_known, search_messages, searching, on_text_line, flags_for, mailbox_for, wants_response, awaiting_response, told_stored, moving, copied_words, moved_words}
+use Rattle.imap_session.specs.Exchange.{Answer, PendingLiteral, Call, Entered, Looked, Found, Counted, Altered, Expunged, Fed, Left, Refused, Starved, Event as Happened, Exchange, Folder, ForVerdict, Mailing, Sent, Standing, Turn, bye, closed, having, is_idling, kept_behind, kept_tag, played, refusal_after, refusal_text, refused, saying, tagged, untagged, Discarded, Origin, Client, Copied, Batch}
+use Rattle.imap_session.specs.Commands.{appended_words, appending, closing, completed, counting, entering, expunge_set, fetch_messages, fetched, fetching, folder_of, idle_turn_in, if_writable, is_over, last_number, long_rest_text, long_text, messages_done, most_unasked, nowhere, number_named, on_chosen, on_command, on_found, on_idle_line, on_read, on_rest, on_text, on_verdict, over, refused_text, says, showing, store_messages, storing, turn_of, turn_with, unlimited, wanting, wanting_for, without_begun, without_sent, wrong_state, arguments_text, entered_text, logged_in, subscribing, telling_recent, found_in, search_done, search_known, search_messages, searching, on_text_line, flags_for, mailbox_for, wants_response, awaiting_response, moving, copied_words, moved_words, on_stored, move_done, with_copy, copies_of}
 use Rattle.laws_client.specs.Commands.{AreNames, HasToldParts, whole_line}
 use Rattle.laws_client.specs.Talks.{Happening, Line, LongLine, Turned, Literal, Heard, leads_to}
 use Rattle.laws_client.specs.ListTurns.{IsPlain, is_inner}
@@ -62,11 +62,8 @@ use Rattle.imap_grammar.specs.Keys.{all_messages}
 use Rattle.std.proofs.lemmas.Bool.{false≢true}
 use Rattle.imap_session.proofs.Parts.{IsPart, tells_part, ends_part, asks_part, comes_part, challenge_part}
 use Rattle.laws_client.proofs.WholeLines.{turn_has, text_has, whole_turn, said_has}
-use Rattle.imap_session.specs.declared.standing.Origin.{Origin}
-use Rattle.imap_session.specs.declared.standing.Origin.TheVariants.{Client, Copied}
-use Rattle.imap_session.specs.declared.standing.Source.{Source}
 use Rattle.laws_client.proofs.CopyWords.{copied_plain, moved_plain}
-use Rattle.exactly_once.proofs.Copying.{copies_so}
+use Rattle.exactly_once.proofs.Copying.{copies_so, TakesBack, back_so, stored_so}
 use Rattle.imap_grammar.specs.declared.command.CopyMessages.{CopyMessages}
 
 -- ---- what is read
@@ -100,6 +97,7 @@ SaysCut o (ex.Alter uid op next) = (flags : Option Flags) → SaysCut o (next fl
 SaysCut o (ex.Expunge uids x) = SaysCut o x
 SaysCut o (ex.Feed limit x) = SaysCut o x
 SaysCut o (ex.Leave remove x) = SaysCut o x
+SaysCut o (ex.Discard mailbox uids x) = SaysCut o x
 
 -- It ends with the line of this tag; or it has no tagged line, where the session waits and may, or says BYE.
 pub data OneOf (tag : List ℕ) (o : Bool) (bytes : List ℕ) : Type 0 where
@@ -176,6 +174,7 @@ played_cut tag t o now (ex.Wait bytes waits) ((Altered a) ∷ more) p = tt
 played_cut tag t o now (ex.Wait bytes waits) ((Expunged a b c) ∷ more) p = tt
 played_cut tag t o now (ex.Wait bytes waits) ((Fed a b) ∷ more) p = tt
 played_cut tag t o now (ex.Wait bytes waits) ((Left a) ∷ more) p = tt
+played_cut tag t o now (ex.Wait bytes waits) (Discarded ∷ more) p = tt
 played_cut tag t o now (ex.Wait bytes waits) ((Refused a) ∷ more) p = tt
 played_cut tag t o now (ex.Wait bytes waits) (Starved n ∷ []) p =
     unkept_by (TurnCut tag o) tt tag now (λ short. refused_one tag t o now NoMemory) (λ purpose size short. kept_open passes_none (inl p.0)) (λ short. subst (OneOf tag o) (sym (append-nil (bye (response_text texts.ByeOutOfMemory)))) (bye_of tag texts.ByeOutOfMemory o)) waits n
@@ -189,6 +188,7 @@ played_cut tag t o now (ex.Write bytes x) ((Altered a) ∷ more) p = then_saying
 played_cut tag t o now (ex.Write bytes x) ((Expunged a b c) ∷ more) p = then_saying tag o bytes (played tag now x ((Expunged a b c) ∷ more)) p.0 (played_cut tag t o now x ((Expunged a b c) ∷ more) p.1)
 played_cut tag t o now (ex.Write bytes x) ((Fed a b) ∷ more) p = then_saying tag o bytes (played tag now x ((Fed a b) ∷ more)) p.0 (played_cut tag t o now x ((Fed a b) ∷ more) p.1)
 played_cut tag t o now (ex.Write bytes x) ((Left a) ∷ more) p = then_saying tag o bytes (played tag now x ((Left a) ∷ more)) p.0 (played_cut tag t o now x ((Left a) ∷ more) p.1)
+played_cut tag t o now (ex.Write bytes x) (Discarded ∷ more) p = then_saying tag o bytes (played tag now x (Discarded ∷ more)) p.0 (played_cut tag t o now x (Discarded ∷ more) p.1)
 played_cut tag t o now (ex.Write bytes x) ((Refused a) ∷ more) p = then_saying tag o bytes (played tag now x ((Refused a) ∷ more)) p.0 (played_cut tag t o now x ((Refused a) ∷ more) p.1)
 played_cut tag t o now (ex.Write bytes x) (Starved zero ∷ []) p = (λ short. refused_one tag t o now NoMemory)
 played_cut tag t o now (ex.Write bytes x) (Starved zero ∷ d ∷ more) p = then_saying tag o bytes (played tag now x (Starved zero ∷ d ∷ more)) p.0 (played_cut tag t o now x (Starved zero ∷ d ∷ more) p.1)
@@ -204,6 +204,7 @@ played_cut tag t o now (ex.Enter selected next) ((Altered a) ∷ more) p = tt
 played_cut tag t o now (ex.Enter selected next) ((Expunged a b c) ∷ more) p = tt
 played_cut tag t o now (ex.Enter selected next) ((Fed a b) ∷ more) p = tt
 played_cut tag t o now (ex.Enter selected next) ((Left a) ∷ more) p = tt
+played_cut tag t o now (ex.Enter selected next) (Discarded ∷ more) p = tt
 played_cut tag t o now (ex.Enter selected next) (Refused a ∷ []) p = (λ short. refused_one tag t o now a)
 played_cut tag t o now (ex.Enter selected next) (Refused a ∷ d ∷ more) p = tt
 played_cut tag t o now (ex.Enter selected next) ((Starved zero) ∷ more) p = tt
@@ -217,6 +218,7 @@ played_cut tag t o now (ex.Look by_uid set next) ((Altered a) ∷ more) p = tt
 played_cut tag t o now (ex.Look by_uid set next) ((Expunged a b c) ∷ more) p = tt
 played_cut tag t o now (ex.Look by_uid set next) ((Fed a b) ∷ more) p = tt
 played_cut tag t o now (ex.Look by_uid set next) ((Left a) ∷ more) p = tt
+played_cut tag t o now (ex.Look by_uid set next) (Discarded ∷ more) p = tt
 played_cut tag t o now (ex.Look by_uid set next) (Refused a ∷ []) p = (λ short. refused_one tag t o now a)
 played_cut tag t o now (ex.Look by_uid set next) (Refused a ∷ d ∷ more) p = tt
 played_cut tag t o now (ex.Look by_uid set next) (Starved a ∷ more) p = tt
@@ -229,6 +231,7 @@ played_cut tag t o now (ex.Read uid mark next) ((Altered a) ∷ more) p = tt
 played_cut tag t o now (ex.Read uid mark next) ((Expunged a b c) ∷ more) p = tt
 played_cut tag t o now (ex.Read uid mark next) ((Fed a b) ∷ more) p = tt
 played_cut tag t o now (ex.Read uid mark next) ((Left a) ∷ more) p = tt
+played_cut tag t o now (ex.Read uid mark next) (Discarded ∷ more) p = tt
 played_cut tag t o now (ex.Read uid mark next) (Refused a ∷ []) p = (λ short. refused_one tag t o now a)
 played_cut tag t o now (ex.Read uid mark next) (Refused a ∷ d ∷ more) p = tt
 played_cut tag t o now (ex.Read uid mark next) ((Starved zero) ∷ more) p = tt
@@ -242,6 +245,7 @@ played_cut tag t o now (ex.Count mailbox next) ((Altered a) ∷ more) p = tt
 played_cut tag t o now (ex.Count mailbox next) ((Expunged a b c) ∷ more) p = tt
 played_cut tag t o now (ex.Count mailbox next) ((Fed a b) ∷ more) p = tt
 played_cut tag t o now (ex.Count mailbox next) ((Left a) ∷ more) p = tt
+played_cut tag t o now (ex.Count mailbox next) (Discarded ∷ more) p = tt
 played_cut tag t o now (ex.Count mailbox next) (Refused a ∷ []) p = (λ short. refused_one tag t o now a)
 played_cut tag t o now (ex.Count mailbox next) (Refused a ∷ d ∷ more) p = tt
 played_cut tag t o now (ex.Count mailbox next) ((Starved zero) ∷ more) p = tt
@@ -255,6 +259,7 @@ played_cut tag t o now (ex.Alter uid op next) ((Altered a) ∷ more) p = then_ha
 played_cut tag t o now (ex.Alter uid op next) ((Expunged a b c) ∷ more) p = tt
 played_cut tag t o now (ex.Alter uid op next) ((Fed a b) ∷ more) p = tt
 played_cut tag t o now (ex.Alter uid op next) ((Left a) ∷ more) p = tt
+played_cut tag t o now (ex.Alter uid op next) (Discarded ∷ more) p = tt
 played_cut tag t o now (ex.Alter uid op next) (Refused a ∷ []) p = (λ short. refused_one tag t o now a)
 played_cut tag t o now (ex.Alter uid op next) (Refused a ∷ d ∷ more) p = tt
 played_cut tag t o now (ex.Alter uid op next) ((Starved zero) ∷ more) p = tt
@@ -268,6 +273,7 @@ played_cut tag t o now (ex.Expunge uids x) ((Altered a) ∷ more) p = tt
 played_cut tag t o now (ex.Expunge uids x) ((Expunged a b c) ∷ more) p = then_showing tag o (ex.Expunge uids) (Expunged a b c) a b (played tag now x more) (played_cut tag t o now x more p)
 played_cut tag t o now (ex.Expunge uids x) ((Fed a b) ∷ more) p = tt
 played_cut tag t o now (ex.Expunge uids x) ((Left a) ∷ more) p = tt
+played_cut tag t o now (ex.Expunge uids x) (Discarded ∷ more) p = tt
 played_cut tag t o now (ex.Expunge uids x) (Refused a ∷ []) p = (λ short. refused_one tag t o now a)
 played_cut tag t o now (ex.Expunge uids x) (Refused a ∷ d ∷ more) p = tt
 played_cut tag t o now (ex.Expunge uids x) ((Starved zero) ∷ more) p = tt
@@ -281,6 +287,7 @@ played_cut tag t o now (ex.Feed limit x) ((Altered a) ∷ more) p = tt
 played_cut tag t o now (ex.Feed limit x) ((Expunged a b c) ∷ more) p = tt
 played_cut tag t o now (ex.Feed limit x) ((Fed a b) ∷ more) p = then_showing tag o (ex.Feed limit) (Fed a b) a b (played tag now x more) (played_cut tag t o now x more p)
 played_cut tag t o now (ex.Feed limit x) ((Left a) ∷ more) p = tt
+played_cut tag t o now (ex.Feed limit x) (Discarded ∷ more) p = tt
 played_cut tag t o now (ex.Feed limit x) (Refused a ∷ []) p = (λ short. refused_one tag t o now a)
 played_cut tag t o now (ex.Feed limit x) (Refused a ∷ d ∷ more) p = tt
 played_cut tag t o now (ex.Feed limit x) ((Starved zero) ∷ more) p = tt
@@ -293,11 +300,26 @@ played_cut tag t o now (ex.Leave remove x) ((Counted a) ∷ more) p = tt
 played_cut tag t o now (ex.Leave remove x) ((Altered a) ∷ more) p = tt
 played_cut tag t o now (ex.Leave remove x) ((Expunged a b c) ∷ more) p = tt
 played_cut tag t o now (ex.Leave remove x) ((Fed a b) ∷ more) p = tt
+played_cut tag t o now (ex.Leave remove x) (Discarded ∷ more) p = tt
 played_cut tag t o now (ex.Leave remove x) ((Left a) ∷ more) p = then_having tag o (ex.Leave remove) (Left a) (played tag (record now { selected = None }) x more) (played_cut tag t o (record now { selected = None }) x more p)
 played_cut tag t o now (ex.Leave remove x) (Refused a ∷ []) p = (λ short. refused_one tag t o now a)
 played_cut tag t o now (ex.Leave remove x) (Refused a ∷ d ∷ more) p = tt
 played_cut tag t o now (ex.Leave remove x) ((Starved zero) ∷ more) p = tt
 played_cut tag t o now (ex.Leave remove x) ((Starved (suc a)) ∷ more) p = tt
+played_cut tag t o now (ex.Discard mailbox uids x) [] p = tt
+played_cut tag t o now (ex.Discard mailbox uids x) ((Entered a) ∷ more) p = tt
+played_cut tag t o now (ex.Discard mailbox uids x) ((Looked a) ∷ more) p = tt
+played_cut tag t o now (ex.Discard mailbox uids x) ((Found a) ∷ more) p = tt
+played_cut tag t o now (ex.Discard mailbox uids x) ((Counted a) ∷ more) p = tt
+played_cut tag t o now (ex.Discard mailbox uids x) ((Altered a) ∷ more) p = tt
+played_cut tag t o now (ex.Discard mailbox uids x) ((Expunged a b c) ∷ more) p = tt
+played_cut tag t o now (ex.Discard mailbox uids x) ((Fed a b) ∷ more) p = tt
+played_cut tag t o now (ex.Discard mailbox uids x) ((Left a) ∷ more) p = tt
+played_cut tag t o now (ex.Discard mailbox uids x) (Discarded ∷ more) p = then_having tag o (ex.Discard mailbox uids) Discarded (played tag now x more) (played_cut tag t o now x more p)
+played_cut tag t o now (ex.Discard mailbox uids x) (Refused a ∷ []) p = (λ short. refused_one tag t o now a)
+played_cut tag t o now (ex.Discard mailbox uids x) (Refused a ∷ d ∷ more) p = tt
+played_cut tag t o now (ex.Discard mailbox uids x) ((Starved zero) ∷ more) p = tt
+played_cut tag t o now (ex.Discard mailbox uids x) ((Starved (suc a)) ∷ more) p = tt
 
 -- ---- what an exchange is made of
 
@@ -401,7 +423,7 @@ copy_cut now copy =
       looked = λ by_uid set next p. p;
       found = λ uid mark next p row short. p row;
     }) now copy
-    (λ source mailbox row copied. (passes_none, (refl, passes_none)))
+    (λ batch mailbox row copied. (refl, passes_none))
 
 command_cut : (now : Standing) (command : Command) → HasToldParts command → AreNames now.folders → SaysCut (leaves_open command) (on_command now command)
 command_cut now commands.Noop told names = in_showing false now.selected (completed commands.Noop) (refl, refl)
@@ -541,6 +563,7 @@ idle_cut (Some s) true now ((Expunged a b c) ∷ more) = tt
 idle_cut (Some s) true now (Fed a b ∷ []) = λ short. subst IsOneAnswer (sym (append-nil (lines a b))) (opens (lines_pass a b))
 idle_cut (Some s) true now (Fed a b ∷ d ∷ more) = tt
 idle_cut (Some s) true now ((Left a) ∷ more) = tt
+idle_cut (Some s) true now (Discarded ∷ more) = tt
 idle_cut (Some s) true now (Refused Lapped ∷ []) = λ short. bye_one texts.ChangesMissed
 idle_cut (Some s) true now (Refused Lapped ∷ d ∷ more) = tt
 idle_cut (Some s) true now (Refused Stranger ∷ []) = λ short. bye_one texts.InternalFault
@@ -556,30 +579,35 @@ appended_end v uid = ap plain_end (reverse-append (codes "OK [APPENDUID " ++ dec
 plain_cut : (words : List ℕ) → IsPlain words → SaysCut true (says words)
 plain_cut words plain = (plain_inner words plain, plain_name words plain)
 
-copied_cut : (selected : Option Selected) (source : Source) (moves : Bool) (uidvalidity uid : ℕ)
-    → SaysCut true (if moves then moving source uidvalidity uid else showing selected (says (copied_words uidvalidity source.uid uid)))
-copied_cut selected source true uidvalidity uid =
-    let plain : IsPlain (moved_words uidvalidity source.uid uid) = moved_plain uidvalidity source.uid uid in (
-      star_passes [] (moved_words uidvalidity source.uid uid) refl (plain_inner _ plain) (plain_name _ plain),
-      λ flags. says_cut true (texts.Completed (copy_verb source.by_uid true)),
+copied_cut : (selected : Option Selected) (batch : Batch) (moves : Bool) (uidvalidity : ℕ)
+    → SaysCut true (if moves then moving selected uidvalidity batch else showing selected (says (copied_words uidvalidity batch)))
+copied_cut selected batch true uidvalidity =
+    let plain : IsPlain (moved_words uidvalidity batch) = moved_plain uidvalidity batch in (
+      star_passes [] (moved_words uidvalidity batch) refl (plain_inner _ plain) (plain_name _ plain),
+      in_found true (λ (s : Selected). ex.Discard s.mailbox batch.uids (ex.Feed unlimited (move_done batch))) (move_done batch)
+          (λ s. says_cut true (texts.Completed (copy_verb batch.by_uid true))) (says_cut true (texts.Completed (copy_verb batch.by_uid true))) selected,
     )
-copied_cut selected source false uidvalidity uid =
-    in_showing true selected (says (copied_words uidvalidity source.uid uid))
-    (plain_cut (copied_words uidvalidity source.uid uid) (copied_plain uidvalidity source.uid uid))
+copied_cut selected batch false uidvalidity =
+    in_showing true selected (says (copied_words uidvalidity batch)) (plain_cut (copied_words uidvalidity batch) (copied_plain uidvalidity batch))
 
-stored_cut : (selected : Option Selected) (origin : Origin) (uidvalidity uid : ℕ) → SaysCut true (told_stored selected origin uidvalidity uid)
-stored_cut selected Client uidvalidity uid =
-    in_showing true selected (says (appended_words uidvalidity uid)) (appended_inner uidvalidity uid, appended_end uidvalidity uid)
-stored_cut selected (Copied source) uidvalidity uid = copied_cut selected source source.moves uidvalidity uid
+takes_back : TakesBack (SaysCut true)
+takes_back = record { told = says_cut true; removed = λ mailbox uids x p. p }
 
-verdict_cut : (selected : Option Selected) (origin : Origin) (mailbox : ℕ) (verdict : Verdict)
-    → SaysCut true (on_verdict selected origin mailbox verdict)
-verdict_cut selected origin mailbox (verdicts.Stored uid) = λ status. stored_cut selected origin status.uidvalidity uid
-verdict_cut selected origin mailbox (verdicts.Refused why) = says_cut true (refused_text why)
+stored_cut : (mailing : Mailing) (selected : Option Selected) (origin : Origin) (mailbox uid : ℕ) → SaysCut true (on_stored mailing selected origin mailbox uid)
+stored_cut mailing selected Client mailbox uid =
+    λ status. in_showing true selected (says (appended_words status.uidvalidity uid)) (appended_inner status.uidvalidity uid, appended_end status.uidvalidity uid)
+stored_cut mailing selected (Copied batch) mailbox uid =
+    stored_so (SaysCut true) takes_back mailing selected batch mailbox uid (λ row left is. (refl, passes_none))
+    (λ none status. copied_cut selected (with_copy uid batch) batch.moves status.uidvalidity)
+
+verdict_cut : (mailing : Mailing) (selected : Option Selected) (origin : Origin) (mailbox : ℕ) (verdict : Verdict)
+    → SaysCut true (on_verdict mailing selected origin mailbox verdict)
+verdict_cut mailing selected origin mailbox (verdicts.Stored uid) = stored_cut mailing selected origin mailbox uid
+verdict_cut mailing selected origin mailbox (verdicts.Refused why) = back_so (SaysCut true) takes_back mailbox (copies_of origin) (refused_text why)
 
 heard_cut : (sent : Option Sent) (now : Standing) (verdict : Verdict) (answers : List Answer) → IfSome sent (λ (s : Sent). IsWord s.tag) → TurnOne (turn_with sent now verdict answers)
 heard_cut None now verdict answers t = tt
-heard_cut (Some sent) now verdict answers t = plain_turn sent.tag t true (without_sent now) (on_verdict now.selected sent.origin sent.append.mailbox verdict) answers (verdict_cut now.selected sent.origin sent.append.mailbox verdict)
+heard_cut (Some sent) now verdict answers t = plain_turn sent.tag t true (without_sent now) (on_verdict now.mailing now.selected sent.origin sent.append.mailbox verdict) answers (verdict_cut now.mailing now.selected sent.origin sent.append.mailbox verdict)
 
 -- ---- a turn
 

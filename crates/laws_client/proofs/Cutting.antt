@@ -4,7 +4,7 @@ use Rattle.std.specs.Prelude.{Ok, flat_map, if◌then◌else◌}
 use Rattle.mailbox.specs.declared.clients.Row.{Row}
 use Rattle.world.specs.World.{Config, Event as WorldEvent, IsWorld, World}
 use Rattle.imap_session.specs.Commands.{greeting}
-use Rattle.imap_session.specs.Exchange.{Alter, Call, Count, Enter, Event as Happened, Expunge, Feed, Found, Leave, Look, Read, Answer as StoreAnswer, Entered, Looked, Counted, Altered, Expunged, Fed, Left, Refused, Starved, Standing, Turn, kept_tag}
+use Rattle.imap_session.specs.Exchange.{Alter, Call, Count, Enter, Event as Happened, Expunge, Feed, Found, Leave, Look, Read, Answer as StoreAnswer, Entered, Looked, Counted, Altered, Expunged, Fed, Left, Refused, Starved, Standing, Turn, kept_tag, Discard, Discarded}
 use Rattle.imap_session.specs.Store.{Met}
 use Rattle.house.specs.Meets.{Meets}
 use Rattle.house.specs.Setup.{Setup}
@@ -52,6 +52,7 @@ found_short k n w (Alter uid op) row v m h = absurd m
 found_short k n w (Expunge uids) row v m h = absurd m
 found_short k n w (Feed limit) row v m h = absurd m
 found_short k n w (Leave remove) row v m h = absurd m
+found_short k n w (Discard i uids) row v m h = absurd m
 
 answer_short : (k : Config) (n : ℕ) (w : World) (call : Call) (answer : StoreAnswer) (v : World) (view new : List ℕ) → Meets k n w call answer v → Sees view (record { call = call; answer = answer }) new → IsShortAnswer answer
 answer_short k n w call (Found row) v view new m s = found_short k n w call row v m s.fits
@@ -62,6 +63,7 @@ answer_short k n w call (Altered a) v view new m s = tt
 answer_short k n w call (Expunged a b c) v view new m s = tt
 answer_short k n w call (Fed a b) v view new m s = tt
 answer_short k n w call (Left a) v view new m s = tt
+answer_short k n w call Discarded v view new m s = tt
 answer_short k n w call (Refused a) v view new m s = tt
 answer_short k n w call (Starved a) v view new m s = tt
 

@@ -3,7 +3,7 @@ use Rattle.std.proofs.Common.{zero, suc, ◌≡◌, ℕ, List, [], ◌∷◌, re
 use Rattle.std.specs.Prelude.{Some}
 use Rattle.std.proofs.lemmas.Option.{none-some}
 use Rattle.mailbox.specs.declared.clients.MailFault.TheVariants.{NoMemory}
-use Rattle.imap_session.specs.Exchange.{Answer, Looked, Found, Counted, Altered, Expunged, Fed, Refused, Starved, Exchange, Done, Wait, Write, Put, Enter, Look, Read, Count, Alter, Expunge, Feed, Leave, Standing, Turn, after_waiting, tagged, played, waiting}
+use Rattle.imap_session.specs.Exchange.{Answer, Looked, Found, Counted, Altered, Expunged, Fed, Refused, Starved, Exchange, Done, Wait, Write, Put, Enter, Look, Read, Count, Alter, Expunge, Feed, Leave, Standing, Turn, after_waiting, tagged, played, waiting, Discard, Discarded}
 use Rattle.laws_client.specs.Flags.{Point}
 use Rattle.laws_client.specs.FlagTurns.{LeadsFlags}
 use Rattle.laws_client.proofs.FlagMoments.{SeesAllMoments}
@@ -47,3 +47,7 @@ turn_tells tag refusals p now (Feed limit x) [] turn q e says sees = absurd (non
 turn_tells tag refusals p now (Feed limit x) (Fed a b ∷ more) turn q e says sees = shows p (Feed limit) (Fed a b) a b (λ mid s. (s.sees.leads.0, s.sees.fits)) refl (λ mid s. s) (played tag now x more) turn q e sees (λ t mid d s. turn_tells tag refusals mid now x more t q d (says mid) s)
 turn_tells tag refusals p now (Feed limit x) (Refused a ∷ []) turn q e says sees = is_refused tag refusals p now (Feed limit) a turn q e sees
 turn_tells tag refusals p now (Feed limit x) (_ ∷ more) turn q e says sees = absurd (none-some turn e)
+turn_tells tag refusals p now (Discard mailbox uids x) [] turn q e says sees = absurd (none-some turn e)
+turn_tells tag refusals p now (Discard mailbox uids x) (Discarded ∷ more) turn q e says sees = calls p (Discard mailbox uids) Discarded (played tag now x more) turn q e sees refl (λ mid s. s) (λ t mid s d more_seen. turn_tells tag refusals mid now x more t q d (says mid s) more_seen)
+turn_tells tag refusals p now (Discard mailbox uids x) (Refused a ∷ []) turn q e says sees = is_refused tag refusals p now (Discard mailbox uids) a turn q e sees
+turn_tells tag refusals p now (Discard mailbox uids x) (_ ∷ more) turn q e says sees = absurd (none-some turn e)

@@ -15,7 +15,7 @@ use Rattle.world.specs.World.{Box, Config, Event, Session, Step, World, shows}
 use Rattle.world.proofs.Always.{legal}
 use Rattle.world.proofs.Kept.{Kept, SessionOk}
 use Rattle.delivery_core.specs.Clients.{Done, row_with, rows_then}
-use Rattle.imap_session.specs.Exchange.{Call, Answer, Event as Happened, Look, Read as ReadCall, Count, Alter, Expunge as ExpungeCall, Feed as FeedCall, Leave as LeaveCall, Enter as EnterCall, Entered, Looked, Found, Counted, Altered, Expunged, Fed, Left, Refused}
+use Rattle.imap_session.specs.Exchange.{Call, Answer, Event as Happened, Look, Read as ReadCall, Count, Alter, Expunge as ExpungeCall, Feed as FeedCall, Leave as LeaveCall, Enter as EnterCall, Entered, Looked, Found, Counted, Altered, Expunged, Fed, Left, Refused, Discard as DiscardCall, Discarded}
 use Rattle.imap_session.specs.Store.{Met}
 use Rattle.house.specs.Meets.{Meets}
 use Rattle.laws_client.specs.Beliefs.{Each}
@@ -26,7 +26,7 @@ use Rattle.laws_client.specs.Sizes.{HasShortTexts, HasSmallNumbers}
 use Rattle.laws_client.specs.Views.{IsOfOthers, view_in, view_of}
 use Rattle.laws_client.proofs.Boxes.{box_goes}
 use Rattle.laws_client.proofs.Moved.{Calls, moved, moved_extends, short_before, short_met, sound_moved}
-use Rattle.laws_client.proofs.Seen.{seen, turned_away, was_refused}
+use Rattle.laws_client.proofs.Seen.{seen, turned_away, was_refused, discard_leaves}
 use Rattle.laws_client.proofs.RecordWorlds.{Grows, Sound, goes_grows, session_stays, sound_always}
 use Rattle.laws_client.specs.Flags.{Believes, KnowsFlags, Point, counted}
 use Rattle.laws_client.specs.FlagTurns.{IfInside, SeesAllFlags, SeesFlags, TellsFlags, shown_in}
@@ -153,6 +153,35 @@ feed_flags k w n limit met changes v S sees (step, (s, is, (D, shown))) =
     done_seen k w n s (FeedCall limit) (Fed met changes) [] (drop limit waiting) v S is sees (subst (λ (cs : List Change). Done k w n s cs [] v) (sym shown.handed) D)
     (sym (take-append-drop limit waiting) ∙ ap (λ (cs : List Change). cs ++ drop limit waiting) (sym shown.handed)) (λ q e. tt)
 
+-- where the session is stays, and the log of its mailbox has grown, or not
+record HasGrown (p q : Point) : Type 0 where
+  later : List Change
+  log : q.log ≡ p.log ++ later
+  cursor : q.cursor ≡ p.cursor
+
+grown_in : (w v : World) (o : Option Session) → ((m : ℕ) → Grows (w.box m) (v.box m)) → HasGrown (point_in w o) (point_in v o)
+grown_in w v None grows = record { later = []; log = refl; cursor = refl }
+grown_in w v (Some s) grows = record { later = (grows s.mailbox).changes; log = (grows s.mailbox).log; cursor = refl }
+
+-- messages were discarded, perhaps of the very mailbox
+discard_flags : (k : Config) (w : World) (n i : ℕ) (uids : List ℕ) (v : World) → Sound k w → Sees (view_of w n) (record { call = DiscardCall i uids; answer = Discarded }) (view_of v n)
+    → Meets k n w (DiscardCall i uids) Discarded v → SeesFlags (point_of w n) (record { call = DiscardCall i uids; answer = Discarded }) (point_of v n)
+discard_flags k w n i uids v S sees m =
+    let p : Point = point_of w n in
+    let stays = discard_leaves k w n i uids v m in
+    let grown : HasGrown p (point_of v n) = subst (λ (o : Option Session). HasGrown p (point_in v o)) (sym stays.session) (grown_in w v (w.session n) stays.grows) in
+    let ok = sound_at k w n S in record {
+      sees = seen_at w n (record { call = DiscardCall i uids; answer = Discarded }) v sees;
+      legal = ok.legal;
+      within = ok.within;
+      rest = drop p.cursor p.log;
+      shows = refl;
+      cursor = grown.cursor ∙ omega arith;
+      later = grown.later;
+      log = grown.log;
+      tells = tt;
+    }
+
 pub call_seen : (k : Config) (w : World) (n : ℕ) (call : Call) (answer : Answer) (v : World) → Sound k w → HasSmallNumbers k → HasShortTexts w → Meets k n w call answer v
     → IfInside answer (SeesFlags (point_of w n) (record { call = call; answer = answer }) (point_of v n))
 call_seen k w n (EnterCall i) (Entered opening) v S h short m = tt
@@ -179,6 +208,9 @@ call_seen k w n (FeedCall limit) _ v S h short m = absurd m
 call_seen k w n (LeaveCall remove) (Left gone) v S h short m = tt
 call_seen k w n (LeaveCall remove) (Refused fault) v S h short m = still_seen k w n (LeaveCall remove) (Refused fault) v S (was_refused n w fault _ v m) (seen k w n (LeaveCall remove) (Refused fault) v S h short m) refl (λ q. tt)
 call_seen k w n (LeaveCall remove) _ v S h short m = absurd m
+call_seen k w n (DiscardCall i uids) Discarded v S h short m = discard_flags k w n i uids v S (seen k w n (DiscardCall i uids) Discarded v S h short m) m
+call_seen k w n (DiscardCall i uids) (Refused fault) v S h short m = still_seen k w n (DiscardCall i uids) (Refused fault) v S m.0 (seen k w n (DiscardCall i uids) (Refused fault) v S h short m) refl (λ q. tt)
+call_seen k w n (DiscardCall i uids) _ v S h short m = absurd m
 
 pub calls_tell_flags : CallsTellFlags
 calls_tell_flags k events w n call answer v h is short m = call_seen k w n call answer v (sound_always k events w h is) h short m

@@ -13,7 +13,7 @@ use Rattle.imap_session.specs.declared.standing.After.{After}
 use Rattle.imap_session.specs.declared.standing.After.TheVariants.{Go, Bye}
 use Rattle.imap_session.specs.declared.standing.After.TheVariants as afters
 use Rattle.imap_session.specs.declared.standing.Selected.{Selected}
-use Rattle.imap_session.specs.Exchange.{Answer, Entered, Looked, Found, Counted, Altered, Expunged, Fed, Left, Refused, Starved, Exchange, ForDone, ForLiteral, ForVerdict, ForNothing, Done, Wait, Write, Put, Enter, Look, Read, Count, Alter, Expunge, Feed, Leave, Standing, Turn, Sent, Waiting, closed, having, played, refusal_after, refusal_text, refused, saying, tagged, waiting, unkept}
+use Rattle.imap_session.specs.Exchange.{Answer, Entered, Looked, Found, Counted, Altered, Expunged, Fed, Left, Refused, Starved, Exchange, ForDone, ForLiteral, ForVerdict, ForNothing, Done, Wait, Write, Put, Enter, Look, Read, Count, Alter, Expunge, Feed, Leave, Standing, Turn, Sent, Waiting, closed, having, played, refusal_after, refusal_text, refused, saying, tagged, waiting, unkept, Discard, Discarded}
 use Rattle.imap_session.proofs.Unkept.{unkept_by}
 use Rattle.imap_session.specs.Commands.{idle_turn_in, turn_of, fault_text, on_command, on_idle_line, on_read, on_rest, on_verdict, only_says, turn_of_verdict, turn_with, without_begun, without_sent, logged_in, completed, says, on_text_line}
 use Rattle.delivery_token.specs.declared.Verdict.{Verdict}
@@ -102,6 +102,10 @@ folders_stay tag now (Leave remove x) [] turn e = absurd (none-some turn e)
 folders_stay tag now (Leave remove x) (Left a ∷ more) turn e = maps now (having (Leave remove) (Left a)) (λ s. refl) (played tag (record now { selected = None }) x more) turn e (λ s d. folders_stay tag (record now { selected = None }) x more s d)
 folders_stay tag now (Leave remove x) (Refused a ∷ []) turn e = told now (λ s. having (Leave remove) (Refused a) (saying (refusal_text tag a) s)) (λ s. refl) (refusal_after a) turn e
 folders_stay tag now (Leave remove x) (_ ∷ more) turn e = absurd (none-some turn e)
+folders_stay tag now (Discard mailbox uids x) [] turn e = absurd (none-some turn e)
+folders_stay tag now (Discard mailbox uids x) (Discarded ∷ more) turn e = maps now (having (Discard mailbox uids) Discarded) (λ s. refl) (played tag now x more) turn e (λ s d. folders_stay tag now x more s d)
+folders_stay tag now (Discard mailbox uids x) (Refused a ∷ []) turn e = told now (λ s. having (Discard mailbox uids) (Refused a) (saying (refusal_text tag a) s)) (λ s. refl) (refusal_after a) turn e
+folders_stay tag now (Discard mailbox uids x) (_ ∷ more) turn e = absurd (none-some turn e)
 
 -- ---- lines, and verdicts
 
@@ -128,7 +132,7 @@ line_folders now line answers turn e =
 
 heard_keeps : (sent : Option Sent) (now : Standing) (verdict : Verdict) (answers : List Answer) (turn : Turn) → turn_with sent now verdict answers ≡ Some turn → turn.standing.folders ≡ now.folders
 heard_keeps None now verdict answers turn e = absurd (none-some turn e)
-heard_keeps (Some sent) now verdict answers turn e = folders_stay sent.tag (without_sent now) (on_verdict now.selected sent.origin sent.append.mailbox verdict) answers turn e
+heard_keeps (Some sent) now verdict answers turn e = folders_stay sent.tag (without_sent now) (on_verdict now.mailing now.selected sent.origin sent.append.mailbox verdict) answers turn e
 
 pub verdict_folders : (now : Standing) (verdict : Verdict) (answers : List Answer) (turn : Turn) → turn_of_verdict now verdict answers ≡ Some turn → turn.standing.folders ≡ now.folders
 verdict_folders now verdict answers turn e = heard_keeps now.mailing.sent now verdict answers turn e

@@ -15,7 +15,7 @@ use Rattle.imap_session.specs.declared.standing.After.{After}
 use Rattle.imap_session.specs.declared.standing.After.TheVariants.{Go, Bye}
 use Rattle.imap_session.specs.declared.standing.After.TheVariants as afters
 use Rattle.imap_session.specs.declared.standing.Selected.{Selected}
-use Rattle.imap_session.specs.Exchange.{Answer, Entered, Looked, Found, Counted, Altered, Expunged, Fed, Left, Refused, Starved, Exchange, ForDone, ForLiteral, ForVerdict, ForNothing, Done, Wait, Write, Put, Enter, Look, Read, Count, Alter, Expunge, Feed, Leave, Standing, Turn, PendingLiteral, Sent, Waiting, closed, having, played, refusal_after, refusal_text, refused, saying, tagged, waiting, Dropped, unkept}
+use Rattle.imap_session.specs.Exchange.{Answer, Entered, Looked, Found, Counted, Altered, Expunged, Fed, Left, Refused, Starved, Exchange, ForDone, ForLiteral, ForVerdict, ForNothing, Done, Wait, Write, Put, Enter, Look, Read, Count, Alter, Expunge, Feed, Leave, Standing, Turn, PendingLiteral, Sent, Waiting, closed, having, played, refusal_after, refusal_text, refused, saying, tagged, waiting, Dropped, unkept, Discard, Discarded}
 use Rattle.imap_session.proofs.Unkept.{unkept_by}
 use Rattle.imap_session.specs.Commands.{fault_text, on_command, on_idle_line, on_read, on_rest, on_verdict, only_says, taking, turn_of, turn_of_verdict, turn_with, with_bytes, without_begun, without_sent, logged_in, completed, on_text_line, says}
 use Rattle.delivery_token.specs.declared.Verdict.{Verdict}
@@ -107,6 +107,10 @@ played_keeps Q tag K now (Leave remove x) [] turn k e = absurd (none-some turn e
 played_keeps Q tag K now (Leave remove x) (Left a ∷ more) turn k e = maps Q (having (Leave remove) (Left a)) (λ s. refl) (played tag (record now { selected = None }) x more) turn e (λ s d. played_keeps Q tag K (record now { selected = None }) x more s (K.enters now None k) d)
 played_keeps Q tag K now (Leave remove x) (Refused a ∷ []) turn k e = told Q tag K now (λ s. having (Leave remove) (Refused a) (saying (refusal_text tag a) s)) (λ s. refl) (refusal_after a) turn k e
 played_keeps Q tag K now (Leave remove x) (_ ∷ more) turn k e = absurd (none-some turn e)
+played_keeps Q tag K now (Discard mailbox uids x) [] turn k e = absurd (none-some turn e)
+played_keeps Q tag K now (Discard mailbox uids x) (Discarded ∷ more) turn k e = maps Q (having (Discard mailbox uids) Discarded) (λ s. refl) (played tag now x more) turn e (λ s d. played_keeps Q tag K now x more s k d)
+played_keeps Q tag K now (Discard mailbox uids x) (Refused a ∷ []) turn k e = told Q tag K now (λ s. having (Discard mailbox uids) (Refused a) (saying (refusal_text tag a) s)) (λ s. refl) (refusal_after a) turn k e
+played_keeps Q tag K now (Discard mailbox uids x) (_ ∷ more) turn k e = absurd (none-some turn e)
 
 -- ---- tags
 
@@ -166,7 +170,7 @@ bytes_keep P now kept bytes k = (k.0, taken_keeps P kept bytes now.mailing.begun
 
 heard_keeps : (P : List ℕ → Type 0) → (sent : Option Sent) (now : Standing) (verdict : Verdict) (answers : List Answer) (turn : Turn) → IfSome sent (λ s. P s.tag) → turn_with sent now verdict answers ≡ Some turn → Kept (AreTagsOf P) turn
 heard_keeps P None now verdict answers turn t e = absurd (none-some turn e)
-heard_keeps P (Some sent) now verdict answers turn t e = played_keeps (AreTagsOf P) sent.tag (tags_keep P sent.tag t) (without_sent now) (on_verdict now.selected sent.origin sent.append.mailbox verdict) answers turn (tt, tt, tt) e
+heard_keeps P (Some sent) now verdict answers turn t e = played_keeps (AreTagsOf P) sent.tag (tags_keep P sent.tag t) (without_sent now) (on_verdict now.mailing now.selected sent.origin sent.append.mailbox verdict) answers turn (tt, tt, tt) e
 
 pub verdict_keeps : (P : List ℕ → Type 0) → (now : Standing) (verdict : Verdict) (answers : List Answer) (turn : Turn) → AreTagsOf P now → turn_of_verdict now verdict answers ≡ Some turn → Kept (AreTagsOf P) turn
 verdict_keeps P now verdict answers turn k e = heard_keeps P now.mailing.sent now verdict answers turn k.2 e

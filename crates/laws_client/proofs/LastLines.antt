@@ -22,7 +22,7 @@ use Rattle.imap_session.specs.declared.standing.After.{After}
 use Rattle.imap_session.specs.declared.standing.After.TheVariants.{Go, Bye}
 use Rattle.imap_session.specs.declared.standing.After.TheVariants as afters
 use Rattle.imap_session.specs.Exchange as ex
-use Rattle.imap_session.specs.Exchange.{Answer, Call, Entered, Looked, Found, Counted, Altered, Expunged, Fed, Left, Refused, Starved, Exchange, Standing, Turn, Waiting, Asked, Unasked, Dropped, ForDone, ForLiteral, ForVerdict, ForNothing, played, refused, refusal_text, refusal_after, saying, having, closed, tagged, bye, unkept, where_long, continuing, untagged}
+use Rattle.imap_session.specs.Exchange.{Answer, Call, Entered, Looked, Found, Counted, Altered, Expunged, Fed, Left, Refused, Starved, Exchange, Standing, Turn, Waiting, Asked, Unasked, Dropped, ForDone, ForLiteral, ForVerdict, ForNothing, played, refused, refusal_text, refusal_after, saying, having, closed, tagged, bye, unkept, where_long, continuing, untagged, Discarded}
 use Rattle.imap_session.proofs.Unkept.{unkept_by}
 use Rattle.exactly_once.proofs.Whole.{IsWhole, lines_whole, whole_append}
 use Rattle.laws_client.specs.ListTurns.{is_inner}
@@ -243,6 +243,7 @@ SaysApart tells (ex.Alter uid op next) = (flags : Option Flags) → SaysApart te
 SaysApart tells (ex.Expunge uids x) = SaysApart tells x
 SaysApart tells (ex.Feed limit x) = SaysApart tells x
 SaysApart tells (ex.Leave remove x) = SaysApart tells x
+SaysApart tells (ex.Discard mailbox uids x) = SaysApart tells x
 
 -- of a turn, if there is one
 abbrev pub TurnApart : (List ℕ → Bool) → Option Turn → Type 0
@@ -293,6 +294,7 @@ played_apart tells spares tag t now (ex.Wait bytes waits) ((Altered a) ∷ more)
 played_apart tells spares tag t now (ex.Wait bytes waits) ((Expunged a b c) ∷ more) p = tt
 played_apart tells spares tag t now (ex.Wait bytes waits) ((Fed a b) ∷ more) p = tt
 played_apart tells spares tag t now (ex.Wait bytes waits) ((Left a) ∷ more) p = tt
+played_apart tells spares tag t now (ex.Wait bytes waits) (Discarded ∷ more) p = tt
 played_apart tells spares tag t now (ex.Wait bytes waits) ((Refused a) ∷ more) p = tt
 played_apart tells spares tag t now (ex.Wait bytes waits) (Starved n ∷ []) p =
     aloud_unkept tells spares tag t waits now n p.1
@@ -306,6 +308,7 @@ played_apart tells spares tag t now (ex.Write bytes x) ((Altered a) ∷ more) p 
 played_apart tells spares tag t now (ex.Write bytes x) ((Expunged a b c) ∷ more) p = then_saying tells bytes (played tag now x ((Expunged a b c) ∷ more)) p.0 (played_apart tells spares tag t now x ((Expunged a b c) ∷ more) p.1)
 played_apart tells spares tag t now (ex.Write bytes x) ((Fed a b) ∷ more) p = then_saying tells bytes (played tag now x ((Fed a b) ∷ more)) p.0 (played_apart tells spares tag t now x ((Fed a b) ∷ more) p.1)
 played_apart tells spares tag t now (ex.Write bytes x) ((Left a) ∷ more) p = then_saying tells bytes (played tag now x ((Left a) ∷ more)) p.0 (played_apart tells spares tag t now x ((Left a) ∷ more) p.1)
+played_apart tells spares tag t now (ex.Write bytes x) (Discarded ∷ more) p = then_saying tells bytes (played tag now x (Discarded ∷ more)) p.0 (played_apart tells spares tag t now x (Discarded ∷ more) p.1)
 played_apart tells spares tag t now (ex.Write bytes x) ((Refused a) ∷ more) p = then_saying tells bytes (played tag now x ((Refused a) ∷ more)) p.0 (played_apart tells spares tag t now x ((Refused a) ∷ more) p.1)
 played_apart tells spares tag t now (ex.Write bytes x) (Starved zero ∷ []) p = refused_apart tells spares tag t now NoMemory
 played_apart tells spares tag t now (ex.Write bytes x) (Starved zero ∷ d ∷ more) p = then_saying tells bytes (played tag now x (Starved zero ∷ d ∷ more)) p.0 (played_apart tells spares tag t now x (Starved zero ∷ d ∷ more) p.1)
@@ -321,6 +324,7 @@ played_apart tells spares tag t now (ex.Enter selected next) ((Altered a) ∷ mo
 played_apart tells spares tag t now (ex.Enter selected next) ((Expunged a b c) ∷ more) p = tt
 played_apart tells spares tag t now (ex.Enter selected next) ((Fed a b) ∷ more) p = tt
 played_apart tells spares tag t now (ex.Enter selected next) ((Left a) ∷ more) p = tt
+played_apart tells spares tag t now (ex.Enter selected next) (Discarded ∷ more) p = tt
 played_apart tells spares tag t now (ex.Enter selected next) (Refused a ∷ []) p = refused_apart tells spares tag t now a
 played_apart tells spares tag t now (ex.Enter selected next) (Refused a ∷ d ∷ more) p = tt
 played_apart tells spares tag t now (ex.Enter selected next) ((Starved zero) ∷ more) p = tt
@@ -334,6 +338,7 @@ played_apart tells spares tag t now (ex.Look by_uid set next) ((Altered a) ∷ m
 played_apart tells spares tag t now (ex.Look by_uid set next) ((Expunged a b c) ∷ more) p = tt
 played_apart tells spares tag t now (ex.Look by_uid set next) ((Fed a b) ∷ more) p = tt
 played_apart tells spares tag t now (ex.Look by_uid set next) ((Left a) ∷ more) p = tt
+played_apart tells spares tag t now (ex.Look by_uid set next) (Discarded ∷ more) p = tt
 played_apart tells spares tag t now (ex.Look by_uid set next) (Refused a ∷ []) p = refused_apart tells spares tag t now a
 played_apart tells spares tag t now (ex.Look by_uid set next) (Refused a ∷ d ∷ more) p = tt
 played_apart tells spares tag t now (ex.Look by_uid set next) (Starved a ∷ more) p = tt
@@ -346,6 +351,7 @@ played_apart tells spares tag t now (ex.Read uid mark next) ((Altered a) ∷ mor
 played_apart tells spares tag t now (ex.Read uid mark next) ((Expunged a b c) ∷ more) p = tt
 played_apart tells spares tag t now (ex.Read uid mark next) ((Fed a b) ∷ more) p = tt
 played_apart tells spares tag t now (ex.Read uid mark next) ((Left a) ∷ more) p = tt
+played_apart tells spares tag t now (ex.Read uid mark next) (Discarded ∷ more) p = tt
 played_apart tells spares tag t now (ex.Read uid mark next) (Refused a ∷ []) p = refused_apart tells spares tag t now a
 played_apart tells spares tag t now (ex.Read uid mark next) (Refused a ∷ d ∷ more) p = tt
 played_apart tells spares tag t now (ex.Read uid mark next) ((Starved zero) ∷ more) p = tt
@@ -359,6 +365,7 @@ played_apart tells spares tag t now (ex.Count mailbox next) ((Altered a) ∷ mor
 played_apart tells spares tag t now (ex.Count mailbox next) ((Expunged a b c) ∷ more) p = tt
 played_apart tells spares tag t now (ex.Count mailbox next) ((Fed a b) ∷ more) p = tt
 played_apart tells spares tag t now (ex.Count mailbox next) ((Left a) ∷ more) p = tt
+played_apart tells spares tag t now (ex.Count mailbox next) (Discarded ∷ more) p = tt
 played_apart tells spares tag t now (ex.Count mailbox next) (Refused a ∷ []) p = refused_apart tells spares tag t now a
 played_apart tells spares tag t now (ex.Count mailbox next) (Refused a ∷ d ∷ more) p = tt
 played_apart tells spares tag t now (ex.Count mailbox next) ((Starved zero) ∷ more) p = tt
@@ -372,6 +379,7 @@ played_apart tells spares tag t now (ex.Alter uid op next) ((Altered a) ∷ more
 played_apart tells spares tag t now (ex.Alter uid op next) ((Expunged a b c) ∷ more) p = tt
 played_apart tells spares tag t now (ex.Alter uid op next) ((Fed a b) ∷ more) p = tt
 played_apart tells spares tag t now (ex.Alter uid op next) ((Left a) ∷ more) p = tt
+played_apart tells spares tag t now (ex.Alter uid op next) (Discarded ∷ more) p = tt
 played_apart tells spares tag t now (ex.Alter uid op next) (Refused a ∷ []) p = refused_apart tells spares tag t now a
 played_apart tells spares tag t now (ex.Alter uid op next) (Refused a ∷ d ∷ more) p = tt
 played_apart tells spares tag t now (ex.Alter uid op next) ((Starved zero) ∷ more) p = tt
@@ -385,6 +393,7 @@ played_apart tells spares tag t now (ex.Expunge uids x) ((Altered a) ∷ more) p
 played_apart tells spares tag t now (ex.Expunge uids x) ((Expunged a b c) ∷ more) p = then_showing tells (ex.Expunge uids) (Expunged a b c) a b (played tag now x more) (played_apart tells spares tag t now x more p)
 played_apart tells spares tag t now (ex.Expunge uids x) ((Fed a b) ∷ more) p = tt
 played_apart tells spares tag t now (ex.Expunge uids x) ((Left a) ∷ more) p = tt
+played_apart tells spares tag t now (ex.Expunge uids x) (Discarded ∷ more) p = tt
 played_apart tells spares tag t now (ex.Expunge uids x) (Refused a ∷ []) p = refused_apart tells spares tag t now a
 played_apart tells spares tag t now (ex.Expunge uids x) (Refused a ∷ d ∷ more) p = tt
 played_apart tells spares tag t now (ex.Expunge uids x) ((Starved zero) ∷ more) p = tt
@@ -398,6 +407,7 @@ played_apart tells spares tag t now (ex.Feed limit x) ((Altered a) ∷ more) p =
 played_apart tells spares tag t now (ex.Feed limit x) ((Expunged a b c) ∷ more) p = tt
 played_apart tells spares tag t now (ex.Feed limit x) ((Fed a b) ∷ more) p = then_showing tells (ex.Feed limit) (Fed a b) a b (played tag now x more) (played_apart tells spares tag t now x more p)
 played_apart tells spares tag t now (ex.Feed limit x) ((Left a) ∷ more) p = tt
+played_apart tells spares tag t now (ex.Feed limit x) (Discarded ∷ more) p = tt
 played_apart tells spares tag t now (ex.Feed limit x) (Refused a ∷ []) p = refused_apart tells spares tag t now a
 played_apart tells spares tag t now (ex.Feed limit x) (Refused a ∷ d ∷ more) p = tt
 played_apart tells spares tag t now (ex.Feed limit x) ((Starved zero) ∷ more) p = tt
@@ -410,11 +420,26 @@ played_apart tells spares tag t now (ex.Leave remove x) ((Counted a) ∷ more) p
 played_apart tells spares tag t now (ex.Leave remove x) ((Altered a) ∷ more) p = tt
 played_apart tells spares tag t now (ex.Leave remove x) ((Expunged a b c) ∷ more) p = tt
 played_apart tells spares tag t now (ex.Leave remove x) ((Fed a b) ∷ more) p = tt
+played_apart tells spares tag t now (ex.Leave remove x) (Discarded ∷ more) p = tt
 played_apart tells spares tag t now (ex.Leave remove x) ((Left a) ∷ more) p = then_having tells (ex.Leave remove) (Left a) (played tag (record now { selected = None }) x more) (played_apart tells spares tag t (record now { selected = None }) x more p)
 played_apart tells spares tag t now (ex.Leave remove x) (Refused a ∷ []) p = refused_apart tells spares tag t now a
 played_apart tells spares tag t now (ex.Leave remove x) (Refused a ∷ d ∷ more) p = tt
 played_apart tells spares tag t now (ex.Leave remove x) ((Starved zero) ∷ more) p = tt
 played_apart tells spares tag t now (ex.Leave remove x) ((Starved (suc a)) ∷ more) p = tt
+played_apart tells spares tag t now (ex.Discard mailbox uids x) [] p = tt
+played_apart tells spares tag t now (ex.Discard mailbox uids x) ((Entered a) ∷ more) p = tt
+played_apart tells spares tag t now (ex.Discard mailbox uids x) ((Looked a) ∷ more) p = tt
+played_apart tells spares tag t now (ex.Discard mailbox uids x) ((Found a) ∷ more) p = tt
+played_apart tells spares tag t now (ex.Discard mailbox uids x) ((Counted a) ∷ more) p = tt
+played_apart tells spares tag t now (ex.Discard mailbox uids x) ((Altered a) ∷ more) p = tt
+played_apart tells spares tag t now (ex.Discard mailbox uids x) ((Expunged a b c) ∷ more) p = tt
+played_apart tells spares tag t now (ex.Discard mailbox uids x) ((Fed a b) ∷ more) p = tt
+played_apart tells spares tag t now (ex.Discard mailbox uids x) ((Left a) ∷ more) p = tt
+played_apart tells spares tag t now (ex.Discard mailbox uids x) (Discarded ∷ more) p = then_having tells (ex.Discard mailbox uids) Discarded (played tag now x more) (played_apart tells spares tag t now x more p)
+played_apart tells spares tag t now (ex.Discard mailbox uids x) (Refused a ∷ []) p = refused_apart tells spares tag t now a
+played_apart tells spares tag t now (ex.Discard mailbox uids x) (Refused a ∷ d ∷ more) p = tt
+played_apart tells spares tag t now (ex.Discard mailbox uids x) ((Starved zero) ∷ more) p = tt
+played_apart tells spares tag t now (ex.Discard mailbox uids x) ((Starved (suc a)) ∷ more) p = tt
 
 -- ---- one that says nothing
 
@@ -438,6 +463,7 @@ fine_wait tells spares tag t now waits (Altered a ∷ more) = tt
 fine_wait tells spares tag t now waits (Expunged a b c ∷ more) = tt
 fine_wait tells spares tag t now waits (Fed a b ∷ more) = tt
 fine_wait tells spares tag t now waits (Left a ∷ more) = tt
+fine_wait tells spares tag t now waits (Discarded ∷ more) = tt
 fine_wait tells spares tag t now waits (Refused a ∷ more) = tt
 fine_wait tells spares tag t now waits (Starved n ∷ []) =
     unkept_by (TurnFine tells) tt tag now (inr (refused_apart tells spares tag t now NoMemory)) (λ purpose size. inl refl)

@@ -5,7 +5,7 @@ use Rattle.std.specs.List.{list_any}
 use Rattle.delivery_token.specs.declared.Refusal.{Refusal}
 use Rattle.delivery_token.specs.declared.Refusal.TheVariants as refusals
 use Rattle.imap_session.specs.Exchange as ex
-use Rattle.imap_session.specs.Exchange.{Asked, ForLiteral, bye, Answer, PendingLiteral, Exchange, ForVerdict, Mailing, Standing, played, Argument, Response, continuing, ForNothing, Unasked, Looked, Found, Refused, Call, Turn, having}
+use Rattle.imap_session.specs.Exchange.{Asked, ForLiteral, bye, Answer, PendingLiteral, Exchange, ForVerdict, Mailing, Standing, played, Argument, Response, continuing, ForNothing, Unasked, Looked, Found, Refused, Call, Turn, having, Client}
 use Rattle.imap_session.specs.Commands.{is_over, last_number, long_rest_text, long_text, nowhere, on_found, on_rest, on_text, over, refused_text, says, turn_of_long_line, wanting, flags_for, mailbox_for}
 use Rattle.laws_client.proofs.IdleTags.{AreTagsOf}
 use Rattle.laws_client.proofs.LastLines.{bye_apart, plus_apart, untagged_apart, Apart, IsWord, SaysApart, Spares, TurnFine, fine, fine_wait, fine_wanting, played_apart, star_apart, tagged_apart, refused_apart}
@@ -15,7 +15,6 @@ use Rattle.imap_session.specs.Texts.{response_text}
 use Rattle.laws_client.proofs.TextRows.{behind}
 use Rattle.std.proofs.lemmas.Bool.{false≢true}
 use Rattle.imap_session.proofs.Parts.{IsPart, tells_part, ends_part, asks_part, comes_part, challenge_part, is_told}
-use Rattle.imap_session.specs.declared.standing.Origin.TheVariants.{Client}
 use Rattle.std.specs.Option.{option_map}
 use Rattle.mailbox.specs.declared.clients.Row.{Row}
 use Rattle.imap_grammar.specs.declared.set.SeqRange.{SeqRange}

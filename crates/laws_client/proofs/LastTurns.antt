@@ -1,6 +1,6 @@
 -- What a turn of a session says last: to a verdict that a message is stored its UID, and to nothing else one.
-use Rattle.std.proofs.Common.{◌≡◌, ◌⊎◌, inl, inr, ℕ, ◌+◌, Bool, true, false, List, [], ◌∷◌, ◌++◌, length, refl, sym, ap, ◌∙◌, subst, append-nil, append_assoc, Option, Some, None}
-use Rattle.std.specs.Prelude.{codes, decimal, IfSome, if◌then◌else◌}
+use Rattle.std.proofs.Common.{◌≡◌, ◌⊎◌, inl, inr, ℕ, ◌+◌, Bool, true, false, List, [], ◌∷◌, ◌++◌, length, refl, sym, ap, ◌∙◌, subst, append-nil, append_assoc, Option, Some, None, zero, suc}
+use Rattle.std.specs.Prelude.{codes, decimal, IfSome, if◌then◌else◌, nat_le}
 use Rattle.std.specs.List.{list_all}
 use Rattle.std.proofs.lemmas.List.Folds.{list_all-append}
 use Rattle.std.proofs.lemmas.Option.{none-some}
@@ -17,8 +17,8 @@ use Rattle.world.specs.World.{Config, World}
 use Rattle.imap_session.specs.declared.standing.After.TheVariants.{Go}
 use Rattle.imap_session.specs.declared.standing.Selected.{Selected}
 use Rattle.imap_session.specs.Exchange as ex
-use Rattle.imap_session.specs.Exchange.{Answer, Entered, Looked, Found, Counted, Altered, Expunged, Fed, Left, Refused, Starved, Count, Feed, Sent, Standing, Turn, bye, having, is_idling, played, refused, saying, refusal_text, tagged, untagged}
-use Rattle.imap_session.specs.Commands.{appended_words, idle_turn_in, on_verdict, refused_text, says, showing, turn_of, turn_with, unlimited, without_sent, told_stored, moving, copied_words, moved_words}
+use Rattle.imap_session.specs.Exchange.{Answer, Entered, Looked, Found, Counted, Altered, Expunged, Fed, Left, Refused, Starved, Count, Feed, Sent, Standing, Turn, bye, having, is_idling, played, refused, saying, refusal_text, tagged, untagged, Discarded, Origin, Client, Copied, Batch, Mailing}
+use Rattle.imap_session.specs.Commands.{appended_words, idle_turn_in, on_verdict, refused_text, says, showing, turn_of, turn_with, unlimited, without_sent, moving, copied_words, moved_words, on_stored, told_copied, told_appended, with_validity, submitting_first, taking_back, move_done as finished, with_copy, copies_of, last_number}
 use Rattle.imap_session.specs.Store.{Met}
 use Rattle.exactly_once.proofs.Whole.{line_whole, lines_whole, IsWhole, ends, whole_append}
 use Rattle.laws_client.specs.ListTurns.{is_inner}
@@ -28,7 +28,7 @@ use Rattle.laws_client.proofs.IdleTags.{AreTagsOf}
 use Rattle.laws_client.proofs.LinesRead.{flags_inner, flags_part}
 use Rattle.laws_client.proofs.Turns.{the_turn}
 use Rattle.laws_client.proofs.Untold.{inner_both, plain_inner}
-use Rattle.laws_client.specs.Appends.{EndsWith, SaysVerdict, TellsOfNone, SaysCopied, SaysMoved, last_line, tells_stored}
+use Rattle.laws_client.specs.Appends.{EndsWith, SaysVerdict, TellsOfNone, SaysCopied, SaysMoved, last_line, tells_stored, SaysOfBatch, SaysRefused, awaits_next, has_no_number, all_stored}
 use Rattle.laws_client.proofs.RecordEntering.{mapped, only_done, only_refused}
 use Rattle.laws_client.proofs.LastLines.{Apart, IsWord, TurnFine, apart_tells_none, behind_lines, bye_apart, ends_tagged, silence_tells_none, untagged_apart, last_is, refusal_apart}
 use Rattle.laws_client.proofs.LastRests.{long_line_apart}
@@ -37,15 +37,13 @@ use Rattle.laws_client.proofs.Moved.{Calls}
 use Rattle.imap_session.specs.declared.texts.ResponseText.TheVariants as texts
 use Rattle.imap_session.specs.Texts.{response_text}
 use Rattle.imap_session.specs.declared.texts.ResponseText.{ResponseText}
-use Rattle.imap_session.specs.declared.standing.Origin.{Origin}
-use Rattle.imap_session.specs.declared.standing.Origin.TheVariants.{Client, Copied}
-use Rattle.imap_session.specs.declared.standing.Source.{Source}
 use Rattle.imap_grammar.specs.Verbs.{copy_verb}
 use Rattle.laws_client.proofs.CopyWords.{copied_plain}
 use Rattle.mailbox.specs.declared.clients.MailFault.{MailFault}
 use Rattle.laws_client.proofs.Moves.{EndsSo, Moves, move_done, move_refused, moves_so}
 use Rattle.laws_client.proofs.Decimals.{decimal_inner}
 use Rattle.laws_client.proofs.TextRows.{row_inner}
+use Rattle.mailbox.specs.declared.clients.Row.{Row}
 
 -- ---- lines of changes
 
@@ -100,6 +98,7 @@ idle_fine tells (Some s) true now ((Expunged a b c) ∷ more) = tt
 idle_fine tells (Some s) true now (Fed a b ∷ []) = subst (IsFine tells) (sym (append-nil (lines a b))) (lines_fine tells a b)
 idle_fine tells (Some s) true now (Fed a b ∷ d ∷ more) = tt
 idle_fine tells (Some s) true now ((Left a) ∷ more) = tt
+idle_fine tells (Some s) true now (Discarded ∷ more) = tt
 idle_fine tells (Some s) true now (Refused Lapped ∷ []) = bye_fine tells texts.ChangesMissed
 idle_fine tells (Some s) true now (Refused Lapped ∷ d ∷ more) = tt
 idle_fine tells (Some s) true now (Refused Stranger ∷ []) = bye_fine tells texts.InternalFault
@@ -120,12 +119,14 @@ some_tells_none o turn p e = tells_none turn.bytes (subst (TurnFine tells_stored
 -- ---- the OK
 
 -- a store that refused
-refused_says : (uidvalidity uid : ℕ) (origin : Origin) (tag : List ℕ) (call : ex.Call) (now : Standing) (fault : _) (turn : Turn)
-    → Some (having call (Refused fault) (refused tag now fault)) ≡ Some turn
-    → SaysVerdict uidvalidity origin tag (verdicts.Stored uid) turn.bytes
-refused_says uidvalidity uid origin tag call now fault turn e =
+abbrev Refuses : List ℕ → List ℕ → Type 0
+Refuses tag bytes = (fault : MailFault) × (bytes ≡ refusal_text tag fault)
+
+refused_says : (tag : List ℕ) (call : ex.Call) (now : Standing) (fault : _) (turn : Turn)
+    → Some (having call (Refused fault) (refused tag now fault)) ≡ Some turn → Refuses tag turn.bytes
+refused_says tag call now fault turn e =
     let only = only_refused tag now fault (refused tag now fault) refl in
-    inr (fault, sym (ap (λ (x : Turn). x.bytes) (ap (the_turn turn) e)) ∙ only.bytes)
+    (fault, sym (ap (λ (x : Turn). x.bytes) (ap (the_turn turn) e)) ∙ only.bytes)
 
 pub appended_inner : (v uid : ℕ) → list_all is_inner (appended_words v uid) ≡ true
 appended_inner v uid =
@@ -162,77 +163,134 @@ last_behind lines tag fault whole t =
     ∙ last_is (lines ++ p.front) p.last (whole_append lines p.front whole p.whole) p.inner ∙ sym
     (ap last_line p.is ∙ last_is p.front p.last p.whole p.inner)
 
--- a message that is moved
-moves_says : (v uid : ℕ) (source : Source) (tag : List ℕ) → IsWord tag → (now : Standing) (answers : List Answer) (turn : Turn)
-    → played tag now (moving source v uid) answers ≡ Some turn → SaysMoved v uid source tag turn.bytes
-moves_says v uid source tag t now answers turn e = by (moves_so v uid source tag now answers turn e)
+-- messages that are moved
+moves_says : (v : ℕ) (batch : Batch) (tag : List ℕ) → IsWord tag → (selected : Option Selected) (now : Standing) (answers : List Answer) (turn : Turn)
+    → played tag now (moving selected v batch) answers ≡ Some turn → SaysMoved v batch tag turn.bytes
+moves_says v batch tag t selected now answers turn e = by selected e
   where
     first : List ℕ
-    first = untagged (moved_words v source.uid uid)
+    first = untagged (moved_words v batch)
 
     first_whole : IsWhole first
-    first_whole = ends (codes "* ") (moved_words v source.uid uid)
+    first_whole = ends (codes "* ") (moved_words v batch)
 
     done : List ℕ
-    done = response_text (texts.Completed (copy_verb source.by_uid true))
+    done = response_text (texts.Completed (copy_verb batch.by_uid true))
+
+    done_inner : list_all is_inner done ≡ true
+    done_inner = row_inner (texts.Completed (copy_verb batch.by_uid true))
 
     ends_so : (more : Turn) → turn.bytes ≡ first ++ more.bytes → EndsSo tag done more
         → EndsWith tag done turn.bytes ⊎ ((fault : MailFault) × (last_line turn.bytes ≡ last_line (refusal_text tag fault)))
     ends_so more bytes (move_done front whole is fed) =
         let all : turn.bytes ≡ (first ++ front) ++ tagged tag done =
         bytes ∙ ap (λ (b : List ℕ). first ++ b) is ∙ sym (append_assoc first front (tagged tag done)) in
-        inl
-        (subst (EndsWith tag done) (sym all)
-        (ends_tagged (first ++ front) tag done (whole_append first front first_whole whole) t (row_inner (texts.Completed (copy_verb source.by_uid true)))))
+        inl (subst (EndsWith tag done) (sym all) (ends_tagged (first ++ front) tag done (whole_append first front first_whole whole) t done_inner))
     ends_so more bytes (move_refused front whole fault is) =
         let all : turn.bytes ≡ (first ++ front) ++ refusal_text tag fault =
         bytes ∙ ap (λ (b : List ℕ). first ++ b) is ∙ sym (append_assoc first front (refusal_text tag fault)) in
         inr (fault, ap last_line all ∙ last_behind (first ++ front) tag fault (whole_append first front first_whole whole) t)
 
-    by : Moves v uid source tag turn → SaysMoved v uid source tag turn.bytes
-    by m = record { behind = m.more.bytes; tells = m.bytes; ends = ends_so m.more m.bytes m.ends }
+    by : (s : Option Selected) → played tag now (moving s v batch) answers ≡ Some turn → SaysMoved v batch tag turn.bytes
+    by None e =
+        let m = mapped (saying first) (played tag now (finished batch) answers) turn e in
+        let d = only_done tag done Go now answers m.more m.is in
+        let all : turn.bytes ≡ first ++ tagged tag done = ap (λ (x : Turn). x.bytes) (sym m.makes) ∙ ap (λ (b : List ℕ). first ++ b) d.bytes in
+        record { behind = tagged tag done; tells = all; ends = inl (subst (EndsWith tag done) (sym all) (ends_tagged first tag done first_whole t done_inner)) }
+    by (Some s) e = let m = moves_so v batch tag s now answers turn e in record { behind = m.more.bytes; tells = m.bytes; ends = ends_so m.more m.bytes m.ends }
 
-copies_says : (v uid : ℕ) (source : Source) (moves : Bool) (tag : List ℕ) → IsWord tag
+copies_says : (v : ℕ) (batch : Batch) (moves : Bool) (tag : List ℕ) → IsWord tag
     → (selected : Option Selected) (now : Standing) (answers : List Answer) (turn : Turn)
-    → played tag now (if moves then moving source v uid else showing selected (says (copied_words v source.uid uid))) answers ≡ Some turn
-    → SaysCopied moves v uid source tag turn.bytes ⊎ ((fault : MailFault) × (turn.bytes ≡ refusal_text tag fault))
-copies_says v uid source true tag t selected now answers turn e = inl (moves_says v uid source tag t now answers turn e)
-copies_says v uid source false tag t selected now answers turn e =
-    shows_then tag (copied_words v source.uid uid) t
-    (plain_inner (copied_words v source.uid uid) (copied_plain v source.uid uid)) selected now answers turn e
-
-told_says : (v uid : ℕ) (origin : Origin) (tag : List ℕ) → IsWord tag
-    → (selected : Option Selected) (now : Standing) (answers : List Answer) (turn : Turn)
-    → played tag now (told_stored selected origin v uid) answers ≡ Some turn
-    → SaysVerdict v origin tag (verdicts.Stored uid) turn.bytes
-told_says v uid Client tag t selected now answers turn e = shows_then tag (appended_words v uid) t (appended_inner v uid) selected now answers turn e
-told_says v uid (Copied source) tag t selected now answers turn e = copies_says v uid source source.moves tag t selected now answers turn e
+    → played tag now (if moves then moving selected v batch else showing selected (says (copied_words v batch))) answers ≡ Some turn
+    → SaysCopied moves v batch tag turn.bytes ⊎ Refuses tag turn.bytes
+copies_says v batch true tag t selected now answers turn e = inl (moves_says v batch tag t selected now answers turn e)
+copies_says v batch false tag t selected now answers turn e =
+    shows_then tag (copied_words v batch) t (plain_inner (copied_words v batch) (copied_plain v batch)) selected now answers turn e
 
 -- the mailbox is counted first, for the house's UIDVALIDITY
-stored_says : (k : Config) (n : ℕ) (origin : Origin) (mailbox uid : ℕ) (tag : List ℕ) → IsWord tag
-    → (selected : Option Selected) (now : Standing) (w : World) (answers : List Answer) (turn : Turn) (v : World)
-    → played tag now (on_verdict selected origin mailbox (verdicts.Stored uid)) answers ≡ Some turn → Met (Calls k n) w turn.events v
-    → SaysVerdict k.uidvalidity origin tag (verdicts.Stored uid) turn.bytes
-stored_says k n origin mailbox uid tag t selected now w [] turn v e met = absurd (none-some turn e)
-stored_says k n origin mailbox uid tag t selected now w (Counted status ∷ more) turn v e met =
-    let m = mapped (having (Count mailbox) (Counted status)) (played tag now (told_stored selected origin status.uidvalidity uid) more) turn e in
+counted_says : (k : Config) (n : ℕ) (Q : List ℕ → Type 0) (next : ℕ → ex.Exchange) (mailbox : ℕ) (tag : List ℕ) (now : Standing) (w : World) (answers : List Answer) (turn : Turn) (v : World)
+    → played tag now (with_validity mailbox next) answers ≡ Some turn → Met (Calls k n) w turn.events v
+    → ((rest : List Answer) (more : Turn) → played tag now (next k.uidvalidity) rest ≡ Some more → Q more.bytes ⊎ Refuses tag more.bytes) → Q turn.bytes ⊎ Refuses tag turn.bytes
+counted_says k n Q next mailbox tag now w [] turn v e met says = absurd (none-some turn e)
+counted_says k n Q next mailbox tag now w (Counted status ∷ rest) turn v e met says =
+    let m = mapped (having (Count mailbox) (Counted status)) (played tag now (next status.uidvalidity) rest) turn e in
     let first : Met (Calls k n) w (record { call = Count mailbox; answer = Counted status } ∷ m.more.events) v =
     subst (λ (x : Turn). Met (Calls k n) w x.events v) (sym m.makes) met in
     let validity : status.uidvalidity ≡ k.uidvalidity = first.1.3 in
-    subst (λ (x : Turn). SaysVerdict k.uidvalidity origin tag (verdicts.Stored uid) x.bytes) m.makes
-    (subst (λ (x : ℕ). SaysVerdict x origin tag (verdicts.Stored uid) m.more.bytes) validity (told_says status.uidvalidity uid origin tag t selected now more m.more m.is))
-stored_says k n origin mailbox uid tag t selected now w (Refused fault ∷ []) turn v e met =
-    refused_says k.uidvalidity uid origin tag (Count mailbox) now fault turn e
-stored_says k n origin mailbox uid tag t selected now w (_ ∷ more) turn v e met = absurd (none-some turn e)
+    subst (λ (x : Turn). Q x.bytes ⊎ Refuses tag x.bytes) m.makes
+    (says rest m.more (subst (λ (x : ℕ). played tag now (next x) rest ≡ Some m.more) validity m.is))
+counted_says k n Q next mailbox tag now w (Refused fault ∷ []) turn v e met says = inr (refused_says tag (Count mailbox) now fault turn e)
+counted_says k n Q next mailbox tag now w (_ ∷ rest) turn v e met says = absurd (none-some turn e)
 
-verdict_says : (k : Config) (n : ℕ) (origin : Origin) (mailbox : ℕ) (verdict : Verdict) (tag : List ℕ) → IsWord tag
+-- copies are removed again, where there are any, and then there is a NO
+back_says : (tag words : List ℕ) (mailbox : ℕ) (copies : List ℕ) (now : Standing) (answers : List Answer) (turn : Turn)
+    → played tag now (taking_back mailbox copies (says words)) answers ≡ Some turn → SaysRefused copies tag words turn.bytes
+back_says tag words mailbox [] now answers turn e = (only_done tag words Go now answers turn e).bytes
+back_says tag words mailbox (uid ∷ uids) now [] turn e = absurd (none-some turn e)
+back_says tag words mailbox (uid ∷ uids) now (Discarded ∷ rest) turn e =
+    let m = mapped (having (ex.Discard mailbox (uid ∷ uids)) Discarded) (played tag now (says words) rest) turn e in
+    inl (ap (λ (x : Turn). x.bytes) (sym m.makes) ∙ (only_done tag words Go now rest m.more m.is).bytes)
+back_says tag words mailbox (uid ∷ uids) now (Refused fault ∷ []) turn e = inr (refused_says tag (ex.Discard mailbox (uid ∷ uids)) now fault turn e)
+back_says tag words mailbox (uid ∷ uids) now (_ ∷ rest) turn e = absurd (none-some turn e)
+
+-- the next message is submitted, and nothing is said
+pub awaits_silent : (tag : List ℕ) (origin : Origin) (mailbox : ℕ) (flags : Flags) (text : List ℕ) (now : Standing) (answers : List Answer) (turn : Turn)
+    → played tag now (ex.Wait [] (ex.ForVerdict origin mailbox flags text)) answers ≡ Some turn → turn.bytes ≡ []
+awaits_silent tag origin mailbox flags text now [] turn e = sym (ap (λ (x : Turn). x.bytes) (ap (the_turn turn) e))
+awaits_silent tag origin mailbox flags text now (ex.Starved zero ∷ []) turn e = absurd (none-some turn e)
+awaits_silent tag origin mailbox flags text now (ex.Starved (suc n) ∷ []) turn e = absurd (none-some turn e)
+awaits_silent tag origin mailbox flags text now (_ ∷ rest) turn e = absurd (none-some turn e)
+
+-- one more copy of a batch is stored
+batch_says : (k : Config) (n : ℕ) (batch : Batch) (mailbox : ℕ) (tag : List ℕ) → IsWord tag → (mailing : Mailing)
     → (selected : Option Selected) (now : Standing) (w : World) (answers : List Answer) (turn : Turn) (v : World)
-    → played tag now (on_verdict selected origin mailbox verdict) answers ≡ Some turn → Met (Calls k n) w turn.events v
+    → Met (Calls k n) w turn.events v → (left : List Row) → batch.left ≡ left
+    → played tag now (submitting_first mailing batch mailbox (with_validity mailbox (told_copied selected batch)) left) answers ≡ Some turn
+    → (uid : ℕ) (uids : List ℕ) → batch.copies ≡ uid ∷ uids
+    → SaysOfBatch k.uidvalidity batch tag turn.bytes ⊎ Refuses tag turn.bytes
+batch_says k n batch mailbox tag t mailing selected now w answers turn v met [] is e uid uids some =
+    counted_says k n (SaysOfBatch k.uidvalidity batch tag) (told_copied selected batch) mailbox tag now w answers turn v e met
+    (λ rest more d. by more (copies_says k.uidvalidity batch batch.moves tag t selected now rest more d))
+  where
+    by : (more : Turn) → SaysCopied batch.moves k.uidvalidity batch tag more.bytes ⊎ Refuses tag more.bytes → SaysOfBatch k.uidvalidity batch tag more.bytes ⊎ Refuses tag more.bytes
+    by more (inl s) = inl (all_stored is s)
+    by more (inr f) = inr f
+batch_says k n batch mailbox tag t mailing selected now w answers turn v met (row ∷ left) is e uid uids some = by (nat_le last_number mailing.number) e
+  where
+    removed : SaysRefused (uid ∷ uids) tag (response_text texts.MailboxSpent) turn.bytes → SaysOfBatch k.uidvalidity batch tag turn.bytes ⊎ Refuses tag turn.bytes
+    removed (inl s) = inl (has_no_number row left is s)
+    removed (inr f) = inr f
+
+    by : (b : Bool) → played tag now (if b then taking_back mailbox batch.copies (says (response_text texts.MailboxSpent)) else ex.Wait [] (ex.ForVerdict (Copied (record batch { left = left })) mailbox row.flags row.text)) answers ≡ Some turn
+        → SaysOfBatch k.uidvalidity batch tag turn.bytes ⊎ Refuses tag turn.bytes
+    by true e =
+        removed (subst (λ (copies : List ℕ). SaysRefused copies tag (response_text texts.MailboxSpent) turn.bytes) some (back_says tag (response_text texts.MailboxSpent) mailbox batch.copies now answers turn e))
+    by false e = inl (awaits_next row left is (awaits_silent tag (Copied (record batch { left = left })) mailbox row.flags row.text now answers turn e))
+
+-- what is last has something
+some_last : (xs : List ℕ) (x : ℕ) → (y : ℕ) × (ys : List ℕ) × (xs ++ x ∷ [] ≡ y ∷ ys)
+some_last [] x = (x, [], refl)
+some_last (y ∷ ys) x = (y, ys ++ x ∷ [], refl)
+
+stored_says : (k : Config) (n : ℕ) (origin : Origin) (mailbox uid : ℕ) (tag : List ℕ) → IsWord tag → (mailing : Mailing)
+    → (selected : Option Selected) (now : Standing) (w : World) (answers : List Answer) (turn : Turn) (v : World)
+    → played tag now (on_stored mailing selected origin mailbox uid) answers ≡ Some turn → Met (Calls k n) w turn.events v
+    → SaysVerdict k.uidvalidity origin tag (verdicts.Stored uid) turn.bytes
+stored_says k n Client mailbox uid tag t mailing selected now w answers turn v e met =
+    counted_says k n (EndsWith tag (appended_words k.uidvalidity uid)) (told_appended selected uid) mailbox tag now w answers turn v e met
+    (λ rest more d. shows_then tag (appended_words k.uidvalidity uid) t (appended_inner k.uidvalidity uid) selected now rest more d)
+stored_says k n (Copied batch) mailbox uid tag t mailing selected now w answers turn v e met =
+    let some = some_last batch.copies uid in
+    batch_says k n (with_copy uid batch) mailbox tag t mailing selected now w answers turn v met batch.left refl e some.0 some.1 some.2
+
+verdict_says : (k : Config) (n : ℕ) (origin : Origin) (mailbox : ℕ) (verdict : Verdict) (tag : List ℕ) → IsWord tag → (mailing : Mailing)
+    → (selected : Option Selected) (now : Standing) (w : World) (answers : List Answer) (turn : Turn) (v : World)
+    → played tag now (on_verdict mailing selected origin mailbox verdict) answers ≡ Some turn → Met (Calls k n) w turn.events v
     → SaysVerdict k.uidvalidity origin tag verdict turn.bytes
-verdict_says k n origin mailbox (verdicts.Stored uid) tag t selected now w answers turn v e met =
-    stored_says k n origin mailbox uid tag t selected now w answers turn v e met
-verdict_says k n origin mailbox (verdicts.Refused why) tag t selected now w answers turn v e met =
-    (only_done tag (response_text (refused_text why)) Go now answers turn e).bytes
+verdict_says k n origin mailbox (verdicts.Stored uid) tag t mailing selected now w answers turn v e met =
+    stored_says k n origin mailbox uid tag t mailing selected now w answers turn v e met
+verdict_says k n origin mailbox (verdicts.Refused why) tag t mailing selected now w answers turn v e met =
+    back_says tag (response_text (refused_text why)) mailbox (copies_of origin) now answers turn e
 
 -- ---- a turn
 
@@ -247,7 +305,7 @@ TurnTells uidvalidity now happening bytes = TellsOfNone bytes
 heard_tells : (k : Config) (n : ℕ) (sent : Option Sent) (now : Standing) (verdict : Verdict) (w : World) (answers : List Answer) (turn : Turn) (v : World) → IfSome sent (λ (s : Sent). IsWord s.tag)
     → turn_with sent now verdict answers ≡ Some turn → Met (Calls k n) w turn.events v → IfSome sent (SaysSent k.uidvalidity verdict turn.bytes)
 heard_tells k n None now verdict w answers turn v t e met = tt
-heard_tells k n (Some sent) now verdict w answers turn v t e met = verdict_says k n sent.origin sent.append.mailbox verdict sent.tag t now.selected (without_sent now) w answers turn v e met
+heard_tells k n (Some sent) now verdict w answers turn v t e met = verdict_says k n sent.origin sent.append.mailbox verdict sent.tag t now.mailing now.selected (without_sent now) w answers turn v e met
 
 pub turn_tells : (k : Config) (n : ℕ) (now : Standing) (happening : Happening) (w : World) (turn : Turn) (v : World) → AreTagsOf IsWord now → leads_to now happening ≡ Some turn → Met (Calls k n) w turn.events v → TurnTells k.uidvalidity now happening turn.bytes
 turn_tells k n now (Line line answers) w turn v t e met = some_tells_none (turn_of now line answers) turn (line_fine now line answers t) e

@@ -14,7 +14,7 @@ use Rattle.imap_grammar.specs.declared.command.Store.{Store}
 use Rattle.imap_grammar.specs.Verbs.{verb_of}
 use Rattle.imap_session.specs.declared.standing.Selected.{Selected}
 use Rattle.imap_session.specs.Exchange as ex
-use Rattle.imap_session.specs.Exchange.{Answer, PendingLiteral, Exchange, Folder, ForVerdict, Mailing, Standing, Turn, bye, played, untagged}
+use Rattle.imap_session.specs.Exchange.{Answer, PendingLiteral, Exchange, Folder, ForVerdict, Mailing, Standing, Turn, bye, played, untagged, Copied}
 use Rattle.imap_session.specs.Commands.{appending, asking, closing, completed, counting, entering, expunge_set, fetch_messages, fetching, folder_of, if_writable, is_over, messages_done, most_unasked, notice, noticing, nowhere, number_named, on_chosen, on_command, on_found, on_idle_line, on_read, over, says, showing, store_messages, storing, subscribing, telling_recent, turn_of, unlimited, wanting, wanting_for, without_begun, wrong_state, arguments_text, entered_text, logged_in, found_in, search_done, search_known, search_messages, searching, on_text_line}
 use Rattle.exactly_once.proofs.Whole.{IsWhole, bye_whole, ends, fetched_whole, flags_whole, list_whole, opening_whole, found_whole}
 use Rattle.laws_client.proofs.IdleTags.{AreTagsOf}
@@ -34,7 +34,6 @@ use Rattle.imap_grammar.specs.declared.command.Search.{Search}
 use Rattle.imap_grammar.specs.declared.view.Named.{Named}
 use Rattle.imap_grammar.specs.Keys.{all_messages}
 use Rattle.laws_client.proofs.WholeLines.{turn_has, text_has}
-use Rattle.imap_session.specs.declared.standing.Origin.TheVariants.{Copied}
 use Rattle.imap_grammar.specs.declared.command.CopyMessages.{CopyMessages}
 use Rattle.exactly_once.proofs.Copying.{copies_so}
 use Rattle.laws_client.specs.Appends.{tells_stored, tells_copy}
@@ -148,8 +147,7 @@ copy_fine now copy =
       looked = look_fine tells_stored uid_spares;
       found = row_fine tells_stored uid_spares;
     }) now copy
-    (λ source mailbox row copied tag t now answers. let waits = ForVerdict (Copied source) mailbox row.flags row.text in
-    fine_wanting tells_stored uid_spares tag t now (ex.Wait [] waits) (fine_wait tells_stored uid_spares tag t now waits) answers)
+    (λ batch mailbox row copied tag t now answers. fine_wait tells_stored uid_spares tag t now (ForVerdict (Copied batch) mailbox row.flags row.text) answers)
 
 notice_apart : (said : Option (List ℕ)) (x : Exchange) → SaysApart tells_stored x → SaysApart tells_stored (noticing said x)
 notice_apart None x p = p

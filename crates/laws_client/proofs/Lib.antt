@@ -44,6 +44,7 @@ mod LastTurns
 mod Waiting
 mod WholeLines
 mod Submitted
+mod Firsts
 mod Lanes
 mod Histories
 mod Out

@@ -3,7 +3,7 @@ use Rattle.std.proofs.Common.{zero, suc, ◌≡◌, ℕ, List, [], ◌∷◌, sy
 use Rattle.std.specs.Prelude.{Option, Some}
 use Rattle.std.proofs.lemmas.Option.{none-some}
 use Rattle.mailbox.specs.declared.clients.MailFault.TheVariants.{NoMemory}
-use Rattle.imap_session.specs.Exchange.{Answer, Looked, Found, Counted, Altered, Expunged, Fed, Refused, Starved, Exchange, Done, Wait, Write, Put, Enter, Look, Read, Count, Alter, Expunge, Feed, Leave, Standing, Turn, after_waiting, tagged, played, waiting, Dropped, ForLiteral, ForNothing, Waiting, bye, unkept}
+use Rattle.imap_session.specs.Exchange.{Answer, Looked, Found, Counted, Altered, Expunged, Fed, Refused, Starved, Exchange, Done, Wait, Write, Put, Enter, Look, Read, Count, Alter, Expunge, Feed, Leave, Standing, Turn, after_waiting, tagged, played, waiting, Dropped, ForLiteral, ForNothing, Waiting, bye, unkept, Discard, Discarded}
 use Rattle.imap_session.specs.declared.standing.After.TheVariants.{Bye}
 use Rattle.imap_session.specs.declared.standing.After.TheVariants as afters
 use Rattle.imap_session.proofs.Unkept.{unkept_by}
@@ -61,3 +61,7 @@ turn_follows tag refusals view now (Feed limit x) [] turn new e says sees = absu
 turn_follows tag refusals view now (Feed limit x) (Fed a b ∷ more) turn new e says sees = shows view (Feed limit) (Fed a b) a b (λ mid s. s) (λ may. may) (played tag now x more) turn new e sees (λ t mid d s. turn_follows tag refusals mid now x more t new d (says mid) s)
 turn_follows tag refusals view now (Feed limit x) (Refused a ∷ []) turn new e says sees = is_refused tag refusals view now (Feed limit) a turn new e sees
 turn_follows tag refusals view now (Feed limit x) (_ ∷ more) turn new e says sees = absurd (none-some turn e)
+turn_follows tag refusals view now (Discard mailbox uids x) [] turn new e says sees = absurd (none-some turn e)
+turn_follows tag refusals view now (Discard mailbox uids x) (Discarded ∷ more) turn new e says sees = calls view (Discard mailbox uids) Discarded (played tag now x more) turn new e sees (λ mid s. s) (λ t mid after fits d s. turn_follows tag refusals view now x more t new d says s)
+turn_follows tag refusals view now (Discard mailbox uids x) (Refused a ∷ []) turn new e says sees = is_refused tag refusals view now (Discard mailbox uids) a turn new e sees
+turn_follows tag refusals view now (Discard mailbox uids x) (_ ∷ more) turn new e says sees = absurd (none-some turn e)

@@ -56,7 +56,7 @@ idle_login None false now (a ∷ more) turn e = absurd (none-some turn e)
 heard_login : (sent : Option Sent) (now : Standing) (verdict : Verdict) (answers : List Answer) (turn : Turn) → now.login ≡ None → turn_with sent now verdict answers ≡ Some turn → turn.standing.login ≡ None
 unfolding NoLogin
 heard_login None now verdict answers turn none e = absurd (none-some turn e)
-heard_login (Some sent) now verdict answers turn none e = played_keeps NoLogin sent.tag (keeps sent.tag) (without_sent now) (on_verdict now.selected sent.origin sent.append.mailbox verdict) answers turn none e
+heard_login (Some sent) now verdict answers turn none e = played_keeps NoLogin sent.tag (keeps sent.tag) (without_sent now) (on_verdict now.mailing now.selected sent.origin sent.append.mailbox verdict) answers turn none e
 
 none_asked : (now : Standing) (happening : Happening) (turn : Turn) → now.login ≡ None → leads_to now happening ≡ Some turn → turn.standing.login ≡ None
 unfolding NoLogin

@@ -25,9 +25,9 @@ use Rattle.imap_session.specs.declared.standing.After.{After}
 use Rattle.imap_session.specs.declared.standing.After.TheVariants.{Go, Bye}
 use Rattle.imap_session.specs.declared.standing.After.TheVariants as afters
 use Rattle.imap_session.specs.declared.standing.Selected.{Selected}
-use Rattle.imap_session.specs.Exchange.{Answer, Entered, Looked, Found, Counted, Altered, Expunged, Fed, Left, Refused, Starved, Exchange, ForDone, ForLiteral, ForVerdict, ForNothing, Done, Wait, Write, Put, Enter, Look, Read, Count, Alter, Expunge, Feed, Leave, Folder, Mailing, Standing, Turn, PendingLiteral, Sent, Waiting, closed, having, played, refusal_after, refusal_text, refused, saying, tagged, waiting, unkept, Asked, Dropped, Unasked, bye}
+use Rattle.imap_session.specs.Exchange.{Answer, Entered, Looked, Found, Counted, Altered, Expunged, Fed, Left, Refused, Starved, Exchange, ForDone, ForLiteral, ForVerdict, ForNothing, Done, Wait, Write, Put, Enter, Look, Read, Count, Alter, Expunge, Feed, Leave, Folder, Mailing, Standing, Turn, PendingLiteral, Sent, Waiting, closed, having, played, refusal_after, refusal_text, refused, saying, tagged, waiting, unkept, Asked, Dropped, Unasked, bye, Discard, Discarded, Origin, Client, Copied, Batch}
 use Rattle.imap_session.proofs.Unkept.{unkept_by}
-use Rattle.imap_session.specs.Commands.{appending, closing, completed, counting, entering, expunge_set, fault_text, fetch_messages, fetched, fetching, folder_of, idle_turn_in, if_writable, in_writable, is_over, kept_text, last_number, messages_done, most_unasked, nowhere, number_named, on_chosen, on_command, on_folder, on_found, on_idle_line, on_read, on_rest, on_set, on_text, on_verdict, only_says, over, says, selecting, showing, store_messages, stored, storing, taking, turn_of, turn_of_long_line, turn_of_verdict, turn_with, unlimited, wanting, wanting_for, with_bytes, without_begun, without_sent, wrong_state, asking, coming, entered_text, logged_in, subscribing, telling_recent, found_in, search_done, search_known, search_messages, searching, on_text_line, flags_for, mailbox_for, told_stored, moving, copied_words, most_copied, most_return_path}
+use Rattle.imap_session.specs.Commands.{appending, closing, completed, counting, entering, expunge_set, fault_text, fetch_messages, fetched, fetching, folder_of, idle_turn_in, if_writable, in_writable, is_over, kept_text, last_number, messages_done, most_unasked, nowhere, number_named, on_chosen, on_command, on_folder, on_found, on_idle_line, on_read, on_rest, on_set, on_text, on_verdict, only_says, over, says, selecting, showing, store_messages, stored, storing, taking, turn_of, turn_of_long_line, turn_of_verdict, turn_with, unlimited, wanting, wanting_for, with_bytes, without_begun, without_sent, wrong_state, asking, coming, entered_text, logged_in, subscribing, telling_recent, found_in, search_done, search_known, search_messages, searching, on_text_line, flags_for, mailbox_for, most_copied, most_return_path, on_stored, told_copied, move_done, with_copy, copies_of, refused_text, moving, copied_words}
 use Rattle.delivery_token.specs.declared.Verdict.{Verdict}
 use Rattle.delivery_token.specs.declared.Verdict.TheVariants as verdicts
 use Rattle.laws_client.proofs.Turns.{the_turn}
@@ -42,22 +42,30 @@ use Rattle.imap_grammar.specs.declared.view.Named.{Named}
 use Rattle.imap_grammar.specs.Keys.{all_messages}
 use Rattle.imap_session.proofs.Parts.{text_line_has, IsPart, tells_part, ends_part, asks_part, comes_part, challenge_part}
 use Rattle.laws_client.proofs.WholeLines.{turn_has}
-use Rattle.imap_session.specs.declared.standing.Origin.{Origin}
-use Rattle.imap_session.specs.declared.standing.Origin.TheVariants.{Client, Copied}
 use Rattle.imap_grammar.specs.declared.command.CopyMessages.{CopyMessages}
-use Rattle.exactly_once.proofs.Copying.{copies_so}
+use Rattle.exactly_once.proofs.Copying.{copies_so, EachFits, TakesBack, back_so, stored_so}
+use Rattle.std.specs.List.{AllByRecursion}
+
+-- each of these messages is no longer than that
+abbrev pub RowsFit : ℕ → List Row → Type 0
+RowsFit most rows = AllByRecursion (λ (row : Row). length row.text ≤ most + most_return_path) rows
+
+-- nor are those that are left to be copied
+abbrev pub OriginFits : ℕ → Origin → Type 0
+OriginFits most Client = Unit {0}
+OriginFits most (Copied batch) = RowsFit most batch.left
 
 -- What it has of messages: of one that is announced no more than was, and of one that was submitted no more than it takes, and the line of a return path.
 pub record IsMailShort (most : ℕ) (m : Mailing) : Type 0 where
   pub takes : m.most ≡ Some most
   pub begun : IfSome m.begun (λ a. IfSome a.text (λ text. length text + a.due ≤ a.size))
-  pub sent : IfSome m.sent (λ sent. length sent.append.text ≤ most + most_return_path)
+  pub sent : IfSome m.sent (λ sent. (length sent.append.text ≤ most + most_return_path) × OriginFits most sent.origin)
 
 abbrev pub Kept : ℕ → Turn → Type 0
 Kept most turn = IsMailShort most turn.standing.mailing
 
 abbrev WaitFits : ℕ → Waiting → Type 0
-WaitFits most (ForVerdict origin mailbox flags text) = length text ≤ most + most_return_path
+WaitFits most (ForVerdict origin mailbox flags text) = (length text ≤ most + most_return_path) × OriginFits most origin
 WaitFits most w = Unit {0}
 
 -- wherever a message is submitted it is no longer than that
@@ -74,6 +82,7 @@ TextsFit most (Alter uid op next) = (flags : Option Flags) → TextsFit most (ne
 TextsFit most (Expunge uids x) = TextsFit most x
 TextsFit most (Feed limit x) = TextsFit most x
 TextsFit most (Leave remove x) = TextsFit most x
+TextsFit most (Discard mailbox uids x) = TextsFit most x
 
 -- a turn with an event or a text more
 maps : (most : ℕ) (f : Turn → Turn) → ((s : Turn) → (f s).standing ≡ s.standing) → (rest : Option Turn) (turn : Turn) → option_map f rest ≡ Some turn → ((more : Turn) → rest ≡ Some more → Kept most more) → Kept most turn
@@ -154,6 +163,10 @@ mail_stays most tag now (Leave remove x) [] turn p k e = absurd (none-some turn 
 mail_stays most tag now (Leave remove x) (Left a ∷ more) turn p k e = maps most (having (Leave remove) (Left a)) (λ s. refl) (played tag (record now { selected = None }) x more) turn e (λ s d. mail_stays most tag (record now { selected = None }) x more s p k d)
 mail_stays most tag now (Leave remove x) (Refused a ∷ []) turn p k e = told most now (λ s. having (Leave remove) (Refused a) (saying (refusal_text tag a) s)) (λ s. refl) (refusal_after a) turn k e
 mail_stays most tag now (Leave remove x) (_ ∷ more) turn p k e = absurd (none-some turn e)
+mail_stays most tag now (Discard mailbox uids x) [] turn p k e = absurd (none-some turn e)
+mail_stays most tag now (Discard mailbox uids x) (Discarded ∷ more) turn p k e = maps most (having (Discard mailbox uids) Discarded) (λ s. refl) (played tag now x more) turn e (λ s d. mail_stays most tag now x more s p k d)
+mail_stays most tag now (Discard mailbox uids x) (Refused a ∷ []) turn p k e = told most now (λ s. having (Discard mailbox uids) (Refused a) (saying (refusal_text tag a) s)) (λ s. refl) (refusal_after a) turn k e
+mail_stays most tag now (Discard mailbox uids x) (_ ∷ more) turn p k e = absurd (none-some turn e)
 
 -- ---- exchanges
 
@@ -233,11 +246,17 @@ fit_append most o folders a =
 over_most : (most : ℕ) (o : Option ℕ) (size : ℕ) → o ≡ Some most → is_over o size ≡ false → size ≤ most
 over_most most o size e h = not_over most size (sym (ap (λ (x : Option ℕ). is_over x size) e) ∙ h)
 
+-- of a batch those that are left
+rows_fit : (most : ℕ) (now : Standing) (rows : List Row) → now.mailing.most ≡ Some most → EachFits now rows → RowsFit most rows
+rows_fit most now [] takes each = tt
+rows_fit most now (row ∷ rows) takes each =
+    (over_most (most + most_return_path) (most_copied now.mailing.most) (length row.text) (ap most_copied takes) each.0, rows_fit most now rows takes each.1)
+
 fit_copy : (most : ℕ) (now : Standing) (copy : CopyMessages) → now.mailing.most ≡ Some most → TextsFit most (on_command now (commands.Copy copy))
 fit_copy most now copy takes =
     copies_so (TextsFit most)
     (record { told = λ text. tt; wanted = λ x p. p; looked = λ by_uid set next p. p; found = λ uid mark next p. p }) now copy
-    (λ source mailbox row copied. over_most (most + most_return_path) (most_copied now.mailing.most) (length row.text) (ap most_copied takes) copied.fits)
+    (λ batch mailbox row copied. (over_most (most + most_return_path) (most_copied now.mailing.most) (length row.text) (ap most_copied takes) copied.fits, rows_fit most now batch.left takes copied.others_fit))
 
 fit_command : (most : ℕ) (now : Standing) (command : Command) → now.mailing.most ≡ Some most → TextsFit most (on_command now command)
 fit_command most now commands.Noop takes = fit_showing most now.selected (completed commands.Noop) tt
@@ -281,7 +300,7 @@ fit_rest most mailing a empty takes short = kept a.text short
     by text mailbox true y z e few = fit_over most mailing.most
     by text mailbox false true z e few = tt
     by text mailbox false false true e few = tt
-    by text mailbox false false false e few = omega (arith, few, over_most most mailing.most a.size takes e)
+    by text mailbox false false false e few = (omega (arith, few, over_most most mailing.most a.size takes e), tt)
 
     named : (text : List ℕ) (mailbox : Option ℕ) → length text + a.due ≤ a.size → TextsFit most (on_found (on_text mailing a text) nowhere mailbox)
     named text None few = tt
@@ -299,17 +318,25 @@ fit_rest most mailing a empty takes short = kept a.text short
 fit_idle_line : (most : ℕ) (selected : Option Selected) (line : List ℕ) → TextsFit most (on_idle_line selected line)
 fit_idle_line most selected line = fit_if most (is_done line) (showing selected (completed commands.Idle)) (says (response_text texts.ExpectedDone)) (fit_showing most selected (completed commands.Idle) tt) tt
 
-fit_stored : (most : ℕ) (selected : Option Selected) (origin : Origin) (uidvalidity uid : ℕ)
-    → TextsFit most (told_stored selected origin uidvalidity uid)
-fit_stored most selected Client uidvalidity uid = fit_showing most selected _ tt
-fit_stored most selected (Copied source) uidvalidity uid =
-    fit_if most source.moves (moving source uidvalidity uid) (showing selected (says (copied_words uidvalidity source.uid uid))) (λ flags. tt)
-    (fit_showing most selected _ tt)
+fit_copied : (most : ℕ) (selected : Option Selected) (batch : Batch) (uidvalidity : ℕ) → TextsFit most (told_copied selected batch uidvalidity)
+fit_copied most selected batch uidvalidity =
+    fit_if most batch.moves (moving selected uidvalidity batch) (showing selected (says (copied_words uidvalidity batch)))
+    (fit_found most (λ (s : Selected). Discard s.mailbox batch.uids (Feed unlimited (move_done batch))) (move_done batch) selected (λ s. tt) tt) (fit_showing most selected _ tt)
 
-fit_verdict : (most : ℕ) (selected : Option Selected) (origin : Origin) (mailbox : ℕ) (verdict : Verdict)
-    → TextsFit most (on_verdict selected origin mailbox verdict)
-fit_verdict most selected origin mailbox (verdicts.Stored uid) = λ status. fit_stored most selected origin status.uidvalidity uid
-fit_verdict most selected origin mailbox (verdicts.Refused why) = tt
+fit_back : (most : ℕ) → TakesBack (TextsFit most)
+fit_back most = record { told = λ text. tt; removed = λ mailbox uids x p. p }
+
+fit_stored : (most : ℕ) (mailing : Mailing) (selected : Option Selected) (origin : Origin) (mailbox uid : ℕ) → OriginFits most origin
+    → TextsFit most (on_stored mailing selected origin mailbox uid)
+fit_stored most mailing selected Client mailbox uid fits = λ status. fit_showing most selected _ tt
+fit_stored most mailing selected (Copied batch) mailbox uid fits =
+    stored_so (TextsFit most) (fit_back most) mailing selected batch mailbox uid (λ row left is. let each : RowsFit most (row ∷ left) = subst (RowsFit most) is fits in each)
+    (λ none status. fit_copied most selected (with_copy uid batch) status.uidvalidity)
+
+fit_verdict : (most : ℕ) (mailing : Mailing) (selected : Option Selected) (origin : Origin) (mailbox : ℕ) (verdict : Verdict) → OriginFits most origin
+    → TextsFit most (on_verdict mailing selected origin mailbox verdict)
+fit_verdict most mailing selected origin mailbox (verdicts.Stored uid) fits = fit_stored most mailing selected origin mailbox uid fits
+fit_verdict most mailing selected origin mailbox (verdicts.Refused why) fits = back_so (TextsFit most) (fit_back most) mailbox (copies_of origin) (refused_text why)
 
 -- ---- lines, literals and verdicts
 
@@ -338,10 +365,12 @@ text_keeps most now line answers turn k e =
 none_begun : (most : ℕ) (now : Standing) → IsMailShort most now.mailing → IsMailShort most (without_begun now).mailing
 none_begun most now k = record { takes = k.takes; begun = tt; sent = k.sent }
 
-heard_keeps : (most : ℕ) (sent : Option Sent) (now : Standing) (verdict : Verdict) (answers : List Answer) (turn : Turn) → IsMailShort most now.mailing → turn_with sent now verdict answers ≡ Some turn → Kept most turn
-heard_keeps most None now verdict answers turn k e = absurd (none-some turn e)
-heard_keeps most (Some sent) now verdict answers turn k e =
-    mail_stays most sent.tag (without_sent now) (on_verdict now.selected sent.origin sent.append.mailbox verdict) answers turn (fit_verdict most now.selected sent.origin sent.append.mailbox verdict) (record { takes = k.takes; begun = tt; sent = tt }) e
+heard_keeps : (most : ℕ) (sent : Option Sent) (now : Standing) (verdict : Verdict) (answers : List Answer) (turn : Turn) → IsMailShort most now.mailing
+    → IfSome sent (λ sent. (length sent.append.text ≤ most + most_return_path) × OriginFits most sent.origin) → turn_with sent now verdict answers ≡ Some turn → Kept most turn
+heard_keeps most None now verdict answers turn k fits e = absurd (none-some turn e)
+heard_keeps most (Some sent) now verdict answers turn k fits e =
+    mail_stays most sent.tag (without_sent now) (on_verdict now.mailing now.selected sent.origin sent.append.mailbox verdict) answers turn
+    (fit_verdict most now.mailing now.selected sent.origin sent.append.mailbox verdict fits.1) (record { takes = k.takes; begun = tt; sent = tt }) e
 
 pub line_mail : (most : ℕ) (now : Standing) (line : List ℕ) (answers : List Answer) (turn : Turn) → IsMailShort most now.mailing → turn_of now line answers ≡ Some turn → Kept most turn
 line_mail most now line answers turn k e =
@@ -358,7 +387,7 @@ pub long_mail : (most : ℕ) (now : Standing) → IsMailShort most now.mailing �
 long_mail most now k = none_begun most now k
 
 pub verdict_mail : (most : ℕ) (now : Standing) (verdict : Verdict) (answers : List Answer) (turn : Turn) → IsMailShort most now.mailing → turn_of_verdict now verdict answers ≡ Some turn → Kept most turn
-verdict_mail most now verdict answers turn k e = heard_keeps most now.mailing.sent now verdict answers turn k e
+verdict_mail most now verdict answers turn k e = heard_keeps most now.mailing.sent now verdict answers turn k k.sent e
 
 -- bytes of the literal, no more than were due
 pub bytes_mail : (most : ℕ) (now : Standing) (kept : Bool) (bytes : List ℕ) → IsMailShort most now.mailing → IfSome now.mailing.begun (λ a. length bytes ≤ a.due) → IsMailShort most (with_bytes kept bytes now).mailing

@@ -1,5 +1,5 @@
 -- A session's call comes to one event of that session in the world, or to none.
-use Rattle.std.proofs.Common.{◌≡◌, ◌≢◌, ℕ, ◌<◌, ◌^◌, List, [], ◌∷◌, length, subst, ap}
+use Rattle.std.proofs.Common.{◌≡◌, ◌≢◌, ℕ, ◌<◌, ◌^◌, List, [], ◌∷◌, length, subst, ap, Some}
 use Rattle.delivery_token.specs.declared.Job.{Job}
 use Rattle.mailbox.specs.declared.clients.Opening.{Opening}
 use Rattle.mailbox.specs.Events.{in_set}
@@ -7,7 +7,7 @@ use Rattle.world.specs.World as world
 use Rattle.world.specs.World.{Config, World, Event, Step}
 use Rattle.world.proofs.Base.{Every, all_of_every, every_of_all}
 use Rattle.world.proofs.Always.{kept_step, every_front}
-use Rattle.imap_session.specs.Exchange.{Call, Answer, Event as Happened, Look, Read as ReadCall, Count, Alter, Expunge as ExpungeCall, Feed as FeedCall, Leave as LeaveCall, Enter as EnterCall, Entered, Looked, Found, Counted, Altered, Expunged, Fed, Left, Refused}
+use Rattle.imap_session.specs.Exchange.{Call, Answer, Event as Happened, Look, Read as ReadCall, Count, Alter, Expunge as ExpungeCall, Feed as FeedCall, Leave as LeaveCall, Enter as EnterCall, Entered, Looked, Found, Counted, Altered, Expunged, Fed, Left, Refused, Discard as DiscardCall, Discarded}
 use Rattle.imap_session.specs.Store.{Met}
 use Rattle.house.specs.Meets.{Meets}
 use Rattle.laws_client.specs.ListTurns.{SeesAll}
@@ -15,7 +15,7 @@ use Rattle.laws_client.specs.Sizes.{HasShortTexts, HasSmallNumbers}
 use Rattle.laws_client.specs.Views.{IsOfOthers, view_of}
 use Rattle.laws_client.proofs.Boxes.{box_goes, goes_small}
 use Rattle.laws_client.proofs.Names.{Extends, extends_none, goes_extends}
-use Rattle.laws_client.proofs.Seen.{opened, seen, turned_away, was_refused}
+use Rattle.laws_client.proofs.Seen.{opened, seen, turned_away, was_refused, discarded}
 use Rattle.laws_client.proofs.ToldAll.{HearsAll, IsTold, OpensSo, sees_of}
 use Rattle.laws_client.proofs.Texts.{PutsShort}
 use Rattle.laws_client.proofs.RecordWorlds.{Sound}
@@ -49,6 +49,9 @@ moved k n w (FeedCall limit) _ v m = absurd m
 moved k n w (LeaveCall remove) (Left gone) v m = stepped (world.Leave n remove) m.0.0 (λ j o. o) tt
 moved k n w (LeaveCall remove) (Refused fault) v m = rested (was_refused n w fault _ v m)
 moved k n w (LeaveCall remove) _ v m = absurd m
+moved k n w (DiscardCall i uids) Discarded v m = stepped (world.Discard i (in_set (Some uids))) (discarded k w n i uids v m) (λ j o. tt) tt
+moved k n w (DiscardCall i uids) (Refused fault) v m = rested m.0
+moved k n w (DiscardCall i uids) _ v m = absurd m
 
 -- ---- what stays
 

@@ -1,21 +1,20 @@
--- How a MOVE ends whose copy was stored: with its OK, behind all that is pending, or with what is said where the store refuses.
+-- How a MOVE ends whose copies were stored: with its OK, behind all that is pending, or with what is said where the store refuses.
 use Rattle.std.proofs.Common.{◌≡◌, inl, ℕ, false, true, List, [], ◌∷◌, ◌++◌, refl, ap, sym, ◌∙◌, subst, append_assoc, Option, Some}
 use Rattle.std.proofs.lemmas.Bool.{false≢true}
 use Rattle.std.proofs.lemmas.Option.{none-some}
 use Rattle.cursor_set.specs.Lines.{lines}
 use Rattle.imap_grammar.specs.Verbs.{copy_verb}
-use Rattle.change_ring.specs.declared.flag_op.FlagOp.{FlagOp}
 use Rattle.mailbox.specs.declared.clients.MailFault.{MailFault}
 use Rattle.imap_session.specs.declared.standing.After.{After}
 use Rattle.imap_session.specs.declared.standing.After.TheVariants.{Go}
-use Rattle.imap_session.specs.declared.standing.Source.{Source}
-use Rattle.imap_session.specs.Exchange.{Alter, Altered, Answer, Call, Done, Event as Happened, Expunge, Expunged, Fed, Feed, Refused, Standing, Turn, having, played, refusal_text, refused, saying, tagged, untagged}
-use Rattle.imap_session.specs.Commands.{deleting, moved_words, moving, unlimited}
+use Rattle.imap_session.specs.Exchange.{Answer, Call, Done, Event as Happened, Fed, Feed, Refused, Standing, Turn, having, played, refusal_text, refused, saying, tagged, untagged, Batch, Discard, Discarded}
+use Rattle.imap_session.specs.Commands.{moved_words, moving, unlimited}
 use Rattle.imap_session.specs.declared.texts.ResponseText.TheVariants as texts
 use Rattle.imap_session.specs.Texts.{response_text}
 use Rattle.exactly_once.proofs.Whole.{IsWhole, lines_whole, whole_append}
 use Rattle.laws_client.proofs.RecordCurrent.{FedAll, LastFed, feed_event, last_weaker}
 use Rattle.laws_client.proofs.RecordEntering.{mapped, only_done, only_refused}
+use Rattle.imap_session.specs.declared.standing.Selected.{Selected}
 
 -- these words are the last, and the last call was for all that is pending, and was answered; or the store refused
 pub data EndsSo (tag words : List ℕ) (turn : Turn) : Type 0 where
@@ -60,45 +59,33 @@ feed_ends tag words how now (Fed view changes ∷ more) turn e =
 feed_ends tag words how now (Refused fault ∷ []) turn e = was_refused tag words now (Feed unlimited) fault turn e
 feed_ends tag words how now (_ ∷ more) turn e = absurd (none-some turn e)
 
-expunge_ends : (tag words : List ℕ) (how : After) (uids : Option (List ℕ)) (now : Standing) (answers : List Answer) (turn : Turn)
-    → played tag now (Expunge uids (Feed unlimited (Done words how))) answers ≡ Some turn → EndsSo tag words turn
-expunge_ends tag words how uids now [] turn e = absurd (none-some turn e)
-expunge_ends tag words how uids now (Expunged view changes all ∷ more) turn e =
-    let m = mapped (λ (x : Turn). having (Expunge uids) (Expunged view changes all) (saying (lines view changes) x)) (played tag now (Feed unlimited (Done words how)) more) turn e in
-    behind_lines tag words (lines view changes) m.more turn (lines_whole view changes) (ap (λ (x : Turn). x.bytes) (sym m.makes))
-    (behind_call (record { call = Expunge uids; answer = Expunged view changes all }) m.more.events turn.events (ap (λ (x : Turn). x.events) (sym m.makes)))
-    (feed_ends tag words how now more m.more m.is)
-expunge_ends tag words how uids now (Refused fault ∷ []) turn e = was_refused tag words now (Expunge uids) fault turn e
-expunge_ends tag words how uids now (_ ∷ more) turn e = absurd (none-some turn e)
-
-alter_ends : (tag words : List ℕ) (how : After) (uid : ℕ) (op : FlagOp) (uids : Option (List ℕ)) (now : Standing) (answers : List Answer) (turn : Turn)
-    → played tag now (Alter uid op (λ flags. Expunge uids (Feed unlimited (Done words how)))) answers ≡ Some turn → EndsSo tag words turn
-alter_ends tag words how uid op uids now [] turn e = absurd (none-some turn e)
-alter_ends tag words how uid op uids now (Altered flags ∷ more) turn e =
-    let m = mapped (having (Alter uid op) (Altered flags)) (played tag now (Expunge uids (Feed unlimited (Done words how))) more) turn e in
+discard_ends : (tag words : List ℕ) (how : After) (mailbox : ℕ) (uids : List ℕ) (now : Standing) (answers : List Answer) (turn : Turn)
+    → played tag now (Discard mailbox uids (Feed unlimited (Done words how))) answers ≡ Some turn → EndsSo tag words turn
+discard_ends tag words how mailbox uids now [] turn e = absurd (none-some turn e)
+discard_ends tag words how mailbox uids now (Discarded ∷ more) turn e =
+    let m = mapped (having (Discard mailbox uids) Discarded) (played tag now (Feed unlimited (Done words how)) more) turn e in
     behind_lines tag words [] m.more turn (inl refl) (ap (λ (x : Turn). x.bytes) (sym m.makes))
-    (behind_call (record { call = Alter uid op; answer = Altered flags }) m.more.events turn.events (ap (λ (x : Turn). x.events) (sym m.makes)))
-    (expunge_ends tag words how uids now more m.more m.is)
-alter_ends tag words how uid op uids now (Refused fault ∷ []) turn e = was_refused tag words now (Alter uid op) fault turn e
-alter_ends tag words how uid op uids now (_ ∷ more) turn e = absurd (none-some turn e)
+    (behind_call (record { call = Discard mailbox uids; answer = Discarded }) m.more.events turn.events (ap (λ (x : Turn). x.events) (sym m.makes)))
+    (feed_ends tag words how now more m.more m.is)
+discard_ends tag words how mailbox uids now (Refused fault ∷ []) turn e = was_refused tag words now (Discard mailbox uids) fault turn e
+discard_ends tag words how mailbox uids now (_ ∷ more) turn e = absurd (none-some turn e)
 
--- The line that tells of the copy, and what comes behind it.
-pub record Moves (uidvalidity uid : ℕ) (source : Source) (tag : List ℕ) (turn : Turn) : Type 0 where
+-- The line that tells of the copies, and what comes behind it, where a mailbox is selected.
+pub record Moves (uidvalidity : ℕ) (batch : Batch) (tag : List ℕ) (turn : Turn) : Type 0 where
   pub more : Turn
-  pub bytes : turn.bytes ≡ untagged (moved_words uidvalidity source.uid uid) ++ more.bytes
+  pub bytes : turn.bytes ≡ untagged (moved_words uidvalidity batch) ++ more.bytes
   pub events : more.events ≡ turn.events
-  pub ends : EndsSo tag (response_text (texts.Completed (copy_verb source.by_uid true))) more
+  pub ends : EndsSo tag (response_text (texts.Completed (copy_verb batch.by_uid true))) more
 
-pub moves_so : (uidvalidity uid : ℕ) (source : Source) (tag : List ℕ) (now : Standing) (answers : List Answer) (turn : Turn)
-    → played tag now (moving source uidvalidity uid) answers ≡ Some turn
-    → Moves uidvalidity uid source tag turn
-moves_so uidvalidity uid source tag now answers turn e =
-    let line : List ℕ = untagged (moved_words uidvalidity source.uid uid) in
-    let m = mapped (saying line) (played tag now (Alter source.uid deleting (λ flags. Expunge (Some (source.uid ∷ [])) (Feed unlimited (Done (response_text (texts.Completed (copy_verb source.by_uid true))) Go)))) answers) turn e in
-    record {
+pub moves_so : (uidvalidity : ℕ) (batch : Batch) (tag : List ℕ) (selected : Selected) (now : Standing) (answers : List Answer) (turn : Turn)
+    → played tag now (moving (Some selected) uidvalidity batch) answers ≡ Some turn
+    → Moves uidvalidity batch tag turn
+moves_so uidvalidity batch tag selected now answers turn e =
+    let line : List ℕ = untagged (moved_words uidvalidity batch) in
+    let done : List ℕ = response_text (texts.Completed (copy_verb batch.by_uid true)) in
+    let m = mapped (saying line) (played tag now (Discard selected.mailbox batch.uids (Feed unlimited (Done done Go))) answers) turn e in record {
       more = m.more;
       bytes = ap (λ (x : Turn). x.bytes) (sym m.makes);
       events = ap (λ (x : Turn). x.events) m.makes;
-      ends = alter_ends tag (response_text (texts.Completed (copy_verb source.by_uid true))) Go source.uid deleting
-          (Some (source.uid ∷ [])) now answers m.more m.is;
+      ends = discard_ends tag done Go selected.mailbox batch.uids now answers m.more m.is;
     }

@@ -27,7 +27,7 @@ use Rattle.imap_grammar.specs.declared.command.Fetch.{Fetch}
 use Rattle.imap_grammar.specs.declared.command.Store.{Store}
 use Rattle.imap_session.specs.declared.standing.After.{After}
 use Rattle.imap_session.specs.declared.standing.Selected.{Selected}
-use Rattle.imap_session.specs.Exchange.{Call, Answer, Event, Looked, Found, Counted, Altered, Expunged, Fed, Refused, Starved, Exchange, Done, Wait, Write, Put, Enter, Look, Read, Count, Alter, Expunge, Feed, Leave, Standing, Turn, having, played, refusal_text, refused, saying, tagged}
+use Rattle.imap_session.specs.Exchange.{Call, Answer, Event, Looked, Found, Counted, Altered, Expunged, Fed, Refused, Starved, Exchange, Done, Wait, Write, Put, Enter, Look, Read, Count, Alter, Expunge, Feed, Leave, Standing, Turn, having, played, refusal_text, refused, saying, tagged, Discard, Discarded}
 use Rattle.imap_session.specs.Commands.{completed, counting, expunge_set, fetch_messages, fetched, fetching, folder_of, if_writable, in_writable, messages_done, on_chosen, on_command, on_found, on_set, turn_of, says, showing, store_messages, stored, storing, unlimited, wrong_state, wanting_for, found_in, search_done, search_known, search_messages, searching, wanting, without_begun}
 use Rattle.laws_client.specs.ListTurns.{IsTag}
 use Rattle.line_io.specs.Wire.{crlf}
@@ -122,6 +122,7 @@ ShowsLast fed (Alter uid op next) = (flags : Option Flags) → ShowsLast false (
 ShowsLast fed (Expunge uids x) = ShowsLast false x
 ShowsLast fed (Feed limit x) = (limit ≡ unlimited) × ShowsLast true x
 ShowsLast fed (Leave remove x) = ⊥
+ShowsLast fed (Discard mailbox uids x) = ShowsLast false x
 
 never : {A : Type 0} → false ≡ true → A
 never e = absurd (false≢true e)
@@ -201,6 +202,10 @@ ok_current tag front fed now (Feed limit x) (Fed a b ∷ more) turn t p e ends =
 ok_current tag front fed now (Feed limit x) (Refused a ∷ []) turn t p e ends = was_given_up tag front now (Feed limit) a turn _ t e ends
 ok_current tag front fed now (Feed limit x) (_ ∷ more) turn t p e ends = absurd (none-some turn e)
 ok_current tag front fed now (Leave remove x) answers turn t p e ends = absurd p
+ok_current tag front fed now (Discard mailbox uids x) [] turn t p e ends = absurd (none-some turn e)
+ok_current tag front fed now (Discard mailbox uids x) (Discarded ∷ more) turn t p e ends = called tag front [] (Discard mailbox uids) Discarded (having (Discard mailbox uids) Discarded) (played tag now x more) turn (fed ≡ true) (false ≡ true) e ends (λ s. refl) (λ s. refl) never (λ s d f. ok_current tag (front ++ []) false now x more s t p d f)
+ok_current tag front fed now (Discard mailbox uids x) (Refused a ∷ []) turn t p e ends = was_given_up tag front now (Discard mailbox uids) a turn _ t e ends
+ok_current tag front fed now (Discard mailbox uids x) (_ ∷ more) turn t p e ends = absurd (none-some turn e)
 
 -- ---- commands
 

@@ -9,8 +9,8 @@ use Rattle.delivery_token.specs.declared.Verdict.TheVariants.{Refused, Stored}
 use Rattle.delivery_token.specs.declared.log.Noted.{Noted}
 use Rattle.line_io.specs.Wire.{crlf}
 use Rattle.world.specs.World.{Box, Feed, World, empty_world}
-use Rattle.imap_session.specs.Exchange.{Answer as StoreAnswer}
-use Rattle.imap_session.specs.Commands.{appended_words, greeting}
+use Rattle.imap_session.specs.Exchange.{Answer as StoreAnswer, Origin, Client as FromClient}
+use Rattle.imap_session.specs.Commands.{appended_words, greeting, copies_of, refused_text}
 use Rattle.imap_session.proofs.Telling.{words_tell_which}
 use Rattle.house.specs.Setup.{Setup}
 use Rattle.house.specs.Scene.{Scene, empty_scene}
@@ -18,7 +18,7 @@ use Rattle.house_peers.specs.SeatedVisitor.{SeatedVisitor}
 use Rattle.laws_client.specs.Beliefs.{IsRight}
 use Rattle.laws_client.specs.Client.{Client, Known, Messages, fresh}
 use Rattle.laws_client.specs.Talks.{LongLine, Turned}
-use Rattle.laws_client.specs.Appends.{Author, EndsWith, IsAnswered, SaysVerdict, TellsKept, TellsOfAppends, as_it_is, copy_under, tells_stored}
+use Rattle.laws_client.specs.Appends.{Author, EndsWith, IsAnswered, SaysVerdict, TellsKept, TellsOfAppends, as_it_is, copy_under, tells_stored, SaysRefused}
 use Rattle.laws_client.specs.Clients.{IsRightAbout, Told, bytes_in}
 use Rattle.laws_client.specs.Cuts.{Cutter, IsOneAnswer, ends, opens, CutsSo}
 use Rattle.laws_client.proofs.LastLines.{Apart, IsWord, apart_tells_none, refusal_apart, words_of_tags}
@@ -31,8 +31,7 @@ use Rattle.laws_client.specs.ClientRecords.{KeepsUp, KeptUp, began_by_then, firs
 use Rattle.laws_client.specs.Views.{IsOfOthers, NamesTheSame}
 use Rattle.imap_session.specs.declared.standing.Profile.{Profile}
 use Rattle.imap_session.specs.declared.standing.Profile.TheVariants.{Standard, Compatible}
-use Rattle.imap_session.specs.declared.standing.Origin.{Origin}
-use Rattle.imap_session.specs.declared.standing.Origin.TheVariants as origins
+use Rattle.imap_session.specs.Texts.{response_text}
 
 abbrev the_list : Messages → List Known
 the_list None = []
@@ -81,7 +80,7 @@ two_copies uid before now a b differ one two same = differ (same.alone a one ∙
 -- ---- the OK of an APPEND
 
 -- it tells the UID of another copy
-another_copys : (v uid other : ℕ) (tag bytes : List ℕ) → v < 2 ^ 64 → uid < 2 ^ 64 → other < 2 ^ 64 → uid ≢ other → IsWord tag → SaysVerdict v origins.Client tag (Stored uid) bytes → EndsWith tag (appended_words v other) bytes → ⊥
+another_copys : (v uid other : ℕ) (tag bytes : List ℕ) → v < 2 ^ 64 → uid < 2 ^ 64 → other < 2 ^ 64 → uid ≢ other → IsWord tag → SaysVerdict v FromClient tag (Stored uid) bytes → EndsWith tag (appended_words v other) bytes → ⊥
 another_copys v uid other tag bytes h k l differ word (inl s) said =
     differ (words_tell_which v uid v other h k h l (words_of_tags tag tag (appended_words v uid) (appended_words v other) word word (sym s.last ∙ said.last))).1
 another_copys v uid other tag bytes h k l differ word (inr (fault, s)) said =
@@ -93,7 +92,15 @@ no_verdict k w author v uid tag bytes none said = false≢true (sym (none tag (a
 
 -- or to one that the message was refused
 refused_message : (v uid : ℕ) (origin : Origin) (tag bytes : List ℕ) (why : Refusal) → IsWord tag → SaysVerdict v origin tag (Refused why) bytes → EndsWith tag (appended_words v uid) bytes → ⊥
-refused_message v uid origin tag bytes why word s said = false≢true (sym (apart_tells_none tells_stored bytes (subst (Apart tells_stored) (sym s) (no_apart tells_stored uid_spares tag word why)) tag (appended_words v uid) said))
+refused_message v uid origin tag bytes why word s said = by (copies_of origin) s
+  where
+    other : (words : List ℕ) → Apart tells_stored words → bytes ≡ words → ⊥
+    other words apart e = false≢true (sym (apart_tells_none tells_stored bytes (subst (Apart tells_stored) (sym e) apart) tag (appended_words v uid) said))
+
+    by : (copies : List ℕ) → SaysRefused copies tag (response_text (refused_text why)) bytes → ⊥
+    by [] e = other _ (no_apart tells_stored uid_spares tag word why) e
+    by (copy ∷ copies) (inl e) = other _ (no_apart tells_stored uid_spares tag word why) e
+    by (copy ∷ copies) (inr (fault, e)) = other _ (refusal_apart tells_stored uid_spares tag word fault) e
 
 -- of a copy in another mailbox than the APPEND named
 another_mailboxs : (k : Setup) (w : World) (author : Author) (tag said : List ℕ) (noted : Noted) → (kept : TellsKept k w author tag said noted) → noted.mailbox ≢ kept.message.append.mailbox → ⊥

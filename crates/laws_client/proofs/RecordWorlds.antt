@@ -7,7 +7,7 @@ use Rattle.shard_queue.proofs.AtLaws.{at_cases}
 use Rattle.change_ring.specs.declared.change.Change.{Change}
 use Rattle.change_ring.specs.Log.{added, view_at}
 use Rattle.change_ring.proofs.LogLaws.{added-append}
-use Rattle.world.specs.World.{Config, World, Box, Session, Event, Put, PutEnd, Take, Deliver, Answer, Hear, Enter, Status, Read, Store, Expunge, Feed, Leave, Step, IsWorld, put_joins, put_full, put_no_memory, put_shut, end_joins, end_full, takes, take_empty, delivers, deliver_spent, deliver_full, deliver_no_memory, answers, answer_full, hears_one, enters, enter_spent, enter_no_memory, MailStep, mails, mail_lapped, mail_spent, mail_no_memory, LeaveStep, leaves, leave_spent, last_uid}
+use Rattle.world.specs.World.{Config, World, Box, Session, Event, Put, PutEnd, Take, Deliver, Answer, Hear, Enter, Status, Read, Store, Expunge, Feed, Leave, Step, IsWorld, put_joins, put_full, put_no_memory, put_shut, end_joins, end_full, takes, take_empty, delivers, deliver_spent, deliver_full, deliver_no_memory, answers, answer_full, hears_one, enters, enter_spent, enter_no_memory, MailStep, mails, mail_lapped, mail_spent, mail_no_memory, LeaveStep, leaves, leave_spent, last_uid, Discard, discards_them, discard_spent}
 use Rattle.world.proofs.Kept.{Kept, SessionOk}
 use Rattle.world.proofs.Always.{kept_always}
 use Rattle.laws_client.specs.Fetches.{AreSmall, IsNumbered}
@@ -105,6 +105,8 @@ session_stays k w (Store n u op) v j o (s, is, step) = mail_others k w n s _ _ _
 session_stays k w (Expunge n may_go) v j o (s, is, step) = mail_others k w n s _ _ _ v j o step
 session_stays k w (Feed n limit) v j o (s, is, step) = mail_others k w n s _ _ _ v j o step
 session_stays k w (Leave n removing) v j o (s, is, step) = leave_others k w n s _ v j o step
+session_stays k w (Discard m goes) v j o (discards_them b there logs e) = rw e refl
+session_stays k w (Discard m goes) v j o (discard_spent there spent e) = rw e refl
 
 pub others_leave_views : OthersLeaveViews
 others_leave_views k events w e v n is step o =

@@ -26,8 +26,8 @@ use Rattle.imap_grammar.specs.declared.items.StatusItem.{StatusItem}
 use Rattle.imap_grammar.specs.declared.command.ImapFault.{ImapFault}
 use Rattle.imap_session.specs.declared.standing.After.TheVariants.{Go}
 use Rattle.imap_session.specs.declared.standing.Selected.{Selected}
-use Rattle.imap_session.specs.Exchange.{Alter, Altered, Answer, PendingLiteral, Exchange, Expunge, Feed, Folder, ForNothing, ForVerdict, Found, Mailing, Read, Sent, Standing, Turn, Wait, Write, bye, kept_behind}
-use Rattle.imap_session.specs.Commands.{turn_of, turn_of_verdict, appended_words, appending, last_number, most_unasked, nowhere, number_named, on_rest, on_text, on_verdict, is_over, over, turn_with, wanting, wanting_for, without_begun, without_sent, completed, counting, expunge_set, fault_text, fetch_messages, fetched, fetching, folder_of, in_selected, in_writable, messages_done, on_chosen, on_command, on_found, on_idle_line, on_read, on_set, only_says, says, showing, store_messages, stored, storing, subscribing, unlimited, wrong_state, asking, coming, logged_in, refused_text, found_in, search_done, search_known, search_messages, searching, on_text_line, flags_for, mailbox_for, told_stored, moving, copied_words}
+use Rattle.imap_session.specs.Exchange.{Alter, Altered, Answer, PendingLiteral, Exchange, Expunge, Feed, Folder, ForNothing, ForVerdict, Found, Mailing, Read, Sent, Standing, Turn, Wait, Write, bye, kept_behind, Origin, Client, Copied, Discard, Batch}
+use Rattle.imap_session.specs.Commands.{turn_of, turn_of_verdict, appended_words, appending, last_number, most_unasked, nowhere, number_named, on_rest, on_text, on_verdict, is_over, over, turn_with, wanting, wanting_for, without_begun, without_sent, completed, counting, expunge_set, fault_text, fetch_messages, fetched, fetching, folder_of, in_selected, in_writable, messages_done, on_chosen, on_command, on_found, on_idle_line, on_read, on_set, only_says, says, showing, store_messages, stored, storing, subscribing, unlimited, wrong_state, asking, coming, logged_in, refused_text, found_in, search_done, search_known, search_messages, searching, on_text_line, flags_for, mailbox_for, moving, copied_words, on_stored, move_done, with_copy, copies_of}
 use Rattle.laws_client.specs.ListTurns.{IsPlain, IsTag}
 use Rattle.laws_client.specs.Fetches.{AreToldParts, IsNumbered}
 use Rattle.laws_client.specs.Commands.{AreNames, IsFollowed, IsPrinted, MayAnswer, MayAsk, MayCome}
@@ -56,11 +56,8 @@ use Rattle.imap_grammar.specs.Keys.{all_messages}
 use Rattle.laws_client.proofs.Sought.{found_tells_nothing}
 use Rattle.imap_session.proofs.Parts.{IsPart, tells_part, ends_part, asks_part, comes_part, challenge_part, is_parting}
 use Rattle.laws_client.proofs.WholeLines.{turn_has, text_has}
-use Rattle.imap_session.specs.declared.standing.Origin.{Origin}
-use Rattle.imap_session.specs.declared.standing.Origin.TheVariants.{Client, Copied}
-use Rattle.imap_session.specs.declared.standing.Source.{Source}
 use Rattle.laws_client.proofs.CopyWords.{copied_plain, moved_tells_nothing}
-use Rattle.exactly_once.proofs.Copying.{copies_so}
+use Rattle.exactly_once.proofs.Copying.{copies_so, TakesBack, back_so, stored_so}
 use Rattle.imap_grammar.specs.declared.command.CopyMessages.{CopyMessages}
 
 pub refusals : (tag : List ℕ) → IsTag tag → Refusals tag
@@ -305,29 +302,38 @@ copy_says tag now copy t =
       looked = λ by_uid set next h p copied q sees. h copied q;
       found = λ uid mark next h p row q sees. h row q;
     }) now copy
-    (λ source mailbox row copied p. (nothing_leaves p, nothing_leaves p))
+    (λ batch mailbox row copied p. nothing_leaves p)
 
--- of a copy, and before and behind a message that is moved
-copied_says : (tag : List ℕ) (p : Point) (selected : Option Selected) (source : Source) (moves : Bool) (uidvalidity uid : ℕ) → IsTag tag
-    → SaysFlags tag p (if moves then moving source uidvalidity uid else showing selected (says (copied_words uidvalidity source.uid uid)))
-copied_says tag p selected source true uidvalidity uid t =
-    (leaves p _ (moved_tells_nothing uidvalidity source.uid uid), λ flags r sees q newer. last tag newer (texts.Completed (copy_verb source.by_uid true)) t)
-copied_says tag p selected source false uidvalidity uid t =
-    shows_then tag p selected (says (copied_words uidvalidity source.uid uid))
-    (λ q. leaves q _ (tagged_tells_nothing tag (copied_words uidvalidity source.uid uid) t (copied_plain uidvalidity source.uid uid)))
+-- of copies, and before and behind messages that are moved
+copied_says : (tag : List ℕ) (p : Point) (selected : Option Selected) (batch : Batch) (moves : Bool) (uidvalidity : ℕ) → IsTag tag
+    → SaysFlags tag p (if moves then moving selected uidvalidity batch else showing selected (says (copied_words uidvalidity batch)))
+copied_says tag p selected batch true uidvalidity t = (leaves p _ (moved_tells_nothing uidvalidity batch), moved selected)
+  where
+    moved : (s : Option Selected) → SaysFlags tag p (on_found (λ (s : Selected). Discard s.mailbox batch.uids (Feed unlimited (move_done batch))) (move_done batch) s)
+    moved None = last tag p (texts.Completed (copy_verb batch.by_uid true)) t
+    moved (Some s) = λ r sees newer. last tag newer (texts.Completed (copy_verb batch.by_uid true)) t
+copied_says tag p selected batch false uidvalidity t =
+    shows_then tag p selected (says (copied_words uidvalidity batch))
+    (λ q. leaves q _ (tagged_tells_nothing tag (copied_words uidvalidity batch) t (copied_plain uidvalidity batch)))
 
-told_says : (tag : List ℕ) (p : Point) (selected : Option Selected) (origin : Origin) (uidvalidity uid : ℕ) → IsTag tag → uidvalidity < 2 ^ 64
-    → uid < 2 ^ 64 → SaysFlags tag p (told_stored selected origin uidvalidity uid)
-told_says tag p selected Client uidvalidity uid t v u =
-    shows_then tag p selected (says (appended_words uidvalidity uid))
-    (λ q. leaves q _ (tagged_tells_nothing tag (appended_words uidvalidity uid) t (stored_plain uidvalidity uid v u)))
-told_says tag p selected (Copied source) uidvalidity uid t v u = copied_says tag p selected source source.moves uidvalidity uid t
+-- wherever its session is then
+takes_back : (tag : List ℕ) → IsTag tag → TakesBack (λ x. (p : Point) → SaysFlags tag p x)
+takes_back tag t = record { told = λ text p. last tag p text t; removed = λ mailbox uids x h p q sees. h q }
 
-verdict_says : (tag : List ℕ) (p : Point) (selected : Option Selected) (origin : Origin) (mailbox : ℕ) (verdict : Verdict) → IsTag tag
-    → IsPrinted verdict → SaysFlags tag p (on_verdict selected origin mailbox verdict)
-verdict_says tag p selected origin mailbox (verdicts.Stored uid) t u =
-    λ status r s. told_says tag r selected origin status.uidvalidity uid t s.sees.fits.uidvalidity u
-verdict_says tag p selected origin mailbox (verdicts.Refused why) t u = last tag p (refused_text why) t
+stored_says : (tag : List ℕ) (mailing : Mailing) (selected : Option Selected) (origin : Origin) (mailbox uid : ℕ) → IsTag tag → uid < 2 ^ 64
+    → (p : Point) → SaysFlags tag p (on_stored mailing selected origin mailbox uid)
+stored_says tag mailing selected Client mailbox uid t u p =
+    λ status r s. shows_then tag r selected (says (appended_words status.uidvalidity uid))
+    (λ q. leaves q _ (tagged_tells_nothing tag (appended_words status.uidvalidity uid) t (stored_plain status.uidvalidity uid s.sees.fits.uidvalidity u)))
+stored_says tag mailing selected (Copied batch) mailbox uid t u p =
+    stored_so (λ x. (p : Point) → SaysFlags tag p x) (takes_back tag t) mailing selected batch mailbox uid (λ row left is q. nothing_leaves q)
+    (λ none q status r s. copied_says tag r selected (with_copy uid batch) batch.moves status.uidvalidity t) p
+
+verdict_says : (tag : List ℕ) (p : Point) (mailing : Mailing) (selected : Option Selected) (origin : Origin) (mailbox : ℕ) (verdict : Verdict) → IsTag tag
+    → IsPrinted verdict → SaysFlags tag p (on_verdict mailing selected origin mailbox verdict)
+verdict_says tag p mailing selected origin mailbox (verdicts.Stored uid) t u = stored_says tag mailing selected origin mailbox uid t u p
+verdict_says tag p mailing selected origin mailbox (verdicts.Refused why) t u =
+    back_so (λ x. (p : Point) → SaysFlags tag p x) (takes_back tag t) mailbox (copies_of origin) (refused_text why) p
 
 -- ---- all of them
 
@@ -435,8 +441,8 @@ heard_follows : (sent : Option Sent) (now : Standing) (verdict : Verdict) (p : P
     → IfSome sent (λ s. IsTag s.tag) → IsPrinted verdict → turn_with sent now verdict answers ≡ Some turn → SeesAllMoments p turn.events q → LeadsFlags p turn.bytes q
 heard_follows None now verdict p answers turn q t u e sees = absurd (none-some turn e)
 heard_follows (Some sent) now verdict p answers turn q t u e sees =
-    turn_tells sent.tag (refusals sent.tag t) p (without_sent now) (on_verdict now.selected sent.origin sent.append.mailbox verdict) answers turn q e
-    (verdict_says sent.tag p now.selected sent.origin sent.append.mailbox verdict t u) sees
+    turn_tells sent.tag (refusals sent.tag t) p (without_sent now) (on_verdict now.mailing now.selected sent.origin sent.append.mailbox verdict) answers turn q e
+    (verdict_says sent.tag p now.mailing now.selected sent.origin sent.append.mailbox verdict t u) sees
 
 pub verdict_tells : (now : Standing) (verdict : Verdict) (p : Point) (answers : List Answer) (turn : Turn) (q : Point)
     → IfSome now.mailing.sent (λ sent. IsTag sent.tag) → IsPrinted verdict → turn_of_verdict now verdict answers ≡ Some turn → SeesAllMoments p turn.events q → LeadsFlags p turn.bytes q

@@ -29,7 +29,7 @@ use Rattle.world.proofs.Base.{Every, every_of_all, all_of_every}
 use Rattle.world.proofs.Kept.{Kept, SessionOk}
 use Rattle.delivery_core.specs.Clients.{Done, IsStatus, row_with, rows_then, text_with}
 use Rattle.imap_grammar.specs.declared.set.SeqRange.{SeqRange}
-use Rattle.imap_session.specs.Exchange.{Call, Answer, Look, Read as ReadCall, Count, Alter, Expunge as ExpungeCall, Feed as FeedCall, Leave as LeaveCall, Enter as EnterCall, Entered, Looked, Found, Counted, Altered, Expunged, Fed, Left, Refused}
+use Rattle.imap_session.specs.Exchange.{Call, Answer, Look, Read as ReadCall, Count, Alter, Expunge as ExpungeCall, Feed as FeedCall, Leave as LeaveCall, Enter as EnterCall, Entered, Looked, Found, Counted, Altered, Expunged, Fed, Left, Refused, Discard as DiscardCall, Discarded}
 use Rattle.house.specs.Meets.{Meets, IsRefused, IsTurnedAway}
 use Rattle.laws_client.specs.Beliefs.{MayShow}
 use Rattle.laws_client.specs.Fetches.{AreSmall}
@@ -37,8 +37,9 @@ use Rattle.laws_client.specs.ListTurns.{IsCounted, IsRowOf, Sees}
 use Rattle.laws_client.specs.Sizes.{HasShortTexts, HasSmallNumbers}
 use Rattle.laws_client.specs.Views.{IsOpened, messages_of, view_in, view_of}
 use Rattle.laws_client.specs.RecordLaws.{CallsAreSeen, EntriesAreCounted, LeaversCountNothing}
-use Rattle.laws_client.proofs.RecordWorlds.{Sound, added_few, added_small, sound_always}
+use Rattle.laws_client.proofs.RecordWorlds.{Sound, added_few, added_small, sound_always, Grows, goes_grows, session_stays, view_kept}
 use Rattle.laws_client.proofs.Logs.{are_printed, length_replay, small_behind, small_front, small_replay, view_then}
+use Rattle.laws_client.proofs.Boxes.{box_goes}
 
 -- ---- what is shown
 
@@ -214,6 +215,24 @@ feed_seen k w n limit met changes v S (step, (s, is, (D, S1))) = record {
   fits = may_be_shown k w S n s is limit changes S1.handed;
 }
 
+-- messages were discarded: that is no session's event, and mailboxes only grow by it
+pub discarded : (k : Config) (w : World) (n i : ℕ) (uids : List ℕ) (v : World) → Meets k n w (DiscardCall i uids) Discarded v → world.Step k w (world.Discard i (in_set (Some uids))) v
+discarded k w n i uids v m = world.discards_them m.mailbox m.there m.logs m.made
+
+pub record LeavesSession (w : World) (n : ℕ) (v : World) : Type 0 where
+  pub session : v.session n ≡ w.session n
+  pub grows : (m : ℕ) → Grows (w.box m) (v.box m)
+
+pub discard_leaves : (k : Config) (w : World) (n i : ℕ) (uids : List ℕ) (v : World) → Meets k n w (DiscardCall i uids) Discarded v → LeavesSession w n v
+discard_leaves k w n i uids v m =
+    let event : world.Event = world.Discard i (in_set (Some uids)) in
+    let step : world.Step k w event v = discarded k w n i uids v m in
+    record { session = session_stays k w event v n tt step; grows = λ j. goes_grows k (w.box j) (v.box j) (box_goes k w event v j step) }
+
+discard_seen : (k : Config) (w : World) (n i : ℕ) (uids : List ℕ) (v : World) → Sound k w → Meets k n w (DiscardCall i uids) Discarded v
+    → Sees (view_of w n) (record { call = DiscardCall i uids; answer = Discarded }) (view_of v n)
+discard_seen k w n i uids v S m = let stays = discard_leaves k w n i uids v m in record { leads = view_kept k w v n S.kept stays.session stays.grows; fits = tt }
+
 pub seen : (k : Config) (w : World) (n : ℕ) (call : Call) (answer : Answer) (v : World) → Sound k w → HasSmallNumbers k → HasShortTexts w → Meets k n w call answer v
     → Sees (view_of w n) (record { call = call; answer = answer }) (view_of v n)
 seen k w n (EnterCall i) (Entered opening) v S h short m = record { leads = tt; fits = tt }
@@ -240,6 +259,9 @@ seen k w n (FeedCall limit) _ v S h short m = absurd m
 seen k w n (LeaveCall remove) (Left gone) v S h short m = record { leads = tt; fits = tt }
 seen k w n (LeaveCall remove) (Refused fault) v S h short m = unmoved_seen w n (LeaveCall remove) fault v (was_refused n w fault _ v m)
 seen k w n (LeaveCall remove) _ v S h short m = absurd m
+seen k w n (DiscardCall i uids) Discarded v S h short m = discard_seen k w n i uids v S m
+seen k w n (DiscardCall i uids) (Refused fault) v S h short m = unmoved_seen w n (DiscardCall i uids) fault v m.0
+seen k w n (DiscardCall i uids) _ v S h short m = absurd m
 
 pub calls_are_seen : CallsAreSeen
 calls_are_seen k events w n call answer v h is short m = seen k w n call answer v (sound_always k events w h is) h short m

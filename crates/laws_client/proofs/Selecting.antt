@@ -13,9 +13,9 @@ use Rattle.imap_session.specs.declared.standing.After.{After}
 use Rattle.imap_session.specs.declared.standing.After.TheVariants.{Go, Bye}
 use Rattle.imap_session.specs.declared.standing.After.TheVariants as afters
 use Rattle.imap_session.specs.declared.standing.Selected.{Selected}
-use Rattle.imap_session.specs.Exchange.{Answer, Entered, Looked, Found, Counted, Altered, Expunged, Fed, Left, Refused, Starved, Exchange, ForDone, ForLiteral, ForVerdict, ForNothing, Done, Wait, Write, Put, Enter, Look, Read, Count, Alter, Expunge, Feed, Leave, Standing, Turn, PendingLiteral, Sent, Waiting, closed, having, played, refusal_after, refusal_text, refused, saying, tagged, waiting, Folder, Mailing, is_idling, unkept, bye}
+use Rattle.imap_session.specs.Exchange.{Answer, Entered, Looked, Found, Counted, Altered, Expunged, Fed, Left, Refused, Starved, Exchange, ForDone, ForLiteral, ForVerdict, ForNothing, Done, Wait, Write, Put, Enter, Look, Read, Count, Alter, Expunge, Feed, Leave, Standing, Turn, PendingLiteral, Sent, Waiting, closed, having, played, refusal_after, refusal_text, refused, saying, tagged, waiting, Folder, Mailing, is_idling, unkept, bye, Discard, Discarded, Origin, Batch, Copied, Client as FromClient}
 use Rattle.imap_session.proofs.Unkept.{unkept_by}
-use Rattle.imap_session.specs.Commands.{idle_turn_in, turn_of, fault_text, on_command, on_idle_line, on_read, on_rest, on_verdict, only_says, turn_with, without_begun, without_sent, appending, closing, completed, counting, entering, expunge_set, fetch_messages, fetched, fetching, folder_of, if_writable, in_writable, is_over, last_number, messages_done, most_unasked, nowhere, number_named, on_chosen, on_folder, on_found, on_set, on_text, over, says, selecting, showing, store_messages, stored, storing, unlimited, wanting, wanting_for, wrong_state, opened, asking, coming, logged_in, subscribing, telling_recent, entered_text, found_in, search_done, search_known, search_messages, searching, on_text_line, flags_for, mailbox_for, told_stored, moving, copied_words}
+use Rattle.imap_session.specs.Commands.{idle_turn_in, turn_of, fault_text, on_command, on_idle_line, on_read, on_rest, on_verdict, only_says, turn_with, without_begun, without_sent, appending, closing, completed, counting, entering, expunge_set, fetch_messages, fetched, fetching, folder_of, if_writable, in_writable, is_over, last_number, messages_done, most_unasked, nowhere, number_named, on_chosen, on_folder, on_found, on_set, on_text, over, says, selecting, showing, store_messages, stored, storing, unlimited, wanting, wanting_for, wrong_state, opened, asking, coming, logged_in, subscribing, telling_recent, entered_text, found_in, search_done, search_known, search_messages, searching, on_text_line, flags_for, mailbox_for, moving, copied_words, on_stored, told_copied, move_done, with_copy, copies_of, refused_text}
 use Rattle.delivery_token.specs.declared.Verdict.{Verdict}
 use Rattle.std.specs.List.{list_any}
 use Rattle.change_ring.specs.declared.change.Flags.{Flags}
@@ -55,10 +55,8 @@ use Rattle.imap_grammar.specs.declared.view.Named.{Named}
 use Rattle.imap_grammar.specs.Keys.{all_messages}
 use Rattle.imap_session.proofs.Parts.{IsPart, tells_part, ends_part, asks_part, comes_part, challenge_part}
 use Rattle.laws_client.proofs.WholeLines.{unfinished_asks, turn_has, text_has}
-use Rattle.imap_session.specs.declared.standing.Origin.{Origin}
-use Rattle.imap_session.specs.declared.standing.Origin.TheVariants as origins
 use Rattle.imap_grammar.specs.declared.command.CopyMessages.{CopyMessages}
-use Rattle.exactly_once.proofs.Copying.{copies_so}
+use Rattle.exactly_once.proofs.Copying.{copies_so, TakesBack, back_so, stored_so}
 
 -- no mailbox is entered or left
 abbrev pub StaysIn : Exchange → Type 0
@@ -74,6 +72,7 @@ StaysIn (Alter uid op next) = (flags : Option Flags) → StaysIn (next flags)
 StaysIn (Expunge uids x) = StaysIn x
 StaysIn (Feed limit x) = StaysIn x
 StaysIn (Leave remove x) = ⊥
+StaysIn (Discard mailbox uids x) = StaysIn x
 
 abbrev the_turn : Turn → Option Turn → Turn
 the_turn d None = d
@@ -149,6 +148,10 @@ selected_stays tag now (Feed limit x) (Fed a b ∷ more) turn p e = maps now (λ
 selected_stays tag now (Feed limit x) (Refused a ∷ []) turn p e = told now (λ s. having (Feed limit) (Refused a) (saying (refusal_text tag a) s)) (λ s. refl) (refusal_after a) turn e
 selected_stays tag now (Feed limit x) (_ ∷ more) turn p e = absurd (none-some turn e)
 selected_stays tag now (Leave remove x) answers turn p e = absurd p
+selected_stays tag now (Discard mailbox uids x) [] turn p e = absurd (none-some turn e)
+selected_stays tag now (Discard mailbox uids x) (Discarded ∷ more) turn p e = maps now (having (Discard mailbox uids) Discarded) (λ s. refl) (played tag now x more) turn e (λ s d. selected_stays tag now x more s p d)
+selected_stays tag now (Discard mailbox uids x) (Refused a ∷ []) turn p e = told now (λ s. having (Discard mailbox uids) (Refused a) (saying (refusal_text tag a) s)) (λ s. refl) (refusal_after a) turn e
+selected_stays tag now (Discard mailbox uids x) (_ ∷ more) turn p e = absurd (none-some turn e)
 
 -- ---- exchanges
 
@@ -219,7 +222,7 @@ in_subscribing folders name command = in_found (λ (folder : Folder). completed 
 in_copy : (now : Standing) (copy : CopyMessages) → StaysIn (on_command now (commands.Copy copy))
 in_copy now copy =
     copies_so StaysIn (record { told = λ text. tt; wanted = λ x p. p; looked = λ by_uid set next p. p; found = λ uid mark next p. p }) now copy
-    (λ source mailbox row copied. tt)
+    (λ batch mailbox row copied. tt)
 
 pub in_command : (now : Standing) (command : Command) → stays command ≡ true → StaysIn (on_command now command)
 in_command now commands.Noop e = in_showing now.selected (completed commands.Noop) tt
@@ -261,7 +264,7 @@ in_rest mailing a empty =
     submits : (text : List ℕ) (mailbox : ℕ) → StaysIn (on_text mailing a text mailbox)
     submits text mailbox = by (is_over mailing.most a.size) (list_any (λ b. b == 0) text) (nat_le last_number mailing.number)
       where
-        by : (x y z : Bool) → StaysIn (if x then over mailing.most else if y then says (response_text texts.NulByte) else if z then says (response_text texts.MailboxSpent) else wanting (Wait [] (ForVerdict origins.Client mailbox (flags_for a.purpose) text)))
+        by : (x y z : Bool) → StaysIn (if x then over mailing.most else if y then says (response_text texts.NulByte) else if z then says (response_text texts.MailboxSpent) else wanting (Wait [] (ForVerdict FromClient mailbox (flags_for a.purpose) text)))
         by true y z = in_over mailing.most
         by false true z = tt
         by false false true = tt
@@ -270,15 +273,22 @@ in_rest mailing a empty =
 pub in_idle_line : (selected : Option Selected) (line : List ℕ) → StaysIn (on_idle_line selected line)
 in_idle_line selected line = in_if (is_done line) (showing selected (completed commands.Idle)) (says (response_text texts.ExpectedDone)) (in_showing selected (completed commands.Idle) tt) tt
 
-in_stored : (selected : Option Selected) (origin : Origin) (uidvalidity uid : ℕ) → StaysIn (told_stored selected origin uidvalidity uid)
-in_stored selected origins.Client uidvalidity uid = in_showing selected _ tt
-in_stored selected (origins.Copied source) uidvalidity uid =
-    in_if source.moves (moving source uidvalidity uid) (showing selected (says (copied_words uidvalidity source.uid uid))) (λ flags. tt)
-    (in_showing selected _ tt)
+in_copied : (selected : Option Selected) (batch : Batch) (uidvalidity : ℕ) → StaysIn (told_copied selected batch uidvalidity)
+in_copied selected batch uidvalidity =
+    in_if batch.moves (moving selected uidvalidity batch) (showing selected (says (copied_words uidvalidity batch)))
+    (in_found (λ (s : Selected). Discard s.mailbox batch.uids (Feed unlimited (move_done batch))) (move_done batch) selected (λ s. tt) tt) (in_showing selected _ tt)
 
-in_verdict : (selected : Option Selected) (origin : Origin) (mailbox : ℕ) (verdict : Verdict) → StaysIn (on_verdict selected origin mailbox verdict)
-in_verdict selected origin mailbox (verdicts.Stored uid) = λ status. in_stored selected origin status.uidvalidity uid
-in_verdict selected origin mailbox (verdicts.Refused why) = tt
+in_back : TakesBack StaysIn
+in_back = record { told = λ text. tt; removed = λ mailbox uids x p. p }
+
+in_stored : (mailing : Mailing) (selected : Option Selected) (origin : Origin) (mailbox uid : ℕ) → StaysIn (on_stored mailing selected origin mailbox uid)
+in_stored mailing selected FromClient mailbox uid = λ status. in_showing selected _ tt
+in_stored mailing selected (Copied batch) mailbox uid =
+    stored_so StaysIn in_back mailing selected batch mailbox uid (λ row left is. tt) (λ none status. in_copied selected (with_copy uid batch) status.uidvalidity)
+
+in_verdict : (mailing : Mailing) (selected : Option Selected) (origin : Origin) (mailbox : ℕ) (verdict : Verdict) → StaysIn (on_verdict mailing selected origin mailbox verdict)
+in_verdict mailing selected origin mailbox (verdicts.Stored uid) = in_stored mailing selected origin mailbox uid
+in_verdict mailing selected origin mailbox (verdicts.Refused why) = back_so StaysIn in_back mailbox (copies_of origin) (refused_text why)
 
 -- ---- turns while it idles
 
@@ -443,7 +453,7 @@ line_sel now line answers turn client e k =
 
 pub verdict_sel : (sent : Option Sent) (now : Standing) (verdict : Verdict) (answers : List Answer) (turn : Turn) → turn_with sent now verdict answers ≡ Some turn → turn.standing.selected ≡ now.selected
 verdict_sel None now verdict answers turn e = absurd (none-some turn e)
-verdict_sel (Some sent) now verdict answers turn e = selected_stays sent.tag (without_sent now) (on_verdict now.selected sent.origin sent.append.mailbox verdict) answers turn (in_verdict now.selected sent.origin sent.append.mailbox verdict) e
+verdict_sel (Some sent) now verdict answers turn e = selected_stays sent.tag (without_sent now) (on_verdict now.mailing now.selected sent.origin sent.append.mailbox verdict) answers turn (in_verdict now.mailing now.selected sent.origin sent.append.mailbox verdict) e
 
 pub turn_sel : (now : Standing) (happening : Happening) (turn : Turn) (client : Option Client) → leads_to now happening ≡ Some turn → Known_selected client now → Known_selected (hears client (told_of now happening turn.bytes)) turn.standing
 turn_sel now (Line line answers) turn client e k = line_sel now line answers turn client e k

@@ -31,7 +31,7 @@ use Rattle.house_history.proofs.Follow.{changes_grow}
 use Rattle.house_history.proofs.Standing.{same_copy}
 use Rattle.house_history.proofs.Uids.{uids_fit}
 use Rattle.workers_sync.specs.Holds.{HasCursor}
-use Rattle.imap_session.specs.Exchange.{Call, Answer, Enter, Look, Read, Count, Alter, Expunge, Feed, Leave, Entered, Looked, Found, Counted, Altered, Expunged, Fed, Left, Refused, Starved, Event, Standing, Turn}
+use Rattle.imap_session.specs.Exchange.{Call, Answer, Enter, Look, Read, Count, Alter, Expunge, Feed, Leave, Entered, Looked, Found, Counted, Altered, Expunged, Fed, Left, Refused, Starved, Event, Standing, Turn, Discard, Discarded}
 use Rattle.imap_session.specs.Commands.{unlimited}
 use Rattle.imap_session.specs.Store.{Met}
 use Rattle.session_thread.specs.declared.locked_store.Entry.{Entry}
@@ -154,6 +154,7 @@ still old new (Alter uid op) fault h = h.0
 still old new (Expunge uids) fault h = h.0
 still old new (Feed limit) fault h = h.0
 still old new (Leave remove) fault h = h.0
+still old new (Discard m uids) fault h = h.0
 
 pub never : (old new : LockedStore) (call : Call) (n : ℕ) → Holds old call (Starved n) new → ⊥
 never old new (Enter m) n h = h
@@ -172,6 +173,7 @@ small_call old new (Expunge uids) (Expunged view changes gone) (here, there, (ne
 small_call old new (Feed limit) (Fed view changes) (here, there, (next, (found, left, (feeds, shows), k), is)) small =
     at_small new (record { mailbox = here.mailbox; start = here.start; handle = next }) (ap (λ (p : LockedStore). p.entered) is) (within_few left.mailbox next _ feeds.event.left_kept feeds.counts)
 small_call old new (Leave remove) (Left gone) h small = subst (λ (e : Option Entry). IfSome e (λ (here : Entry). here.handle.at ≤ 2 ^ 62)) (sym (ap (λ (p : LockedStore). p.entered) h.1)) tt
+small_call old new (Discard m uids) Discarded h small = seen_small old new h.0 small
 small_call old new call (Starved n) h small = absurd (never old new call n h)
 small_call old new _ _ h small = absurd h
 
@@ -256,6 +258,10 @@ sees_count : (old new : LockedStore) (call : Call) (status : _) (shown : List Ch
 sees_count old new (Count m) status shown h goes was = (record { leads = counts_still old new shown h.0 goes was; fits = counted_so status h.3 }, tt)
 sees_count old new _ status shown h goes was = absurd h
 
+sees_discard : (old new : LockedStore) (call : Call) (shown : List Change) → Holds old call Discarded new → IsPrefix old.history new.history → WasShown old shown → SeesSo old call Discarded new
+sees_discard old new (Discard m uids) shown h goes was = (record { leads = counts_still old new shown h.0 goes was; fits = tt }, tt)
+sees_discard old new _ shown h goes was = absurd h
+
 sees_flags : (old new : LockedStore) (call : Call) (flags : _) (shown : List Change) → Holds old call (Altered flags) new → IsPrefix old.history new.history → WasShown old shown → SeesSo old call (Altered flags) new
 sees_flags old new (Alter uid op) flags shown h goes was = (record { leads = counts_still old new shown h.0 goes was; fits = tt }, tt)
 sees_flags old new _ flags shown h goes was = absurd h
@@ -324,6 +330,7 @@ sees_call old new call answer shown h was at small =
     by (Expunged view changes gone) h goes tells now few = sees_expunge old new call view changes gone shown h goes tells was now small few
     by (Fed view changes) h goes tells now few = sees_feed old new call view changes shown h goes tells was now small few
     by (Left gone) h goes tells now few = (record { leads = tt; fits = tt }, tt)
+    by Discarded h goes tells now few = sees_discard old new call shown h goes was
     by (Refused fault) h goes tells now few = unmoved old new call fault (still old new call fault h)
     by (Starved n) h goes tells now few = absurd (never old new call n h)
 

@@ -18,7 +18,7 @@ use Rattle.house_history.specs.Legal.{Legal}
 use Rattle.house_history.proofs.Follow.{changes_grow}
 use Rattle.house_history.proofs.Logs.{legal_empty_log}
 use Rattle.locked_mailbox.specs.Locking.{Knows, LockedMailbox}
-use Rattle.imap_session.specs.Exchange.{Call, Answer, Look, Read, Count, Alter, Expunge, Feed, Entered, Looked, Found, Counted, Altered, Expunged, Fed, Left, Refused, Starved, Event, Standing, Turn}
+use Rattle.imap_session.specs.Exchange.{Call, Answer, Look, Read, Count, Alter, Expunge, Feed, Entered, Looked, Found, Counted, Altered, Expunged, Fed, Left, Refused, Starved, Event, Standing, Turn, Discard, Discarded}
 use Rattle.imap_session.specs.Store.{Met}
 use Rattle.session_thread.specs.declared.locked_store.Entry.{Entry}
 use Rattle.session_thread.specs.Locks.{Holds, LockedStore, entered_at}
@@ -273,6 +273,10 @@ counted_still : (old new : LockedStore) (call : Call) (status : _) → Holds old
 counted_still old new (Count m) status h = entered_of old new h.0
 counted_still old new _ status h = absurd h
 
+discarded_still : (old new : LockedStore) (call : Call) → Holds old call Discarded new → new.entered ≡ old.entered
+discarded_still old new (Discard m uids) h = entered_of old new h.0
+discarded_still old new _ h = absurd h
+
 altered_still : (old new : LockedStore) (call : Call) (flags : Option Flags) → Holds old call (Altered flags) new → new.entered ≡ old.entered
 altered_still old new (Alter uid op) flags h = entered_of old new h.0
 altered_still old new _ flags h = absurd h
@@ -316,6 +320,7 @@ call_moments old new call answer shown later h was at legal small goes =
     by (Altered flags) h told now ok sees tells = shows_none later old.entered new.entered call (Altered flags) (altered_still old new call flags h) refl ok sees tells
     by (Expunged view changes gone) h told now ok sees tells = expunged_moments old new call view changes gone shown later h told was now goes ok sees
     by (Fed view changes) h told now ok sees tells = fed_moments old new call view changes shown later h told was now goes ok sees
+    by Discarded h told now ok sees tells = shows_none later old.entered new.entered call Discarded (discarded_still old new call h) refl ok sees tells
     by (Refused fault) h told now ok sees tells = shows_none later old.entered new.entered call (Refused fault) (ap (λ (p : LockedStore). p.entered) (still old new call fault h)) refl ok sees tells
     by (Starved n) h told now ok sees tells = absurd (never old new call n h)
 

@@ -6,7 +6,7 @@ use Rattle.cursor_set.specs.Cursors.{CursorHandle}
 use Rattle.mailbox.specs.Mailbox.{Mailbox}
 use Rattle.workers_sync.specs.Holds.{Expunges}
 use Rattle.house_history.specs.declared.event.Event as house
-use Rattle.imap_session.specs.Exchange.{Call, Answer, Enter, Look, Read, Count, Alter, Expunge, Feed, Leave, Entered, Looked, Found, Counted, Altered, Expunged, Fed, Left, Refused, Starved, Event}
+use Rattle.imap_session.specs.Exchange.{Call, Answer, Enter, Look, Read, Count, Alter, Expunge, Feed, Leave, Entered, Looked, Found, Counted, Altered, Expunged, Fed, Left, Refused, Starved, Event, Discard, Discarded}
 use Rattle.session_thread.specs.declared.locked_store.Entry.{Entry}
 use Rattle.session_thread.specs.Locks.{Holds, In, LockedStore, entered_at, seeing}
 use Rattle.session_thread.specs.SinceSelect.{shown_since, shown_then}
@@ -64,6 +64,8 @@ by_call here old new (Feed limit) (Fed view changes) there s (was, also, (next, 
 by_call here old new (Feed limit) (Refused fault) there s h = is_still here old new there h.0
 by_call here old new (Leave remove) (Left gone) there s h = cc
 by_call here old new (Leave remove) (Refused fault) there s h = is_still here old new there h.0
+by_call here old new (Discard m uids) Discarded there s h = sees here old new there h.0
+by_call here old new (Discard m uids) (Refused fault) there s h = is_still here old new there h.0
 by_call here old new call (Starved n) there s h = never call h where
   never : (call : Call) → Holds old call (Starved n) new → On here 0 new
   never (Enter m) h = elim h [ ]
@@ -74,6 +76,7 @@ by_call here old new call (Starved n) there s h = never call h where
   never (Expunge uids) h = elim h [ ]
   never (Feed limit) h = elim h [ ]
   never (Leave remove) h = elim h [ ]
+  never (Discard m uids) h = elim h [ ]
 by_call here old new _ _ there s h = elim h [ ]
 
 -- ---- what was shown in all
@@ -87,6 +90,7 @@ then_shown shown (Looked view) s = sym (append-nil shown)
 then_shown shown (Found row) s = sym (append-nil shown)
 then_shown shown (Counted status) s = sym (append-nil shown)
 then_shown shown (Altered flags) s = sym (append-nil shown)
+then_shown shown Discarded s = sym (append-nil shown)
 then_shown shown (Refused fault) s = sym (append-nil shown)
 then_shown shown (Starved n) s = sym (append-nil shown)
 

@@ -13,7 +13,7 @@ use Rattle.house_history.specs.Legal.{HasUid, Legal}
 use Rattle.workers_sync.specs.Carried.{Carried}
 use Rattle.workers_sync.specs.declared.courier.Lost.{Lost}
 use Rattle.imap_session.specs.declared.standing.After.{After}
-use Rattle.imap_session.specs.Exchange.{Call, Answer, Enter, Look, Read, Count, Alter, Expunge, Feed, Leave, Entered, Looked, Found, Counted, Altered, Expunged, Fed, Left, Refused, Starved, Event, Standing, Turn, may_send, nothing_more, begun_with}
+use Rattle.imap_session.specs.Exchange.{Call, Answer, Enter, Look, Read, Count, Alter, Expunge, Feed, Leave, Entered, Looked, Found, Counted, Altered, Expunged, Fed, Left, Refused, Starved, Event, Standing, Turn, may_send, nothing_more, begun_with, Discard, Discarded}
 use Rattle.imap_session.specs.Commands.{greeting, turn_of_long_line, with_bytes, says}
 use Rattle.imap_session.specs.Store.{Met}
 use Rattle.imap_session.specs.Dialogue as dialogue
@@ -72,6 +72,10 @@ legal_left : (old new : LockedStore) (call : Call) (gone : ℕ) → Holds old ca
 legal_left old new (Leave remove) gone ((here, there, (found, left, does, k)), is) = k.legal
 legal_left old new _ gone h = absurd h
 
+legal_discarded : (old new : LockedStore) (call : Call) → Holds old call Discarded new → Legal new.history
+legal_discarded old new (Discard m uids) h = h.2.3.legal
+legal_discarded old new _ h = absurd h
+
 legal_call : (old new : LockedStore) (call : Call) (answer : Answer) → Legal old.history → Holds old call answer new → Legal new.history
 legal_call old new call (Entered opening) legal h = legal_entered old new call opening h
 legal_call old new call (Looked view) legal h = legal_looked old new call view legal h
@@ -81,6 +85,7 @@ legal_call old new call (Altered flags) legal h = legal_altered old new call fla
 legal_call old new call (Expunged view changes gone) legal h = legal_expunged old new call view changes gone h
 legal_call old new call (Fed view changes) legal h = legal_fed old new call view changes h
 legal_call old new call (Left gone) legal h = legal_left old new call gone h
+legal_call old new call Discarded legal h = legal_discarded old new call h
 legal_call old new call (Refused fault) legal h = subst (λ (p : LockedStore). Legal p.history) (sym (still old new call fault h)) legal
 legal_call old new call (Starved n) legal h = absurd (never old new call n h)
 

@@ -36,7 +36,7 @@ use Rattle.house.specs.declared.event.Event.TheVariants.{Bytes, Vanish, Put, Tak
 use Rattle.house.proofs.Carried.{speaks_carried}
 use Rattle.exactly_once.specs.Promise.{Entry, IsRecord, text_of}
 use Rattle.laws_client.proofs.Dialogues.{AreTextsShort, IsSenderShort, dialogue_fine, event_fine}
-use Rattle.laws_client.proofs.Mailed.{IsMailShort, bytes_mail, idle_mail, line_mail, long_mail, verdict_mail}
+use Rattle.laws_client.proofs.Mailed.{IsMailShort, bytes_mail, idle_mail, line_mail, long_mail, verdict_mail, OriginFits}
 use Rattle.laws_client.proofs.Moved.{Calls, Moved, moved, rested, stepped}
 use Rattle.laws_client.proofs.Texts.{AreShort, IsJobShort, PutsShort, short_empty, short_step}
 
@@ -138,9 +138,9 @@ converses_short step most (silent now old) k = k
 converses_short step most (ends_with now next one old new said how stops a) k = one_short step most now one old new said how next a k
 converses_short step most (goes_on now between next one others old mid new first second how follows a more) k = converses_short step most more (one_short step most now one old mid first _ between a k)
 
-sent_short : (most seat serial : ℕ) (sent : Option Sent) → most < 2 ^ 31 → IfSome sent (λ s. length s.append.text ≤ most + most_return_path) → Every IsJobShort (seated.copies_of seat serial sent)
+sent_short : (most seat serial : ℕ) (sent : Option Sent) → most < 2 ^ 31 → IfSome sent (λ s. (length s.append.text ≤ most + most_return_path) × OriginFits most s.origin) → Every IsJobShort (seated.copies_of seat serial sent)
 sent_short most seat serial None small h = tt
-sent_short most seat serial (Some s) small h = copies_short (seated.keys_of seat serial (Some s)) (s.append.mailbox ∷ []) s.append.text s.append.flags (fits most (length s.append.text) small h)
+sent_short most seat serial (Some s) small h = copies_short (seated.keys_of seat serial (Some s)) (s.append.mailbox ∷ []) s.append.text s.append.flags (fits most (length s.append.text) small h.0)
 
 session_works : {S : Type 0} (step : S → calls.Call → calls.Answer → S → Type 0) (most seat : ℕ) (v : SeatedVisitor) (old new : S) (after : SeatedVisitor) (said : List ℕ) → most < 2 ^ 31 → IsMailShort most v.session.standing.mailing
     → seated.Works step seat v old new after said → SessionShort most after

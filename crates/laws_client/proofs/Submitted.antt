@@ -15,7 +15,7 @@ use Rattle.imap_grammar.specs.declared.command.ImapFault.{ImapFault}
 use Rattle.delivery_token.specs.declared.Verdict.{Verdict}
 use Rattle.mailbox.specs.declared.clients.MailFault.TheVariants.{Stranger, Lapped}
 use Rattle.imap_session.specs.declared.standing.Selected.{Selected}
-use Rattle.imap_session.specs.Exchange.{Answer, Fed, Refused, is_idling, PendingLiteral, Asked, Dropped, Folder, ForDone, ForLiteral, ForNothing, ForVerdict, Mailing, Sent, Standing, Turn, Unasked, Waiting, waiting, Argument, Message, Response, Purpose}
+use Rattle.imap_session.specs.Exchange.{Answer, Fed, Refused, is_idling, PendingLiteral, Asked, Dropped, Folder, ForDone, ForLiteral, ForNothing, ForVerdict, Mailing, Sent, Standing, Turn, Unasked, Waiting, waiting, Argument, Message, Response, Purpose, Origin, Client, Copied, Batch}
 use Rattle.imap_session.specs.Commands.{due_of, fault_text, idle_turn_in, kept_text, number_named, on_command, on_idle_line, on_read, on_rest, on_verdict, only_says, taking, turn_of, turn_with, with_bytes, without_begun, without_sent, logged_in, logs_in_as, on_line, says, on_text_line, flags_for, mailbox_for, completed, response_in, most_line}
 use Rattle.imap_session.specs.Store.{IdleTurns, Met}
 use Rattle.house_peers.proofs.Rising.{idles_keep}
@@ -25,7 +25,7 @@ use Rattle.laws_client.proofs.Turns.{the_turn}
 use Rattle.laws_client.specs.Appends.{IsSentAs, IsSpelled, as_it_stands, with_literal, with_response, CameAs, CameBy, IsCopyOf}
 use Rattle.laws_client.specs.Lives.{IsSentFor}
 use Rattle.laws_client.proofs.Moved.{Calls}
-use Rattle.laws_client.proofs.Waiting.{ForItsArgument, ForItsLiteral, ForItsResponse, ForItsVerdict, IsMail, SubmitsNone, append_mail, argument_mail, given_mail, response_mail, idling_mail, other_mail, rest_mail, verdict_mail, ForItsCopy, copy_mail}
+use Rattle.laws_client.proofs.Waiting.{ForItsArgument, ForItsLiteral, ForItsResponse, ForItsVerdict, IsMail, SubmitsNone, append_mail, argument_mail, given_mail, response_mail, idling_mail, other_mail, rest_mail, verdict_mail, ForItsCopy, copy_mail, ForTheNext, IsNext}
 use Rattle.laws_client.proofs.Barred.{line_case}
 use Rattle.imap_session.specs.Texts.{response_text}
 use Rattle.change_ring.specs.declared.change.Flags.{Flags}
@@ -34,10 +34,8 @@ use Rattle.imap_grammar.specs.Literals.{announced, quoted}
 use Rattle.laws_client.specs.Commands.{whole_line, whole_in, whole_behind, if_kept}
 use Rattle.imap_session.proofs.Parts.{text_line_has}
 use Rattle.laws_client.proofs.WholeLines.{turn_given, text_awaits, turn_has}
-use Rattle.imap_session.specs.declared.standing.Origin.{Origin}
-use Rattle.imap_session.specs.declared.standing.Origin.TheVariants.{Client, Copied}
-use Rattle.imap_session.specs.declared.standing.Source.{Source}
 use Rattle.imap_grammar.specs.declared.command.CopyMessages.{CopyMessages}
+use Rattle.mailbox.specs.declared.clients.Row.{Row}
 
 -- ---- what stays so behind a line
 
@@ -155,21 +153,25 @@ appended_more folders sent bytes message h = record {
   whole = ap (λ (x : List ℕ). x ++ bytes) h.whole ∙ append_assoc (h.front ++ (h.bytes ++ crlf) ++ message.append.text ++ crlf) h.behind bytes;
 }
 
-copied_more : (folders : List Folder) (sent bytes : List ℕ) (message : Sent) (source : Source) → IsCopyOf folders sent message source
-    → IsCopyOf folders (sent ++ bytes) message source
-copied_more folders sent bytes message source h = record {
+pub copied_more : (folders : List Folder) (sent bytes : List ℕ) (message : Sent) (batch : Batch) → IsCopyOf folders sent message batch
+    → IsCopyOf folders (sent ++ bytes) message batch
+copied_more folders sent bytes message batch h = record {
   front = h.front;
   bytes = h.bytes;
   line = h.line;
   behind = h.behind ++ bytes;
   copy = h.copy;
   view = h.view;
+  uids = h.uids;
   spelled = h.spelled;
   reads = h.reads;
   named = h.named;
   by_uid = h.by_uid;
   moves = h.moves;
-  one = h.one;
+  set = h.set;
+  some = h.some;
+  all = h.all;
+  place = h.place;
   whole = ap (λ (x : List ℕ). x ++ bytes) h.whole ∙ append_assoc (h.front ++ (h.bytes ++ crlf)) h.behind bytes;
 }
 
@@ -178,7 +180,7 @@ sent_more folders sent bytes message h = by message.origin h
   where
     by : (origin : Origin) → CameBy origin folders sent message → CameBy origin folders (sent ++ bytes) message
     by Client h = appended_more folders sent bytes message h
-    by (Copied source) h = copied_more folders sent bytes message source h
+    by (Copied batch) h = copied_more folders sent bytes message batch h
 
 waits_more : (folders : List Folder) (sent bytes : List ℕ) (o : Option Sent) → IfSome o (CameAs folders sent) → IfSome o (CameAs folders (sent ++ bytes))
 waits_more folders sent bytes None h = tt
@@ -192,7 +194,7 @@ same_mail folders sent bytes now next m same waits begun = record {
   waits = subst (λ (o : Option Sent). IfSome o (CameAs folders (sent ++ bytes))) (sym waits) (waits_more folders sent bytes now.mailing.sent m.waits);
 }
 
-command_case : {X : Type 0} (command : Command) → ((append : Append) → command ≡ commands.Append append → X)
+pub command_case : {X : Type 0} (command : Command) → ((append : Append) → command ≡ commands.Append append → X)
     → ((copy : CopyMessages) → command ≡ commands.Copy copy → X) → (SubmitsNone command → X) → X
 command_case commands.Noop f h g = g tt
 command_case (commands.Append append) f h g = f append refl
@@ -325,7 +327,7 @@ copy_waits folders sent bytes line tag copy now next m same says reads (inr (For
 copy_waits folders sent bytes line tag copy now next m same says reads (inr (ForNothing, p, e)) = absurd p
 copy_waits folders sent bytes line tag copy now next m same says reads (inr (ForLiteral coming q size, p, e)) = absurd p
 copy_waits folders sent bytes line tag copy now next m same says reads (inr (ForVerdict Client mailbox flags text, p, e)) = absurd p.1
-copy_waits folders sent bytes line tag copy now next m same says reads (inr (ForVerdict (Copied source) mailbox flags text, p, e)) = record {
+copy_waits folders sent bytes line tag copy now next m same says reads (inr (ForVerdict (Copied batch) mailbox flags text, p, e)) = record {
   same = same ∙ m.same;
   begun = subst (λ (x : Mailing). IfSome x.begun (IsBegunAs folders (sent ++ bytes))) (sym e) tt;
   waits = subst (λ (x : Mailing). IfSome x.sent (CameAs folders (sent ++ bytes))) (sym e) (record {
@@ -335,12 +337,16 @@ copy_waits folders sent bytes line tag copy now next m same says reads (inr (For
     behind = [];
     copy = copy;
     view = p.1.view;
+    uids = p.1.uids;
     spelled = says.spelled;
     reads = reads;
     named = ap (number_named copy.name) (sym m.same) ∙ p.0;
     by_uid = p.1.by_uid;
     moves = p.1.moves;
-    one = p.1.one;
+    set = p.1.set;
+    some = p.1.some;
+    all = p.1.all;
+    place = omega (arith, ap (length {A = ℕ}) p.1.first, p.1.others);
     whole = says.whole ∙ sym (append-nil (says.front ++ (says.bytes ++ crlf)));
   });
 }
@@ -534,7 +540,52 @@ idle_folders now answers turn e = turned_folders now.selected (is_idling now) no
 
 verdict_folders : (s : Sent) (now : Standing) (verdict : Verdict) (answers : List Answer) (turn : Turn) → turn_with (Some s) now verdict answers ≡ Some turn → turn.standing.folders ≡ now.folders
 unfolding HasFolders
-verdict_folders s now verdict answers turn e = played_keeps (HasFolders now.folders) s.tag (folders_keep now.folders s.tag) (without_sent now) (on_verdict now.selected s.origin s.append.mailbox verdict) answers turn refl e
+verdict_folders s now verdict answers turn e = played_keeps (HasFolders now.folders) s.tag (folders_keep now.folders s.tag) (without_sent now) (on_verdict now.mailing now.selected s.origin s.append.mailbox verdict) answers turn refl e
+
+-- the next message of a batch, behind one whose copy was stored, came by the same command
+next_came : (folders : List Folder) (sent : List ℕ) (s : Sent) (verdict : Verdict) (number to : ℕ) (flags : Flags) (text : List ℕ) (next : Origin) → CameAs folders sent s → IsNext s.origin verdict next flags text → to ≡ s.append.mailbox
+    → CameAs folders sent (record { tag = s.tag; append = record { message = number; mailbox = to; text = text; flags = flags }; origin = next })
+next_came folders sent s verdict number to flags text next came n same =
+    let h : IsCopyOf folders sent s n.batch = subst (λ (o : Origin). CameBy o folders sent s) n.was came in
+    let message : Sent = record { tag = s.tag; append = record { message = number; mailbox = to; text = text; flags = flags }; origin = next } in
+    subst (λ (o : Origin). CameBy o folders sent message) (sym n.is) (record {
+      front = h.front;
+      bytes = h.bytes;
+      line = h.line;
+      behind = h.behind;
+      copy = h.copy;
+      view = h.view;
+      uids = h.uids;
+      spelled = h.spelled;
+      reads = h.reads;
+      named = h.named ∙ ap (λ (x : ℕ). Some x) (sym same);
+      by_uid = h.by_uid;
+      moves = h.moves;
+      set = h.set;
+      some = h.some;
+      all = h.all;
+      place = omega (arith, h.place, ap (length {A = Row}) n.there, length-append n.batch.copies (n.uid ∷ []));
+      whole = h.whole;
+    })
+
+-- nothing is awaited behind a verdict, or the next message of the batch is
+verdict_waits : (folders : List Folder) (sent bytes : List ℕ) (s : Sent) (verdict : Verdict) (now next : Standing) → Mailed folders sent now → CameAs folders sent s → next.folders ≡ now.folders
+    → IsMail (ForTheNext s.origin s.append.mailbox verdict) s.tag (without_sent now).mailing next.mailing → Mailed folders (sent ++ bytes) next
+verdict_waits folders sent bytes s verdict now next m came same (inl e) = record {
+  same = same ∙ m.same;
+  begun = subst (λ (x : Mailing). IfSome x.begun (IsBegunAs folders (sent ++ bytes))) (sym e) tt;
+  waits = subst (λ (x : Mailing). IfSome x.sent (CameAs folders (sent ++ bytes))) (sym e) tt;
+}
+verdict_waits folders sent bytes s verdict now next m came same (inr (ForDone, p, e)) = absurd p
+verdict_waits folders sent bytes s verdict now next m came same (inr (ForNothing, p, e)) = absurd p
+verdict_waits folders sent bytes s verdict now next m came same (inr (ForLiteral coming q size, p, e)) = absurd p
+verdict_waits folders sent bytes s verdict now next m came same (inr (ForVerdict origin to flags text, p, e)) =
+    let message : Sent = record { tag = s.tag; append = record { message = now.mailing.number; mailbox = to; text = text; flags = flags }; origin = origin } in record {
+      same = same ∙ m.same;
+      begun = subst (λ (x : Mailing). IfSome x.begun (IsBegunAs folders (sent ++ bytes))) (sym e) tt;
+      waits = subst (λ (x : Mailing). IfSome x.sent (CameAs folders (sent ++ bytes))) (sym e)
+          (sent_more folders sent bytes message (next_came folders sent s verdict now.mailing.number to flags text origin came p.0 p.1));
+    }
 
 pub mail_turn : (k : Config) (n : ℕ) (folders : List Folder) (sent bytes : List ℕ) (now : Standing) (w : World) (happening : Happening) (turn : Turn) (v : World) → Mailed folders sent now → ComesInTurn now happening → IsSentFor happening bytes
     → leads_to now happening ≡ Some turn → Met (Calls k n) w turn.events v → Mailed folders (sent ++ bytes) turn.standing
@@ -556,13 +607,10 @@ mail_turn k n folders sent bytes now w (Literal kept literal) turn v m few is e 
     by : (o : Option PendingLiteral) → length literal ≤ due_of o → IfSome o (IsBegunAs folders sent) → IfSome (option_map (taking kept literal) o) (IsBegunAs folders (sent ++ literal))
     by None few h = tt
     by (Some a) few h = bytes_come folders sent literal kept a few h
-mail_turn k n folders sent bytes now w (Heard verdict answers) turn v m due is e met = by now.mailing.sent e
+mail_turn k n folders sent bytes now w (Heard verdict answers) turn v m due is e met = by now.mailing.sent m.waits e
   where
-    by : (o : Option Sent) → turn_with o now verdict answers ≡ Some turn → Mailed folders (sent ++ bytes) turn.standing
-    by None e = absurd (none-some turn e)
-    by (Some s) e =
-        let mailing = verdict_mail s.tag (without_sent now) now.selected s.origin s.append.mailbox verdict answers turn e in record {
-          same = verdict_folders s now verdict answers turn e ∙ m.same;
-          begun = subst (λ (x : Mailing). IfSome x.begun (IsBegunAs folders (sent ++ bytes))) (sym mailing) tt;
-          waits = subst (λ (x : Mailing). IfSome x.sent (CameAs folders (sent ++ bytes))) (sym mailing) tt;
-        }
+    by : (o : Option Sent) → IfSome o (CameAs folders sent) → turn_with o now verdict answers ≡ Some turn → Mailed folders (sent ++ bytes) turn.standing
+    by None came e = absurd (none-some turn e)
+    by (Some s) came e =
+        verdict_waits folders sent bytes s verdict now turn.standing m came (verdict_folders s now verdict answers turn e)
+        (verdict_mail s.tag (without_sent now) now.mailing now.selected s.origin s.append.mailbox verdict answers turn e)

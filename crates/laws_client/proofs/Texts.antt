@@ -8,7 +8,7 @@ use Rattle.shard_queue.specs.declared.lane.Entry.TheVariants.{Item, End}
 use Rattle.delivery_token.specs.declared.Job.{Job}
 use Rattle.world.specs.declared.hand.Hand.{Hand}
 use Rattle.world.specs.declared.hand.Hand.TheVariants.{Empty, Taken, Done}
-use Rattle.world.specs.World.{Config, World, Box, Session, Event, Put, PutEnd, Take, Deliver, Answer, Hear, Enter, Status, Read, Store, Expunge, Feed, Leave, Step, put_joins, put_full, put_no_memory, put_shut, end_joins, end_full, takes, take_empty, delivers, deliver_spent, deliver_full, deliver_no_memory, answers, answer_full, hears_one, enters, enter_spent, enter_no_memory, MailStep, mails, mail_lapped, mail_spent, mail_no_memory, LeaveStep, leaves, leave_spent, Logs, in_hand, empty_world, puts}
+use Rattle.world.specs.World.{Config, World, Box, Session, Event, Put, PutEnd, Take, Deliver, Answer, Hear, Enter, Status, Read, Store, Expunge, Feed, Leave, Step, put_joins, put_full, put_no_memory, put_shut, end_joins, end_full, takes, take_empty, delivers, deliver_spent, deliver_full, deliver_no_memory, answers, answer_full, hears_one, enters, enter_spent, enter_no_memory, MailStep, mails, mail_lapped, mail_spent, mail_no_memory, LeaveStep, leaves, leave_spent, Logs, in_hand, empty_world, puts, Discard, discards_them, discard_spent}
 use Rattle.world.proofs.Base.{Every, all_of_every, every_append}
 use Rattle.laws_client.specs.Sizes.{HasShortTexts}
 
@@ -121,3 +121,9 @@ short_step k w (Store n u op) v S h (s, is, step) = mail_short k w n s _ _ _ v S
 short_step k w (Expunge n may_go) v S h (s, is, step) = mail_short k w n s _ _ _ v S step
 short_step k w (Feed n limit) v S h (s, is, step) = mail_short k w n s _ _ _ v S step
 short_step k w (Leave n removing) v S h (s, is, step) = leave_short k w n s _ v S step
+short_step k w (Discard m goes) v S h (discards_them b there L e) = rw e (record {
+  lanes = S.lanes;
+  hands = S.hands;
+  boxes = at_each (λ j (x : Box). Every IsCopyShort x.accepted) w.box m b S.boxes (logs_short k (w.box m) b _ [] L (S.boxes m) tt);
+})
+short_step k w (Discard m goes) v S h (discard_spent there spent e) = rw e S

@@ -16,7 +16,7 @@ use Rattle.imap_session.specs.declared.standing.After.{After}
 use Rattle.imap_session.specs.declared.standing.After.TheVariants.{Bye}
 use Rattle.imap_session.specs.declared.standing.After.TheVariants as afters
 use Rattle.imap_session.proofs.Unkept.{unkept_by}
-use Rattle.imap_session.specs.Exchange.{Call, Answer, Looked, Found, Counted, Altered, Refused, Event, Exchange, Done, Wait, Write, Put, Enter, Look, Read, Count, Alter, Expunge, Feed, Leave, Standing, Turn, refusal_text, refusal_after, refused, closed, nothing_more, having, saying, tagged, Dropped, ForLiteral, ForNothing, Waiting, bye, unkept, waiting}
+use Rattle.imap_session.specs.Exchange.{Call, Answer, Looked, Found, Counted, Altered, Refused, Event, Exchange, Done, Wait, Write, Put, Enter, Look, Read, Count, Alter, Expunge, Feed, Leave, Standing, Turn, refusal_text, refusal_after, refused, closed, nothing_more, having, saying, tagged, Dropped, ForLiteral, ForNothing, Waiting, bye, unkept, waiting, Discard, Discarded}
 use Rattle.laws_client.specs.Client.{Known, Client, knowing, reads}
 use Rattle.laws_client.specs.Beliefs.{Each, Follows, MayShow, TellsNothing}
 use Rattle.laws_client.proofs.Bytes.{reads-append}
@@ -51,6 +51,7 @@ SaysFlags tag p (Alter uid change next) = (flags : Option Flags) (q : Point) →
 SaysFlags tag p (Expunge uids x) = (q : Point) → SaysFlags tag q x
 SaysFlags tag p (Feed limit x) = (q : Point) → SaysFlags tag q x
 SaysFlags tag p (Leave remove x) = ⊥
+SaysFlags tag p (Discard mailbox uids x) = (q : Point) → SeesMoments p (record { call = Discard mailbox uids; answer = Discarded }) q → SaysFlags tag q x
 
 -- ---- a call
 

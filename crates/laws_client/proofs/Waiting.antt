@@ -24,8 +24,8 @@ use Rattle.imap_session.specs.declared.standing.After.TheVariants.{Go, Bye}
 use Rattle.imap_session.specs.declared.standing.After.TheVariants as afters
 use Rattle.imap_session.specs.declared.standing.Selected.{Selected}
 use Rattle.imap_session.specs.Exchange as ex
-use Rattle.imap_session.specs.Exchange.{Answer, PendingLiteral, Asked, Call, Dropped, Entered, Looked, Found, Counted, Altered, Expunged, Fed, Left, Refused, Starved, Exchange, Folder, ForDone, ForLiteral, ForNothing, ForVerdict, Mailing, Standing, Turn, Unasked, Waiting, bye, closed, having, played, refusal_after, saying, text_before, unkept, waiting, where_long, refused, Argument, Message, Response, Purpose, nameless}
-use Rattle.imap_session.specs.Commands.{appending, asking, closing, coming, completed, counting, entering, expunge_set, fetch_messages, fetching, folder_of, if_writable, is_over, last_number, messages_done, most_unasked, notice, noticing, nowhere, number_named, on_chosen, on_command, on_found, on_idle_line, on_rest, on_text, on_verdict, over, says, showing, store_messages, storing, telling_recent, unlimited, wanting, wanting_for, wrong_state, entered_text, logged_in, logs_in_as, on_line, found_in, search_done, search_known, search_messages, searching, awaiting_argument, comes_unasked, flags_for, mailbox_for, awaiting_response, given_up, most_line, told_stored, moving, copied_words}
+use Rattle.imap_session.specs.Exchange.{Answer, PendingLiteral, Asked, Call, Dropped, Entered, Looked, Found, Counted, Altered, Expunged, Fed, Left, Refused, Starved, Exchange, Folder, ForDone, ForLiteral, ForNothing, ForVerdict, Mailing, Standing, Turn, Unasked, Waiting, bye, closed, having, played, refusal_after, saying, text_before, unkept, waiting, where_long, refused, Argument, Message, Response, Purpose, nameless, Discarded, Origin, Client, Copied, Batch}
+use Rattle.imap_session.specs.Commands.{appending, asking, closing, coming, completed, counting, entering, expunge_set, fetch_messages, fetching, folder_of, if_writable, is_over, last_number, messages_done, most_unasked, notice, noticing, nowhere, number_named, on_chosen, on_command, on_found, on_idle_line, on_rest, on_text, on_verdict, over, says, showing, store_messages, storing, telling_recent, unlimited, wanting, wanting_for, wrong_state, entered_text, logged_in, logs_in_as, on_line, found_in, search_done, search_known, search_messages, searching, awaiting_argument, comes_unasked, flags_for, mailbox_for, awaiting_response, given_up, most_line, moving, copied_words, on_stored, told_copied, move_done, with_copy, copies_of, refused_text}
 use Rattle.imap_session.specs.declared.texts.ResponseText.TheVariants as texts
 use Rattle.imap_session.specs.Texts.{response_text}
 use Rattle.imap_session.specs.declared.standing.Profile.{Profile}
@@ -37,11 +37,9 @@ use Rattle.imap_grammar.specs.Keys.{all_messages}
 use Rattle.imap_session.specs.declared.texts.ResponseText.{ResponseText}
 use Rattle.imap_grammar.specs.declared.command.Literal.{Literal}
 use Rattle.imap_grammar.specs.Literals.{announced}
-use Rattle.imap_session.specs.declared.standing.Origin.{Origin}
-use Rattle.imap_session.specs.declared.standing.Origin.TheVariants.{Client, Copied}
 use Rattle.imap_grammar.specs.declared.command.CopyMessages.{CopyMessages}
-use Rattle.exactly_once.proofs.Copying.{copies_so}
-use Rattle.imap_session.specs.declared.standing.Source.{Source}
+use Rattle.exactly_once.proofs.Copying.{copies_so, TakesBack, back_so, stored_so}
+use Rattle.exactly_once.specs.Found.{AreSomeOf}
 
 -- ---- an exchange
 
@@ -59,6 +57,7 @@ WaitsAs A (ex.Alter uid op next) = (flags : Option Flags) → WaitsAs A (next fl
 WaitsAs A (ex.Expunge uids x) = WaitsAs A x
 WaitsAs A (ex.Feed limit x) = WaitsAs A x
 WaitsAs A (ex.Leave remove x) = WaitsAs A x
+WaitsAs A (ex.Discard mailbox uids x) = WaitsAs A x
 
 -- who waits for a literal that wasn't asked for may drop its bytes
 abbrev pub Drops : (Waiting → Type 0) → Type 0
@@ -139,6 +138,7 @@ played_mail A drops tag now (ex.Wait bytes waits) ((Altered a) ∷ more) p = tt
 played_mail A drops tag now (ex.Wait bytes waits) ((Expunged a b c) ∷ more) p = tt
 played_mail A drops tag now (ex.Wait bytes waits) ((Fed a b) ∷ more) p = tt
 played_mail A drops tag now (ex.Wait bytes waits) ((Left a) ∷ more) p = tt
+played_mail A drops tag now (ex.Wait bytes waits) (Discarded ∷ more) p = tt
 played_mail A drops tag now (ex.Wait bytes waits) ((Refused a) ∷ more) p = tt
 played_mail A drops tag now (ex.Wait bytes waits) (Starved n ∷ []) p = unkept_mail A drops tag waits now n p
 played_mail A drops tag now (ex.Wait bytes waits) (Starved n ∷ d ∷ more) p = tt
@@ -151,6 +151,7 @@ played_mail A drops tag now (ex.Write bytes x) ((Altered a) ∷ more) p = then_s
 played_mail A drops tag now (ex.Write bytes x) ((Expunged a b c) ∷ more) p = then_saying A tag now.mailing bytes (played tag now x ((Expunged a b c) ∷ more)) (played_mail A drops tag now x ((Expunged a b c) ∷ more) p)
 played_mail A drops tag now (ex.Write bytes x) ((Fed a b) ∷ more) p = then_saying A tag now.mailing bytes (played tag now x ((Fed a b) ∷ more)) (played_mail A drops tag now x ((Fed a b) ∷ more) p)
 played_mail A drops tag now (ex.Write bytes x) ((Left a) ∷ more) p = then_saying A tag now.mailing bytes (played tag now x ((Left a) ∷ more)) (played_mail A drops tag now x ((Left a) ∷ more) p)
+played_mail A drops tag now (ex.Write bytes x) (Discarded ∷ more) p = then_saying A tag now.mailing bytes (played tag now x (Discarded ∷ more)) (played_mail A drops tag now x (Discarded ∷ more) p)
 played_mail A drops tag now (ex.Write bytes x) ((Refused a) ∷ more) p = then_saying A tag now.mailing bytes (played tag now x ((Refused a) ∷ more)) (played_mail A drops tag now x ((Refused a) ∷ more) p)
 played_mail A drops tag now (ex.Write bytes x) (Starved zero ∷ []) p = closed_mail A tag now (refusal_after NoMemory)
 played_mail A drops tag now (ex.Write bytes x) (Starved zero ∷ d ∷ more) p = then_saying A tag now.mailing bytes (played tag now x (Starved zero ∷ d ∷ more)) (played_mail A drops tag now x (Starved zero ∷ d ∷ more) p)
@@ -166,6 +167,7 @@ played_mail A drops tag now (ex.Enter selected next) ((Altered a) ∷ more) p = 
 played_mail A drops tag now (ex.Enter selected next) ((Expunged a b c) ∷ more) p = tt
 played_mail A drops tag now (ex.Enter selected next) ((Fed a b) ∷ more) p = tt
 played_mail A drops tag now (ex.Enter selected next) ((Left a) ∷ more) p = tt
+played_mail A drops tag now (ex.Enter selected next) (Discarded ∷ more) p = tt
 played_mail A drops tag now (ex.Enter selected next) (Refused a ∷ []) p = closed_mail A tag now (refusal_after a)
 played_mail A drops tag now (ex.Enter selected next) (Refused a ∷ d ∷ more) p = tt
 played_mail A drops tag now (ex.Enter selected next) ((Starved zero) ∷ more) p = tt
@@ -179,6 +181,7 @@ played_mail A drops tag now (ex.Look by_uid set next) ((Altered a) ∷ more) p =
 played_mail A drops tag now (ex.Look by_uid set next) ((Expunged a b c) ∷ more) p = tt
 played_mail A drops tag now (ex.Look by_uid set next) ((Fed a b) ∷ more) p = tt
 played_mail A drops tag now (ex.Look by_uid set next) ((Left a) ∷ more) p = tt
+played_mail A drops tag now (ex.Look by_uid set next) (Discarded ∷ more) p = tt
 played_mail A drops tag now (ex.Look by_uid set next) (Refused a ∷ []) p = closed_mail A tag now (refusal_after a)
 played_mail A drops tag now (ex.Look by_uid set next) (Refused a ∷ d ∷ more) p = tt
 played_mail A drops tag now (ex.Look by_uid set next) (Starved a ∷ more) p = tt
@@ -191,6 +194,7 @@ played_mail A drops tag now (ex.Read uid mark next) ((Altered a) ∷ more) p = t
 played_mail A drops tag now (ex.Read uid mark next) ((Expunged a b c) ∷ more) p = tt
 played_mail A drops tag now (ex.Read uid mark next) ((Fed a b) ∷ more) p = tt
 played_mail A drops tag now (ex.Read uid mark next) ((Left a) ∷ more) p = tt
+played_mail A drops tag now (ex.Read uid mark next) (Discarded ∷ more) p = tt
 played_mail A drops tag now (ex.Read uid mark next) (Refused a ∷ []) p = closed_mail A tag now (refusal_after a)
 played_mail A drops tag now (ex.Read uid mark next) (Refused a ∷ d ∷ more) p = tt
 played_mail A drops tag now (ex.Read uid mark next) ((Starved zero) ∷ more) p = tt
@@ -204,6 +208,7 @@ played_mail A drops tag now (ex.Count mailbox next) ((Altered a) ∷ more) p = t
 played_mail A drops tag now (ex.Count mailbox next) ((Expunged a b c) ∷ more) p = tt
 played_mail A drops tag now (ex.Count mailbox next) ((Fed a b) ∷ more) p = tt
 played_mail A drops tag now (ex.Count mailbox next) ((Left a) ∷ more) p = tt
+played_mail A drops tag now (ex.Count mailbox next) (Discarded ∷ more) p = tt
 played_mail A drops tag now (ex.Count mailbox next) (Refused a ∷ []) p = closed_mail A tag now (refusal_after a)
 played_mail A drops tag now (ex.Count mailbox next) (Refused a ∷ d ∷ more) p = tt
 played_mail A drops tag now (ex.Count mailbox next) ((Starved zero) ∷ more) p = tt
@@ -217,6 +222,7 @@ played_mail A drops tag now (ex.Alter uid op next) ((Altered a) ∷ more) p = th
 played_mail A drops tag now (ex.Alter uid op next) ((Expunged a b c) ∷ more) p = tt
 played_mail A drops tag now (ex.Alter uid op next) ((Fed a b) ∷ more) p = tt
 played_mail A drops tag now (ex.Alter uid op next) ((Left a) ∷ more) p = tt
+played_mail A drops tag now (ex.Alter uid op next) (Discarded ∷ more) p = tt
 played_mail A drops tag now (ex.Alter uid op next) (Refused a ∷ []) p = closed_mail A tag now (refusal_after a)
 played_mail A drops tag now (ex.Alter uid op next) (Refused a ∷ d ∷ more) p = tt
 played_mail A drops tag now (ex.Alter uid op next) ((Starved zero) ∷ more) p = tt
@@ -230,6 +236,7 @@ played_mail A drops tag now (ex.Expunge uids x) ((Altered a) ∷ more) p = tt
 played_mail A drops tag now (ex.Expunge uids x) ((Expunged a b c) ∷ more) p = then_showing A tag now.mailing (ex.Expunge uids) (Expunged a b c) a b (played tag now x more) (played_mail A drops tag now x more p)
 played_mail A drops tag now (ex.Expunge uids x) ((Fed a b) ∷ more) p = tt
 played_mail A drops tag now (ex.Expunge uids x) ((Left a) ∷ more) p = tt
+played_mail A drops tag now (ex.Expunge uids x) (Discarded ∷ more) p = tt
 played_mail A drops tag now (ex.Expunge uids x) (Refused a ∷ []) p = closed_mail A tag now (refusal_after a)
 played_mail A drops tag now (ex.Expunge uids x) (Refused a ∷ d ∷ more) p = tt
 played_mail A drops tag now (ex.Expunge uids x) ((Starved zero) ∷ more) p = tt
@@ -243,6 +250,7 @@ played_mail A drops tag now (ex.Feed limit x) ((Altered a) ∷ more) p = tt
 played_mail A drops tag now (ex.Feed limit x) ((Expunged a b c) ∷ more) p = tt
 played_mail A drops tag now (ex.Feed limit x) ((Fed a b) ∷ more) p = then_showing A tag now.mailing (ex.Feed limit) (Fed a b) a b (played tag now x more) (played_mail A drops tag now x more p)
 played_mail A drops tag now (ex.Feed limit x) ((Left a) ∷ more) p = tt
+played_mail A drops tag now (ex.Feed limit x) (Discarded ∷ more) p = tt
 played_mail A drops tag now (ex.Feed limit x) (Refused a ∷ []) p = closed_mail A tag now (refusal_after a)
 played_mail A drops tag now (ex.Feed limit x) (Refused a ∷ d ∷ more) p = tt
 played_mail A drops tag now (ex.Feed limit x) ((Starved zero) ∷ more) p = tt
@@ -255,11 +263,26 @@ played_mail A drops tag now (ex.Leave remove x) ((Counted a) ∷ more) p = tt
 played_mail A drops tag now (ex.Leave remove x) ((Altered a) ∷ more) p = tt
 played_mail A drops tag now (ex.Leave remove x) ((Expunged a b c) ∷ more) p = tt
 played_mail A drops tag now (ex.Leave remove x) ((Fed a b) ∷ more) p = tt
+played_mail A drops tag now (ex.Leave remove x) (Discarded ∷ more) p = tt
 played_mail A drops tag now (ex.Leave remove x) ((Left a) ∷ more) p = then_having A tag now.mailing (ex.Leave remove) (Left a) (played tag (record now { selected = None }) x more) (played_mail A drops tag (record now { selected = None }) x more p)
 played_mail A drops tag now (ex.Leave remove x) (Refused a ∷ []) p = closed_mail A tag now (refusal_after a)
 played_mail A drops tag now (ex.Leave remove x) (Refused a ∷ d ∷ more) p = tt
 played_mail A drops tag now (ex.Leave remove x) ((Starved zero) ∷ more) p = tt
 played_mail A drops tag now (ex.Leave remove x) ((Starved (suc a)) ∷ more) p = tt
+played_mail A drops tag now (ex.Discard mailbox uids x) [] p = tt
+played_mail A drops tag now (ex.Discard mailbox uids x) ((Entered a) ∷ more) p = tt
+played_mail A drops tag now (ex.Discard mailbox uids x) ((Looked a) ∷ more) p = tt
+played_mail A drops tag now (ex.Discard mailbox uids x) ((Found a) ∷ more) p = tt
+played_mail A drops tag now (ex.Discard mailbox uids x) ((Counted a) ∷ more) p = tt
+played_mail A drops tag now (ex.Discard mailbox uids x) ((Altered a) ∷ more) p = tt
+played_mail A drops tag now (ex.Discard mailbox uids x) ((Expunged a b c) ∷ more) p = tt
+played_mail A drops tag now (ex.Discard mailbox uids x) ((Fed a b) ∷ more) p = tt
+played_mail A drops tag now (ex.Discard mailbox uids x) ((Left a) ∷ more) p = tt
+played_mail A drops tag now (ex.Discard mailbox uids x) (Discarded ∷ more) p = then_having A tag now.mailing (ex.Discard mailbox uids) Discarded (played tag now x more) (played_mail A drops tag now x more p)
+played_mail A drops tag now (ex.Discard mailbox uids x) (Refused a ∷ []) p = closed_mail A tag now (refusal_after a)
+played_mail A drops tag now (ex.Discard mailbox uids x) (Refused a ∷ d ∷ more) p = tt
+played_mail A drops tag now (ex.Discard mailbox uids x) ((Starved zero) ∷ more) p = tt
+played_mail A drops tag now (ex.Discard mailbox uids x) ((Starved (suc a)) ∷ more) p = tt
 
 -- ---- what an exchange is made of
 
@@ -434,16 +457,21 @@ append_mail tag now append answers turn e =
 
 -- ---- COPY and MOVE
 
--- a copy by this command, in its form, of the one message that it names in a view
-pub record IsCopyBy (copy : CopyMessages) (source : Source) : Type 0 where
+-- the first of a batch, by this command, in its form, of the messages that it names in a view
+pub record IsCopyBy (copy : CopyMessages) (batch : Batch) : Type 0 where
   pub view : List ℕ
-  pub one : named_in copy.by_uid copy.set view ≡ Some (source.uid ∷ [])
-  pub by_uid : copy.by_uid ≡ source.by_uid
-  pub moves : copy.moves ≡ source.moves
+  pub uids : List ℕ
+  pub set : named_in copy.by_uid copy.set view ≡ Some uids
+  pub some : AreSomeOf batch.uids uids
+  pub all : copy.by_uid ≡ false → batch.uids ≡ uids
+  pub by_uid : copy.by_uid ≡ batch.by_uid
+  pub moves : copy.moves ≡ batch.moves
+  pub first : batch.copies ≡ []
+  pub others : suc (length batch.left) ≡ length batch.uids
 
 abbrev pub ComesOf : CopyMessages → Origin → Type 0
 ComesOf copy Client = ⊥
-ComesOf copy (Copied source) = IsCopyBy copy source
+ComesOf copy (Copied batch) = IsCopyBy copy batch
 
 -- it waits for the verdict on a copy, in the mailbox that it named
 abbrev pub ForItsCopy : Option ℕ → CopyMessages → Waiting → Type 0
@@ -458,7 +486,20 @@ copy_waits : (now : Standing) (copy : CopyMessages)
 copy_waits now copy =
     copies_so (WaitsAs (ForItsCopy (number_named copy.name now.folders) copy))
     (record { told = λ text. tt; wanted = λ x p. p; looked = λ by_uid set next p. p; found = λ uid mark next p. p }) now copy
-    (λ source mailbox row copied. (copied.named, record { view = copied.view; one = copied.one; by_uid = copied.by_uid; moves = copied.moves }))
+    (λ batch mailbox row copied. (
+      copied.named,
+      record {
+        view = copied.view;
+        uids = copied.uids;
+        set = copied.set;
+        some = copied.some;
+        all = copied.all;
+        by_uid = copied.by_uid;
+        moves = copied.moves;
+        first = copied.first;
+        others = copied.others;
+      },
+    ))
 
 pub copy_mail : (tag : List ℕ) (now : Standing) (copy : CopyMessages) (answers : List Answer) (turn : Turn)
     → on_line (logs_in_as now.login (commands.Copy copy)) now tag (commands.Copy copy) answers ≡ Some turn
@@ -516,20 +557,54 @@ idling_waits selected line = in_either ForItsDone (is_done line) (showing select
 pub idling_mail : (tag : List ℕ) (now : Standing) (selected : Option Selected) (line : List ℕ) (answers : List Answer) (turn : Turn) → played tag now (on_idle_line selected line) answers ≡ Some turn → turn.standing.mailing ≡ now.mailing
 idling_mail tag now selected line answers turn e = so_mail tag now (on_idle_line selected line) answers turn (idling_waits selected line) e
 
-stored_waits : (selected : Option Selected) (origin : Origin) (uidvalidity uid : ℕ) → WaitsAs ForItsDone (told_stored selected origin uidvalidity uid)
-stored_waits selected Client uidvalidity uid = in_showing ForItsDone selected _ tt
-stored_waits selected (Copied source) uidvalidity uid =
-    in_either ForItsDone source.moves (moving source uidvalidity uid) (showing selected (says (copied_words uidvalidity source.uid uid)))
-    (λ flags. tt) (in_showing ForItsDone selected _ tt)
+-- a session waits for the verdict on the next message of a batch, one more copy of which was stored
+pub record IsNext (origin : Origin) (verdict : Verdict) (next : Origin) (flags : Flags) (text : List ℕ) : Type 0 where
+  pub batch : Batch
+  pub uid : ℕ
+  pub row : Row
+  pub left : List Row
+  pub was : origin ≡ Copied batch
+  pub stored : verdict ≡ verdicts.Stored uid
+  pub there : batch.left ≡ row ∷ left
+  pub is : next ≡ Copied (record (with_copy uid batch) { left = left })
+  pub has_flags : flags ≡ row.flags
+  pub has_text : text ≡ row.text
 
-verdict_waits : (selected : Option Selected) (origin : Origin) (mailbox : ℕ) (verdict : Verdict)
-    → WaitsAs ForItsDone (on_verdict selected origin mailbox verdict)
-verdict_waits selected origin mailbox (verdicts.Stored uid) = λ status. stored_waits selected origin status.uidvalidity uid
-verdict_waits selected origin mailbox (verdicts.Refused why) = tt
+abbrev pub ForTheNext : Origin → (mailbox : ℕ) → Verdict → Waiting → Type 0
+ForTheNext origin mailbox verdict (ForVerdict next to flags text) = IsNext origin verdict next flags text × (to ≡ mailbox)
+ForTheNext origin mailbox verdict w = ⊥
 
-pub verdict_mail : (tag : List ℕ) (now : Standing) (selected : Option Selected) (origin : Origin) (mailbox : ℕ) (verdict : Verdict) (answers : List Answer) (turn : Turn) → played tag now (on_verdict selected origin mailbox verdict) answers ≡ Some turn → turn.standing.mailing ≡ now.mailing
-verdict_mail tag now selected origin mailbox verdict answers turn e =
-    so_mail tag now (on_verdict selected origin mailbox verdict) answers turn (verdict_waits selected origin mailbox verdict) e
+next_drops : (origin : Origin) (mailbox : ℕ) (verdict : Verdict) → Drops (ForTheNext origin mailbox verdict)
+next_drops origin mailbox verdict purpose size p = absurd p
+
+copied_waits : (A : Waiting → Type 0) (selected : Option Selected) (batch : Batch) (uidvalidity : ℕ) → WaitsAs A (told_copied selected batch uidvalidity)
+copied_waits A selected batch uidvalidity =
+    in_either A batch.moves (moving selected uidvalidity batch) (showing selected (says (copied_words uidvalidity batch)))
+    (in_found A (λ (s : Selected). ex.Discard s.mailbox batch.uids (ex.Feed unlimited (move_done batch))) (move_done batch) (λ s. tt) tt selected) (in_showing A selected _ tt)
+
+takes_back : (A : Waiting → Type 0) → TakesBack (WaitsAs A)
+takes_back A = record { told = λ text. tt; removed = λ mailbox uids x p. p }
+
+stored_waits : (mailing : Mailing) (selected : Option Selected) (origin : Origin) (mailbox uid : ℕ)
+    → WaitsAs (ForTheNext origin mailbox (verdicts.Stored uid)) (on_stored mailing selected origin mailbox uid)
+stored_waits mailing selected Client mailbox uid = λ status. in_showing (ForTheNext Client mailbox (verdicts.Stored uid)) selected _ tt
+stored_waits mailing selected (Copied batch) mailbox uid =
+    let A : Waiting → Type 0 = ForTheNext (Copied batch) mailbox (verdicts.Stored uid) in
+    stored_so (WaitsAs A) (takes_back A) mailing selected batch mailbox uid
+    (λ row left is. (record { batch = batch; uid = uid; row = row; left = left; was = refl; stored = refl; there = is; is = refl; has_flags = refl; has_text = refl }, refl))
+    (λ none status. copied_waits A selected (with_copy uid batch) status.uidvalidity)
+
+verdict_waits : (mailing : Mailing) (selected : Option Selected) (origin : Origin) (mailbox : ℕ) (verdict : Verdict)
+    → WaitsAs (ForTheNext origin mailbox verdict) (on_verdict mailing selected origin mailbox verdict)
+verdict_waits mailing selected origin mailbox (verdicts.Stored uid) = stored_waits mailing selected origin mailbox uid
+verdict_waits mailing selected origin mailbox (verdicts.Refused why) =
+    let A : Waiting → Type 0 = ForTheNext origin mailbox (verdicts.Refused why) in back_so (WaitsAs A) (takes_back A) mailbox (copies_of origin) (refused_text why)
+
+pub verdict_mail : (tag : List ℕ) (now : Standing) (mailing : Mailing) (selected : Option Selected) (origin : Origin) (mailbox : ℕ) (verdict : Verdict) (answers : List Answer) (turn : Turn)
+    → played tag now (on_verdict mailing selected origin mailbox verdict) answers ≡ Some turn → IsMail (ForTheNext origin mailbox verdict) tag now.mailing turn.standing.mailing
+verdict_mail tag now mailing selected origin mailbox verdict answers turn e =
+    let A : Waiting → Type 0 = ForTheNext origin mailbox verdict in
+    some_mail A tag now.mailing _ turn (played_mail A (next_drops origin mailbox verdict) tag now (on_verdict mailing selected origin mailbox verdict) answers (verdict_waits mailing selected origin mailbox verdict)) e
 
 -- behind a literal it waits for the verdict on that message
 abbrev pub ForItsVerdict : PendingLiteral → Bool → Waiting → Type 0

@@ -1,6 +1,6 @@
 -- After an OK that came to no command, so to DONE or to the verdict on a message, what the session counts is what is there, where it has selected a mailbox.
 use Rattle.std.proofs.Common.{◌≡◌, ◌⊎◌, inl, inr, ℕ, Bool, true, false, List, [], ◌∷◌, ◌++◌, length, refl, sym, ap, ◌∙◌, subst, Option, Some, None, append_assoc}
-use Rattle.std.specs.Prelude.{codes, IfSome, ◌==◌, if◌then◌else◌}
+use Rattle.std.specs.Prelude.{codes, IfSome, ◌==◌, if◌then◌else◌, nat_le}
 use Rattle.std.proofs.lemmas.Bool.{false≢true}
 use Rattle.std.proofs.lemmas.Option.{none-some}
 use Rattle.delivery_token.specs.declared.Verdict.{Verdict}
@@ -12,8 +12,8 @@ use Rattle.imap_grammar.specs.Reading.{is_done}
 use Rattle.imap_grammar.specs.declared.command.Command.TheVariants as commands
 use Rattle.imap_session.specs.declared.standing.After.TheVariants.{Go}
 use Rattle.imap_session.specs.declared.standing.Selected.{Selected}
-use Rattle.imap_session.specs.Exchange.{Answer, Event as Happened, PendingLiteral, Counted, Refused, Count, Done, Feed, Sent, Standing, Turn, having, is_idling, played, refusal_text, refused, untagged}
-use Rattle.imap_session.specs.Commands.{appended_words, completed, on_idle_line, on_verdict, refused_text, says, showing, turn_of, turn_with, unlimited, without_begun, without_sent, told_stored, moving, copied_words, moved_words}
+use Rattle.imap_session.specs.Exchange.{Answer, Event as Happened, PendingLiteral, Counted, Refused, Count, Done, Feed, Sent, Standing, Turn, having, is_idling, played, refusal_text, refused, untagged, Origin, Batch, Copied, Discard, Discarded, Exchange, ForVerdict, Mailing, Wait, Client as FromClient, tagged}
+use Rattle.imap_session.specs.Commands.{appended_words, completed, on_idle_line, on_verdict, refused_text, says, showing, turn_of, turn_with, unlimited, without_begun, without_sent, moving, copied_words, moved_words, on_stored, told_copied, told_appended, with_validity, submitting_first, taking_back, with_copy, copies_of, last_number}
 use Rattle.imap_session.specs.Store.{Met}
 use Rattle.laws_client.specs.Beliefs.{IsRight}
 use Rattle.laws_client.specs.Client.{Client, Known, knowing, reads}
@@ -33,7 +33,7 @@ use Rattle.laws_client.proofs.RecordCurrent.{fed_or_refused, LastFed, last_curre
 use Rattle.laws_client.proofs.RecordEntering.{mapped, only_done, only_refused}
 use Rattle.laws_client.proofs.LastLines.{Apart, IsWord, Spares, TurnFine, apart_tells_none, refusal_apart, silence_tells_none, tagged_apart, behind_lines}
 use Rattle.laws_client.proofs.LastRests.{long_line_apart, no_apart, part_fine, rest_fine}
-use Rattle.laws_client.proofs.LastTurns.{IsFine, idle_fine}
+use Rattle.laws_client.proofs.LastTurns.{IsFine, idle_fine, awaits_silent}
 use Rattle.laws_client.proofs.Living.{hears_last, lives_known}
 use Rattle.laws_client.proofs.Moved.{Calls, short_met}
 use Rattle.laws_client.proofs.OkCurrent.{has_list}
@@ -44,12 +44,11 @@ use Rattle.imap_session.specs.Texts.{response_text}
 use Rattle.imap_grammar.specs.declared.command.Verb.TheVariants as verbs
 use Rattle.laws_client.specs.Commands.{whole_line}
 use Rattle.laws_client.proofs.WholeLines.{turn_has}
-use Rattle.imap_session.specs.declared.standing.Origin.{Origin}
-use Rattle.imap_session.specs.declared.standing.Origin.TheVariants as origins
-use Rattle.imap_session.specs.declared.standing.Source.{Source}
 use Rattle.imap_grammar.specs.Verbs.{copy_verb}
 use Rattle.exactly_once.proofs.Whole.{IsWhole, ends, whole_append}
 use Rattle.laws_client.proofs.Moves.{EndsSo, Moves, move_done, move_refused, moves_so}
+use Rattle.mailbox.specs.declared.clients.MailFault.TheVariants.{Spent}
+use Rattle.mailbox.specs.declared.clients.Row.{Row}
 
 -- ---- words that say OK
 
@@ -106,76 +105,105 @@ refused_ok tag t call now fault turn e ok =
     let only = only_refused tag now fault (refused tag now fault) refl in
     never turn.bytes (subst (Apart starts_ok) (sym (sym (ap (λ (x : Turn). x.bytes) (ap (the_turn turn) e)) ∙ only.bytes)) (refusal_apart starts_ok ok_spares tag t fault)) ok
 
--- a message that is moved
-moves_current : (k : Config) (n uidvalidity uid : ℕ) (source : Source) (tag : List ℕ) → IsWord tag
-    → (now : Standing) (w : World) (answers : List Answer) (turn : Turn) (v : World) → Kept k w
-    → played tag now (moving source uidvalidity uid) answers ≡ Some turn → Met (Calls k n) w turn.events v → SaysOk turn.bytes → IsCurrent v n
-moves_current k n uidvalidity uid source tag t now w answers turn v K e met ok = by (moves_so uidvalidity uid source tag now answers turn e)
+-- messages that are moved
+moves_current : (k : Config) (n uidvalidity : ℕ) (batch : Batch) (tag : List ℕ) → IsWord tag
+    → (selected : Selected) (now : Standing) (w : World) (answers : List Answer) (turn : Turn) (v : World) → Kept k w
+    → played tag now (moving (Some selected) uidvalidity batch) answers ≡ Some turn → Met (Calls k n) w turn.events v → SaysOk turn.bytes → IsCurrent v n
+moves_current k n uidvalidity batch tag t selected now w answers turn v K e met ok = by (moves_so uidvalidity batch tag selected now answers turn e)
   where
     first : List ℕ
-    first = untagged (moved_words uidvalidity source.uid uid)
+    first = untagged (moved_words uidvalidity batch)
 
     ended : (more : Turn) → turn.bytes ≡ first ++ more.bytes → more.events ≡ turn.events
-        → EndsSo tag (response_text (texts.Completed (copy_verb source.by_uid true))) more → IsCurrent v n
+        → EndsSo tag (response_text (texts.Completed (copy_verb batch.by_uid true))) more → IsCurrent v n
     ended more bytes events (move_done front whole is fed) =
         last_current k n w turn.events v (false ≡ true) K (λ h. absurd (false≢true h))
         (subst (λ (es : List Happened). LastFed (false ≡ true) es) events fed) met
     ended more bytes events (move_refused front whole fault is) =
         let all : turn.bytes ≡ (first ++ front) ++ refusal_text tag fault =
         bytes ∙ ap (λ (b : List ℕ). first ++ b) is ∙ sym (append_assoc first front (refusal_text tag fault)) in
-        let before : IsWhole (first ++ front) = whole_append first front (ends (codes "* ") (moved_words uidvalidity source.uid uid)) whole in
+        let before : IsWhole (first ++ front) = whole_append first front (ends (codes "* ") (moved_words uidvalidity batch)) whole in
         absurd
         (never turn.bytes
         (subst (Apart starts_ok) (sym all)
         (behind_lines starts_ok (first ++ front) (refusal_text tag fault) before (refusal_apart starts_ok ok_spares tag t fault))) ok)
 
-    by : Moves uidvalidity uid source tag turn → IsCurrent v n
+    by : Moves uidvalidity batch tag turn → IsCurrent v n
     by m = ended m.more m.bytes m.events m.ends
 
-copies_current : (k : Config) (n uidvalidity uid : ℕ) (source : Source) (moves : Bool) (tag : List ℕ) → IsWord tag
+copies_current : (k : Config) (n uidvalidity : ℕ) (batch : Batch) (moves : Bool) (tag : List ℕ) → IsWord tag
     → (selected : Selected) (now : Standing) (w : World) (answers : List Answer) (turn : Turn) (v : World) → Kept k w
-    → played tag now (if moves then moving source uidvalidity uid else showing (Some selected) (says (copied_words uidvalidity source.uid uid))) answers ≡ Some turn → Met (Calls k n) w turn.events v → SaysOk turn.bytes → IsCurrent v n
-copies_current k n uidvalidity uid source true tag t selected now w answers turn v K e met ok =
-    moves_current k n uidvalidity uid source tag t now w answers turn v K e met ok
-copies_current k n uidvalidity uid source false tag t selected now w answers turn v K e met ok =
-    fed_ok k n tag (copied_words uidvalidity source.uid uid) now w answers turn v K t e met ok
+    → played tag now (if moves then moving (Some selected) uidvalidity batch else showing (Some selected) (says (copied_words uidvalidity batch))) answers ≡ Some turn → Met (Calls k n) w turn.events v → SaysOk turn.bytes → IsCurrent v n
+copies_current k n uidvalidity batch true tag t selected now w answers turn v K e met ok =
+    moves_current k n uidvalidity batch tag t selected now w answers turn v K e met ok
+copies_current k n uidvalidity batch false tag t selected now w answers turn v K e met ok =
+    fed_ok k n tag (copied_words uidvalidity batch) now w answers turn v K t e met ok
 
-told_current : (k : Config) (n uidvalidity uid : ℕ) (origin : Origin) (tag : List ℕ) → IsWord tag
-    → (selected : Selected) (now : Standing) (w : World) (answers : List Answer) (turn : Turn) (v : World) → Kept k w
-    → played tag now (told_stored (Some selected) origin uidvalidity uid) answers ≡ Some turn → Met (Calls k n) w turn.events v → SaysOk turn.bytes
+-- a mailbox is counted, and then it is so
+counted_current : (k : Config) (n : ℕ) (next : ℕ → Exchange) (mailbox : ℕ) (tag : List ℕ) → IsWord tag → (now : Standing) (w : World) (answers : List Answer) (turn : Turn) (v : World)
+    → played tag now (with_validity mailbox next) answers ≡ Some turn → Met (Calls k n) w turn.events v → SaysOk turn.bytes
+    → ((uidvalidity : ℕ) (rest : List Answer) (more : Turn) → played tag now (next uidvalidity) rest ≡ Some more → Met (Calls k n) w more.events v → SaysOk more.bytes → IsCurrent v n)
     → IsCurrent v n
-told_current k n uidvalidity uid origins.Client tag t selected now w answers turn v K e met ok =
-    fed_ok k n tag (appended_words uidvalidity uid) now w answers turn v K t e met ok
-told_current k n uidvalidity uid (origins.Copied source) tag t selected now w answers turn v K e met ok =
-    copies_current k n uidvalidity uid source source.moves tag t selected now w answers turn v K e met ok
-
-stored_current : (k : Config) (n : ℕ) (origin : Origin) (mailbox uid : ℕ) (tag : List ℕ) → IsWord tag
-    → (selected : Selected) (now : Standing) (w : World) (answers : List Answer) (turn : Turn) (v : World) → Kept k w
-    → played tag now (on_verdict (Some selected) origin mailbox (verdicts.Stored uid)) answers ≡ Some turn → Met (Calls k n) w turn.events v
-    → SaysOk turn.bytes → IsCurrent v n
-stored_current k n origin mailbox uid tag t selected now w [] turn v K e met ok = absurd (none-some turn e)
-stored_current k n origin mailbox uid tag t selected now w (Counted status ∷ more) turn v K e met ok =
-    let m =
-    mapped (having (Count mailbox) (Counted status)) (played tag now (told_stored (Some selected) origin status.uidvalidity uid) more) turn e in
+counted_current k n next mailbox tag t now w [] turn v e met ok then_so = absurd (none-some turn e)
+counted_current k n next mailbox tag t now w (Counted status ∷ rest) turn v e met ok then_so =
+    let m = mapped (having (Count mailbox) (Counted status)) (played tag now (next status.uidvalidity) rest) turn e in
     let first : Met (Calls k n) w (record { call = Count mailbox; answer = Counted status } ∷ m.more.events) v =
     subst (λ (x : Turn). Met (Calls k n) w x.events v) (sym m.makes) met in
     let same : first.0 ≡ w = first.1.0 in
-    told_current k n status.uidvalidity uid origin tag t selected now w more m.more v K m.is
-    (subst (λ (u : World). Met (Calls k n) u m.more.events v) same first.2)
+    then_so status.uidvalidity rest m.more m.is (subst (λ (u : World). Met (Calls k n) u m.more.events v) same first.2)
     (subst (λ (x : Turn). SaysOk x.bytes) (sym m.makes) ok)
-stored_current k n origin mailbox uid tag t selected now w (Refused fault ∷ []) turn v K e met ok =
-    absurd (refused_ok tag t (Count mailbox) now fault turn e ok)
-stored_current k n origin mailbox uid tag t selected now w (_ ∷ more) turn v K e met ok = absurd (none-some turn e)
+counted_current k n next mailbox tag t now w (Refused fault ∷ []) turn v e met ok then_so = absurd (refused_ok tag t (Count mailbox) now fault turn e ok)
+counted_current k n next mailbox tag t now w (_ ∷ rest) turn v e met ok then_so = absurd (none-some turn e)
 
-verdict_current : (k : Config) (n : ℕ) (origin : Origin) (mailbox : ℕ) (verdict : Verdict) (tag : List ℕ) → IsWord tag
-    → (selected : Selected) (now : Standing) (w : World) (answers : List Answer) (turn : Turn) (v : World) → Kept k w
-    → played tag now (on_verdict (Some selected) origin mailbox verdict) answers ≡ Some turn → Met (Calls k n) w turn.events v → SaysOk turn.bytes
+-- a text that is no OK, also where copies are removed before it
+no_ok : (tag : List ℕ) → IsWord tag → (text : List ℕ) (now : Standing) (answers : List Answer) (turn : Turn) → Apart starts_ok (tagged tag text) → played tag now (says text) answers ≡ Some turn → SaysOk turn.bytes → ⊥
+no_ok tag t text now answers turn apart e ok =
+    let d = only_done tag text Go now answers turn e in
+    never turn.bytes (subst (Apart starts_ok) (sym d.bytes) apart) ok
+
+back_ok : (tag : List ℕ) → IsWord tag → (text : List ℕ) (mailbox : ℕ) (copies : List ℕ) (now : Standing) (answers : List Answer) (turn : Turn) → Apart starts_ok (tagged tag text)
+    → played tag now (taking_back mailbox copies (says text)) answers ≡ Some turn → SaysOk turn.bytes → ⊥
+back_ok tag t text mailbox [] now answers turn apart e ok = no_ok tag t text now answers turn apart e ok
+back_ok tag t text mailbox (uid ∷ uids) now [] turn apart e ok = absurd (none-some turn e)
+back_ok tag t text mailbox (uid ∷ uids) now (Discarded ∷ rest) turn apart e ok =
+    let m = mapped (having (Discard mailbox (uid ∷ uids)) Discarded) (played tag now (says text) rest) turn e in
+    no_ok tag t text now rest m.more apart m.is (subst (λ (x : Turn). SaysOk x.bytes) (sym m.makes) ok)
+back_ok tag t text mailbox (uid ∷ uids) now (Refused fault ∷ []) turn apart e ok = refused_ok tag t (Discard mailbox (uid ∷ uids)) now fault turn e ok
+back_ok tag t text mailbox (uid ∷ uids) now (_ ∷ rest) turn apart e ok = absurd (none-some turn e)
+
+-- one more copy of a batch is stored
+batch_current : (k : Config) (n : ℕ) (batch : Batch) (mailbox : ℕ) (tag : List ℕ) → IsWord tag → (mailing : Mailing)
+    → (selected : Selected) (now : Standing) (w : World) (answers : List Answer) (turn : Turn) (v : World) → Kept k w → Met (Calls k n) w turn.events v → SaysOk turn.bytes → (left : List Row)
+    → played tag now (submitting_first mailing batch mailbox (with_validity mailbox (told_copied (Some selected) batch)) left) answers ≡ Some turn
     → IsCurrent v n
-verdict_current k n origin mailbox (verdicts.Stored uid) tag t selected now w answers turn v K e met ok =
-    stored_current k n origin mailbox uid tag t selected now w answers turn v K e met ok
-verdict_current k n origin mailbox (verdicts.Refused why) tag t selected now w answers turn v K e met ok =
-    let d = only_done tag (response_text (refused_text why)) Go now answers turn e in
-    absurd (never turn.bytes (subst (Apart starts_ok) (sym d.bytes) (no_apart starts_ok ok_spares tag t why)) ok)
+batch_current k n batch mailbox tag t mailing selected now w answers turn v K met ok [] e =
+    counted_current k n (told_copied (Some selected) batch) mailbox tag t now w answers turn v e met ok
+    (λ uidvalidity rest more d met ok. copies_current k n uidvalidity batch batch.moves tag t selected now w rest more v K d met ok)
+batch_current k n batch mailbox tag t mailing selected now w answers turn v K met ok (row ∷ left) e = by (nat_le last_number mailing.number) e
+  where
+    by : (b : Bool) → played tag now (if b then taking_back mailbox batch.copies (says (response_text texts.MailboxSpent)) else Wait [] (ForVerdict (Copied (record batch { left = left })) mailbox row.flags row.text)) answers ≡ Some turn
+        → IsCurrent v n
+    by true e = absurd (back_ok tag t (response_text texts.MailboxSpent) mailbox batch.copies now answers turn (refusal_apart starts_ok ok_spares tag t Spent) e ok)
+    by false e = absurd (never_silent turn.bytes (awaits_silent tag (Copied (record batch { left = left })) mailbox row.flags row.text now answers turn e) ok)
+
+stored_current : (k : Config) (n : ℕ) (origin : Origin) (mailbox uid : ℕ) (tag : List ℕ) → IsWord tag → (mailing : Mailing)
+    → (selected : Selected) (now : Standing) (w : World) (answers : List Answer) (turn : Turn) (v : World) → Kept k w
+    → played tag now (on_stored mailing (Some selected) origin mailbox uid) answers ≡ Some turn → Met (Calls k n) w turn.events v
+    → SaysOk turn.bytes → IsCurrent v n
+stored_current k n FromClient mailbox uid tag t mailing selected now w answers turn v K e met ok =
+    counted_current k n (told_appended (Some selected) uid) mailbox tag t now w answers turn v e met ok
+    (λ uidvalidity rest more d met ok. fed_ok k n tag (appended_words uidvalidity uid) now w rest more v K t d met ok)
+stored_current k n (Copied batch) mailbox uid tag t mailing selected now w answers turn v K e met ok =
+    batch_current k n (with_copy uid batch) mailbox tag t mailing selected now w answers turn v K met ok batch.left e
+
+verdict_current : (k : Config) (n : ℕ) (origin : Origin) (mailbox : ℕ) (verdict : Verdict) (tag : List ℕ) → IsWord tag → (mailing : Mailing)
+    → (selected : Selected) (now : Standing) (w : World) (answers : List Answer) (turn : Turn) (v : World) → Kept k w
+    → played tag now (on_verdict mailing (Some selected) origin mailbox verdict) answers ≡ Some turn → Met (Calls k n) w turn.events v → SaysOk turn.bytes
+    → IsCurrent v n
+verdict_current k n origin mailbox (verdicts.Stored uid) tag t mailing selected now w answers turn v K e met ok =
+    stored_current k n origin mailbox uid tag t mailing selected now w answers turn v K e met ok
+verdict_current k n origin mailbox (verdicts.Refused why) tag t mailing selected now w answers turn v K e met ok =
+    absurd (back_ok tag t (response_text (refused_text why)) mailbox (copies_of origin) now answers turn (no_apart starts_ok ok_spares tag t why) e ok)
 
 -- a line that came to no command
 kept_current : (k : Config) (n : ℕ) (now : Standing) (line : List ℕ) (selected : Selected) (w : World) (answers : List Answer) (turn : Turn) (v : World) → Kept k w → AreTagsOf IsWord now → now.selected ≡ Some selected
@@ -215,9 +243,9 @@ words_current k n now (Heard verdict answers) selected w turn v bytes K t there 
     by None is = absurd (none-some turn (subst (λ (o : Option Sent). turn_with o now verdict answers ≡ Some turn) is e))
     by (Some sent) is =
         let first : turn_with (Some sent) now verdict answers ≡ Some turn = subst (λ (o : Option Sent). turn_with o now verdict answers ≡ Some turn) is e in
-        let second : played sent.tag (without_sent now) (on_verdict (Some selected) sent.origin sent.append.mailbox verdict) answers ≡ Some turn =
-        subst (λ (o : Option Selected). played sent.tag (without_sent now) (on_verdict o sent.origin sent.append.mailbox verdict) answers ≡ Some turn) there first in
-        verdict_current k n sent.origin sent.append.mailbox verdict sent.tag (subst (λ (o : Option Sent). IfSome o (λ (s : Sent). IsWord s.tag)) is t.2) selected (without_sent now) w answers turn v K second met ok
+        let second : played sent.tag (without_sent now) (on_verdict now.mailing (Some selected) sent.origin sent.append.mailbox verdict) answers ≡ Some turn =
+        subst (λ (o : Option Selected). played sent.tag (without_sent now) (on_verdict now.mailing o sent.origin sent.append.mailbox verdict) answers ≡ Some turn) there first in
+        verdict_current k n sent.origin sent.append.mailbox verdict sent.tag (subst (λ (o : Option Sent). IfSome o (λ (s : Sent). IsWord s.tag)) is t.2) now.mailing selected (without_sent now) w answers turn v K second met ok
 
 -- ---- in a life
 

@@ -1,5 +1,5 @@
 -- What the answers to a client tell of the messages that it appended or had copied (RFC 9051, 6.3.12 and 6.4.7; RFC 4315, 3; RFC 6851).
-use Rattle.std.specs.Prelude.{◌≡◌, ◌⊎◌, ◌==◌, ℕ, false, true, codes, drop, length, reverse, take, List, [], ◌∷◌, ◌++◌, AllPairs, Contains, filter_map, Ok, Option, Some, None, if◌then◌else◌, Bool, ◌||◌}
+use Rattle.std.specs.Prelude.{◌≡◌, ◌⊎◌, ◌==◌, ℕ, false, true, codes, drop, length, reverse, take, List, [], ◌∷◌, ◌++◌, AllPairs, Contains, filter_map, Ok, Option, Some, None, if◌then◌else◌, Bool, ◌||◌, ◌+◌, ◌<◌}
 use Rattle.delivery_token.specs.Keys.{Below}
 use Rattle.delivery_token.specs.declared.CopyKey.{CopyKey}
 use Rattle.delivery_token.specs.declared.Job.{Job}
@@ -16,8 +16,8 @@ use Rattle.imap_grammar.specs.declared.command.Append.{Append}
 use Rattle.imap_grammar.specs.declared.command.Authenticate.{Authenticate}
 use Rattle.imap_grammar.specs.declared.command.Literal.{Literal}
 use Rattle.imap_grammar.specs.declared.command.Command.TheVariants as commands
-use Rattle.imap_session.specs.Commands.{appended_words, copied_words, moved_words, number_named, refused_text, response_in}
-use Rattle.imap_session.specs.Exchange.{Folder, Sent, refusal_text, tagged, untagged}
+use Rattle.imap_session.specs.Commands.{appended_words, copied_words, moved_words, number_named, refused_text, response_in, with_copy, copies_of}
+use Rattle.imap_session.specs.Exchange.{Folder, Sent, refusal_text, tagged, untagged, Origin, Client, Copied, Batch}
 use Rattle.imap_session.specs.Telling.{tells_uid}
 use Rattle.world.specs.Law.{StandsOnce, pairs}
 use Rattle.world.specs.World.{World}
@@ -32,11 +32,10 @@ use Rattle.imap_session.specs.Texts.{response_text}
 use Rattle.imap_grammar.specs.Sets.{named_in}
 use Rattle.imap_grammar.specs.Verbs.{copy_verb}
 use Rattle.imap_grammar.specs.declared.command.CopyMessages.{CopyMessages}
-use Rattle.imap_session.specs.declared.standing.Origin.{Origin}
-use Rattle.imap_session.specs.declared.standing.Origin.TheVariants.{Client, Copied}
-use Rattle.imap_session.specs.declared.standing.Source.{Source}
 use Rattle.imap_session.specs.declared.texts.ResponseText.TheVariants as texts
 use Rattle.std.specs.Str.{bytes_eq}
+use Rattle.mailbox.specs.declared.clients.Row.{Row}
+use Rattle.exactly_once.specs.Found.{AreSomeOf}
 
 -- ---- how an answer ends
 
@@ -54,7 +53,7 @@ pub record EndsWith (tag words bytes : List ℕ) : Type 0 where
   pub chosen : is_word_of is_tag tag ≡ true
   pub last : last_line bytes ≡ tag ++ codes " " ++ words
 
--- the words behind the tag begin as those that tell the UID of a message that was copied, and of its copy
+-- the words behind the tag begin as those that tell the UIDs of messages that were copied, and of their copies
 abbrev pub tells_copy : List ℕ → Bool
 tells_copy words = bytes_eq (take 12 words) (codes "OK [COPYUID ")
 
@@ -92,57 +91,74 @@ pub record IsSentAs (folders : List Folder) (sent : List ℕ) (message : Sent) :
   pub size : length message.append.text ≡ append.literal.size
   pub whole : sent ≡ front ++ (bytes ++ crlf) ++ message.append.text ++ crlf ++ behind
 
--- A client had this message copied so (RFC 9051, 6.4.7; RFC 6851): by a COPY or MOVE under its tag, which names the mailbox of the copy,
--- and one message of a view, that with this UID.
-pub record IsCopyOf (folders : List Folder) (sent : List ℕ) (message : Sent) (source : Source) : Type 0 where
+-- A client had this message copied so (RFC 9051, 6.4.7; RFC 6851): by a COPY or MOVE under its tag, which names the mailbox of the copy. It is of this batch, which has those
+-- of the messages named in a view that were found, in their order; where they were named by their numbers all of them were. Before it are those whose copies are stored, and
+-- behind it those that are left.
+pub record IsCopyOf (folders : List Folder) (sent : List ℕ) (message : Sent) (batch : Batch) : Type 0 where
   pub front : List ℕ
   pub bytes : List ℕ
   pub line : List ℕ
   pub behind : List ℕ
   pub copy : CopyMessages
   pub view : List ℕ
+  pub uids : List ℕ
   pub spelled : IsSpelled bytes line
   pub reads : read line ≡ Ok (message.tag, commands.Copy copy)
   pub named : number_named copy.name folders ≡ Some message.append.mailbox
-  pub by_uid : copy.by_uid ≡ source.by_uid
-  pub moves : copy.moves ≡ source.moves
-  pub one : named_in copy.by_uid copy.set view ≡ Some (source.uid ∷ [])
+  pub by_uid : copy.by_uid ≡ batch.by_uid
+  pub moves : copy.moves ≡ batch.moves
+  pub set : named_in copy.by_uid copy.set view ≡ Some uids
+  pub some : AreSomeOf batch.uids uids
+  pub all : copy.by_uid ≡ false → batch.uids ≡ uids
+  pub place : length batch.copies + (1 + length batch.left) ≡ length batch.uids
   pub whole : sent ≡ front ++ (bytes ++ crlf) ++ behind
 
 -- by where the message comes from
 abbrev pub CameBy : Origin → List Folder → List ℕ → Sent → Type 0
 CameBy Client folders sent message = IsSentAs folders sent message
-CameBy (Copied source) folders sent message = IsCopyOf folders sent message source
+CameBy (Copied batch) folders sent message = IsCopyOf folders sent message batch
 
 abbrev pub CameAs : List Folder → List ℕ → Sent → Type 0
 CameAs folders sent message = CameBy message.origin folders sent message
 
 -- ---- what is said to a verdict
 
--- Of a MOVE, once the copy was stored: first of all one untagged line tells its UID, and that of the message which is moved.
+-- Of a MOVE, once all copies were stored: first of all one untagged line tells their UIDs, and those of the messages which are moved.
 -- The last line is the OK, or what is said where the store refuses.
-pub record SaysMoved (uidvalidity uid : ℕ) (source : Source) (tag bytes : List ℕ) : Type 0 where
+pub record SaysMoved (uidvalidity : ℕ) (batch : Batch) (tag bytes : List ℕ) : Type 0 where
   pub behind : List ℕ
-  pub tells : bytes ≡ untagged (moved_words uidvalidity source.uid uid) ++ behind
-  pub ends : EndsWith tag (response_text (texts.Completed (copy_verb source.by_uid true))) bytes
+  pub tells : bytes ≡ untagged (moved_words uidvalidity batch) ++ behind
+  pub ends : EndsWith tag (response_text (texts.Completed (copy_verb batch.by_uid true))) bytes
       ⊎ ((fault : MailFault) × (last_line bytes ≡ last_line (refusal_text tag fault)))
 
--- of a COPY the OK tells both UIDs
-abbrev pub SaysCopied : (moves : Bool) → (uidvalidity uid : ℕ) → Source → (tag : List ℕ) → List ℕ → Type 0
-SaysCopied true uidvalidity uid source tag bytes = SaysMoved uidvalidity uid source tag bytes
-SaysCopied false uidvalidity uid source tag bytes = EndsWith tag (copied_words uidvalidity source.uid uid) bytes
+-- of a COPY the OK tells the UIDs of all messages and of all copies
+abbrev pub SaysCopied : (moves : Bool) → (uidvalidity : ℕ) → Batch → (tag : List ℕ) → List ℕ → Type 0
+SaysCopied true uidvalidity batch tag bytes = SaysMoved uidvalidity batch tag bytes
+SaysCopied false uidvalidity batch tag bytes = EndsWith tag (copied_words uidvalidity batch) bytes
+
+-- Of the messages of a batch, where these copies are stored: the next of those that are left is on its way, and nothing is said; or the session has no number left for it, and
+-- there is a NO; or none is left, and it is done.
+pub data SaysOfBatch (uidvalidity : ℕ) (batch : Batch) (tag bytes : List ℕ) : Type 0 where
+  awaits_next : (row : Row) (left : List Row) → batch.left ≡ row ∷ left → bytes ≡ [] → SaysOfBatch uidvalidity batch tag bytes
+  has_no_number : (row : Row) (left : List Row) → batch.left ≡ row ∷ left → bytes ≡ tagged tag (response_text texts.MailboxSpent) → SaysOfBatch uidvalidity batch tag bytes
+  all_stored : batch.left ≡ [] → SaysCopied batch.moves uidvalidity batch tag bytes → SaysOfBatch uidvalidity batch tag bytes
 
 -- of an APPEND the OK tells its UID
 abbrev pub SaysStored : Origin → (uidvalidity uid : ℕ) → (tag : List ℕ) → List ℕ → Type 0
 SaysStored Client uidvalidity uid tag bytes = EndsWith tag (appended_words uidvalidity uid) bytes
-SaysStored (Copied source) uidvalidity uid tag bytes = SaysCopied source.moves uidvalidity uid source tag bytes
+SaysStored (Copied batch) uidvalidity uid tag bytes = SaysOfBatch uidvalidity (with_copy uid batch) tag bytes
 
--- Where the message was stored: the OK that tells its UID, behind this UIDVALIDITY, or one line, where the store refuses to count its mailbox or to show what is pending.
--- Where it was refused: a NO.
+-- A NO with these words, once these copies were removed again; or one line, where the store refuses to remove them.
+abbrev pub SaysRefused : (copies : List ℕ) → (tag words : List ℕ) → List ℕ → Type 0
+SaysRefused [] tag words bytes = bytes ≡ tagged tag words
+SaysRefused (uid ∷ uids) tag words bytes = (bytes ≡ tagged tag words) ⊎ ((fault : MailFault) × (bytes ≡ refusal_text tag fault))
+
+-- Where the message was stored: the OK that tells its UID, behind this UIDVALIDITY, or what comes of its batch; or one line, where the store refuses to count its mailbox, to show what
+-- is pending, or to remove copies. Where it was refused: a NO.
 abbrev pub SaysVerdict : (uidvalidity : ℕ) → Origin → (tag : List ℕ) → Verdict → List ℕ → Type 0
 SaysVerdict uidvalidity origin tag (Stored uid) bytes =
     SaysStored origin uidvalidity uid tag bytes ⊎ ((fault : MailFault) × (bytes ≡ refusal_text tag fault))
-SaysVerdict uidvalidity origin tag (Refused why) bytes = bytes ≡ tagged tag (response_text (refused_text why))
+SaysVerdict uidvalidity origin tag (Refused why) bytes = SaysRefused (copies_of origin) tag (response_text (refused_text why)) bytes
 
 -- the copy of a message, under this key
 abbrev pub copy_under : CopyKey → Sent → Job
@@ -154,6 +170,32 @@ pub record Author : Type 0 where
   pub serial : ℕ
   pub folders : List Folder
   pub sent : List ℕ
+
+-- An earlier copy of a batch: of its message behind those of which these copies were stored. That was submitted before the last one, by the same command, for the same
+-- mailbox, and was stored under this UID, as the session's seat has heard. It stands so, once, with the text and the flags of its message.
+pub record IsEarlier (k : Setup) (w : World) (author : Author) (last : Sent) (batch : Batch) (copies : List ℕ) (uid : ℕ) : Type 0 where
+  pub noted : Noted
+  pub message : Sent
+  pub rest : List Row
+  pub number : noted.key.message ≡ message.append.message
+  pub origin : message.origin ≡ Copied (record batch { left = rest; copies = copies })
+  pub came : IsCopyOf author.folders author.sent message (record batch { left = rest; copies = copies })
+  pub before : message.append.message < last.append.message
+  pub under : message.tag ≡ last.tag
+  pub named : message.append.mailbox ≡ last.append.mailbox
+  pub seat : noted.key.seat ≡ session_seat k author.place
+  pub own : noted.key.serial ≡ author.serial
+  pub heard : Contains (w.heard noted.key.seat) noted
+  pub stored : noted.verdict ≡ Stored uid
+  pub once : StandsOnce (pairs (w.box noted.mailbox).accepted) noted.key uid
+  pub mailbox : noted.mailbox ≡ message.append.mailbox
+  pub copy : Contains (w.box noted.mailbox).accepted (copy_under noted.key message, uid)
+
+-- of a message of a batch, each of the copies that are stored
+abbrev pub EarlierStand : Setup → World → Author → Sent → Origin → Type 0
+EarlierStand k w author last Client = Unit {0}
+EarlierStand k w author last (Copied batch) =
+    (copies : List ℕ) (uid : ℕ) (behind : List ℕ) → batch.copies ≡ copies ++ uid ∷ behind → IsEarlier k w author last batch copies uid
 
 -- These bytes were said to the verdict on a copy of this session.
 pub record AnswersNoted (k : Setup) (w : World) (author : Author) (bytes : List ℕ) (noted : Noted) : Type 0 where
@@ -170,6 +212,8 @@ pub record AnswersNoted (k : Setup) (w : World) (author : Author) (bytes : List 
   -- a copy that was stored under a UID stands exactly once in the history of the mailbox that was named, under that UID, and with the text and the flags of that message
   pub stands : (uid : ℕ) → noted.verdict ≡ Stored uid → StandsOnce (pairs (w.box noted.mailbox).accepted) noted.key uid
   pub stored : (uid : ℕ) → noted.verdict ≡ Stored uid → (noted.mailbox ≡ message.append.mailbox) × Contains (w.box noted.mailbox).accepted (copy_under noted.key message, uid)
+  -- and so does each copy of its batch that was stored before
+  pub earlier : EarlierStand k w author message message.origin
 
 -- ---- all that a client was told
 
@@ -207,19 +251,20 @@ pub record TellsKept (k : Setup) (w : World) (author : Author) (tag said : List 
   pub mailbox : noted.mailbox ≡ message.append.mailbox
   pub copy : Contains (w.box noted.mailbox).accepted (copy_under noted.key message, uid)
 
--- These words, under this tag, are the OK for one copy of this session: of a message that its client had copied by a COPY under that tag.
--- They tell the house's UIDVALIDITY, that message's UID, and the UID under which the copy stands, once, as its seat has heard: in the mailbox
--- that was named.
+-- These words, under this tag, are the OK for the messages that a client of this session had copied by a COPY under that tag. They tell the house's UIDVALIDITY, these messages'
+-- UIDs and those of all copies, in one order. The last of the copies stands once under its UID, as its seat has heard: in the mailbox that was named, with the text and the flags
+-- of its message. And each before it stands so, under the UID that is told of it.
 pub record TellsCopied (k : Setup) (w : World) (author : Author) (tag said : List ℕ) (noted : Noted) : Type 0 where
   pub message : Sent
-  pub source : Source
+  pub batch : Batch
   pub number : noted.key.message ≡ message.append.message
-  pub origin : message.origin ≡ Copied source
-  pub stays : source.moves ≡ false
-  pub came : IsCopyOf author.folders author.sent message source
+  pub origin : message.origin ≡ Copied batch
+  pub stays : batch.moves ≡ false
+  pub last : batch.left ≡ []
+  pub came : IsCopyOf author.folders author.sent message batch
   pub under : tag ≡ message.tag
   pub uid : ℕ
-  pub words : said ≡ copied_words k.config.uidvalidity source.uid uid
+  pub words : said ≡ copied_words k.config.uidvalidity (with_copy uid batch)
   pub seat : noted.key.seat ≡ session_seat k author.place
   pub own : noted.key.serial ≡ author.serial
   pub heard : Contains (w.heard noted.key.seat) noted
@@ -227,6 +272,7 @@ pub record TellsCopied (k : Setup) (w : World) (author : Author) (tag said : Lis
   pub once : StandsOnce (pairs (w.box noted.mailbox).accepted) noted.key uid
   pub mailbox : noted.mailbox ≡ message.append.mailbox
   pub copy : Contains (w.box noted.mailbox).accepted (copy_under noted.key message, uid)
+  pub earlier : EarlierStand k w author message (Copied batch)
 
 -- the session with this serial at a place, behind a record
 abbrev pub author_at : Setup → List Entry → (place serial : ℕ) → Author
@@ -242,7 +288,7 @@ pub record TellsOfAppends (k : Setup) (w : World) (author : Author) (told : List
   -- So where an answer ends with `OK [APPENDUID ` behind any tag, that is for one copy of this session, which stands so;
   pub kept : (before after : List Told) (one : Told) (tag words : List ℕ) → told ≡ before ++ one ∷ after → EndsWith tag words (bytes_in one) → tells_uid words ≡ true
       → (noted : Noted) × TellsKept k w author tag words noted
-  -- where it ends with `OK [COPYUID `, that is for one copy of a message that its client had copied, which stands so;
+  -- where it ends with `OK [COPYUID `, that is for the messages that its client had copied by one command, whose copies stand so;
   pub copied : (before after : List Told) (one : Told) (tag words : List ℕ) → told ≡ before ++ one ∷ after → EndsWith tag words (bytes_in one)
       → tells_copy words ≡ true → (noted : Noted) × TellsCopied k w author tag words noted
   -- and two answers of the first kind are for two copies, of which the first was appended first.

@@ -4,7 +4,7 @@ use Rattle.std.specs.List.{list_all}
 use Rattle.change_ring.specs.declared.change.Flags.{Flags}
 use Rattle.mailbox.specs.declared.clients.Row.{Row}
 use Rattle.mailbox.specs.declared.mailbox.Status.{Status}
-use Rattle.imap_session.specs.Exchange.{Call, Answer, Event, Found, Counted, Fed, Expunged, Exchange, Standing, Done, Wait, Write, Put, Enter, Look, Read, Count, Alter, Expunge, Feed, Leave, tagged}
+use Rattle.imap_session.specs.Exchange.{Call, Answer, Event, Found, Counted, Fed, Expunged, Exchange, Standing, Done, Wait, Write, Put, Enter, Look, Read, Count, Alter, Expunge, Feed, Leave, tagged, Discard}
 use Rattle.imap_session.specs.Store.{ViewAfter}
 use Rattle.laws_client.specs.Beliefs.{MayShow, Leaves}
 
@@ -90,3 +90,4 @@ Says tag view (Alter uid change next) = (flags : Option Flags) → Says tag view
 Says tag view (Expunge uids x) = (new : List ℕ) → Says tag new x
 Says tag view (Feed limit x) = (new : List ℕ) → Says tag new x
 Says tag view (Leave remove x) = ⊥
+Says tag view (Discard mailbox uids x) = Says tag view x

@@ -141,8 +141,8 @@ pub fn clients_keep_up()
 /// the line tells the house's UIDVALIDITY and the UID under which one copy of this very session stands in the history of the mailbox
 /// that this APPEND named, exactly once, with the text that was sent as its literal: its seat has heard so (RFC 9051, 6.3.12; RFC 4315,
 /// 3). Such answers are about different messages, in the order in which they were appended; and to each verdict that says that the
-/// message is stored the session answers that OK, unless the store refuses. What it answers to the verdict on a copy (6.4.7; RFC 6851) tells both UIDs,
-/// and the copy stands so too.
+/// message is stored the session answers that OK, unless the store refuses. Where all messages are copied that a COPY named (6.4.7; RFC 6851), the OK tells
+/// their UIDs and those of the copies, and each copy stands so too.
 pub fn appends_are_told()
     // Beside each answer of a session that is there stands the verdict that it was said to, or none; and it says what is said to that.
     ensures there { AppendsAreTold }

@@ -7,7 +7,7 @@ use Rattle.shard_queue.specs.declared.lane.Entry.{Entry}
 use Rattle.shard_queue.specs.declared.lane.Entry.TheVariants.{Item, End}
 use Rattle.shard_queue.proofs.AtLaws.{at_cases, set_at-same}
 use Rattle.world.specs.World as world
-use Rattle.world.specs.World.{Config, World, Event, Put, PutEnd, Take, Deliver, Answer, Hear, Enter, Status, Read, Store, Expunge, Feed, Leave, Step, answer_full, deliver_full, deliver_no_memory, deliver_spent, delivers, end_full, end_joins, enter_no_memory, enter_spent, enters, hears_one, leave_spent, leaves, mail_lapped, mail_no_memory, mail_spent, mails, put_full, put_joins, put_no_memory, put_shut, take_empty, takes}
+use Rattle.world.specs.World.{Config, World, Event, Put, PutEnd, Take, Deliver, Answer, Hear, Enter, Status, Read, Store, Expunge, Feed, Leave, Discard, Step, answer_full, deliver_full, deliver_no_memory, deliver_spent, delivers, discard_spent, discards_them, end_full, end_joins, enter_no_memory, enter_spent, enters, hears_one, leave_spent, leaves, mail_lapped, mail_no_memory, mail_spent, mails, put_full, put_joins, put_no_memory, put_shut, take_empty, takes}
 use Rattle.world.proofs.Base.{Every, every_append}
 use Rattle.laws_relay.proofs.Seated.{IsOneOf, Puts, SentGrows}
 
@@ -91,6 +91,8 @@ step_puts k w (Feed n limit) v seat other (x, there, mail_spent base spent e) = 
 step_puts k w (Feed n limit) v seat other (x, there, mail_no_memory allocates base room e) = rw e (λ t. inl refl)
 step_puts k w (Leave n removing) v seat other (x, there, leaves b logs e) = rw e (λ t. inl refl)
 step_puts k w (Leave n removing) v seat other (x, there, leave_spent spent e) = rw e (λ t. inl refl)
+step_puts k w (Discard m goes) v seat other (discards_them b there logs e) = rw e (λ t. inl refl)
+step_puts k w (Discard m goes) v seat other (discard_spent there spent e) = rw e (λ t. inl refl)
 
 -- the seat's own copy
 pub step_puts_copy : (k : Config) (w : World) (p s : ℕ) (c : Job) (v : World) → Step k w (Put p s c) v → Puts p c (sent_by w p) (sent_by v p)

@@ -8,7 +8,7 @@ use Rattle.change_ring.specs.declared.change.Change.{Change}
 use Rattle.change_ring.specs.declared.change.Flags.{Flags}
 use Rattle.change_ring.specs.declared.flag_op.FlagOp.{FlagOp}
 use Rattle.change_ring.specs.Log.{IsLegalLog, rows_of}
-use Rattle.change_ring.specs.Logged.{arrival, flags_after, flags_logged, removals, removals_if, seen_logged}
+use Rattle.change_ring.specs.Logged.{arrival, discards, flags_after, flags_logged, removals, removals_if, seen_logged}
 use Rattle.cursor_set.specs.Cursors.{CursorHandle}
 use Rattle.delivery_token.specs.declared.CopyKey.{CopyKey}
 use Rattle.delivery_token.specs.declared.Job.{Job}
@@ -18,18 +18,19 @@ use Rattle.delivery_token.specs.declared.Verdict.TheVariants.{Stored, Refused}
 use Rattle.delivery_token.specs.Keys.{Below, Precedes}
 use Rattle.mailbox.specs.Answers.{verdict_of}
 use Rattle.mailbox.specs.declared.clients.MailFault.{MailFault}
+use Rattle.mailbox.specs.declared.clients.MailFault.TheVariants.{Lapped, NoMemory, Spent, Stranger}
 use Rattle.mailbox.specs.declared.clients.Opening.{Opening}
 use Rattle.mailbox.specs.declared.clients.Row.{Row}
 use Rattle.mailbox.specs.declared.mailbox.Receipt.{Receipt}
 use Rattle.mailbox.specs.Events.{in_set, mark, seen_after}
-use Rattle.mailbox.specs.Mailbox.{Mailbox, Message, flagged, message_with, next_uid, remaining, row_of, rows}
+use Rattle.mailbox.specs.Mailbox.{Mailbox, Message, flagged, message_with, next_uid, remaining, row_of, rows, without}
 use Rattle.mailbox.specs.Stands.{Stands}
 use Rattle.mailbox.proofs.StandsLaws.{Stands-legal}
-use Rattle.workers_sync.specs.Holds.{DoesAlter, DoesDeliver, DoesEnter, DoesExpunge, DoesFeed, DoesLeave, DoesRead, IsEvent}
+use Rattle.workers_sync.specs.Holds.{Discards, DoesAlter, DoesDeliver, DoesDiscard, DoesEnter, DoesExpunge, DoesFeed, DoesLeave, DoesRead, IsEvent}
 use Rattle.house_history.specs.declared.event.Event.{Event}
 use Rattle.house_history.specs.declared.event.Event.TheVariants.{Judged, Changed}
 use Rattle.house_history.specs.declared.event.Step.{Step}
-use Rattle.house_history.specs.declared.event.Step.TheVariants.{Alter, Expunge, Leave, Read}
+use Rattle.house_history.specs.declared.event.Step.TheVariants.{Alter, Discard, Expunge, Leave, Read}
 use Rattle.house_history.specs.Events.{accepted_in, accepted_of, arrives, changes_in, concerns, judged_in, judged_of, logged}
 use Rattle.house_history.specs.Legal.{HasText, IsBefore, Legal}
 use Rattle.house_history.specs.Views.{MailboxPart}
@@ -267,6 +268,36 @@ expunge_keeps found left n events last handle next uids before after gone does k
 pub leave_keeps : (found left : Mailbox) (n : ℕ) (events : List Event) (last : List (Option CopyKey)) (handle : CursorHandle) (remove : Bool) (gone : ℕ) → DoesLeave found handle remove (Ok gone) left → Keeps found n events last
     → Keeps left n (events ++ Changed n (Leave remove) ∷ []) last
 leave_keeps found left n events last handle remove gone does kept = change_keeps found left n events last (Leave remove) (removals_if remove (rows found)) kept does.event refl (same_texts events n _ left.messages does.messages (left_texts events n remove found.messages kept.texts))
+
+-- what a mailbox was discarded from is one event of it
+discard_event : (found left : Mailbox) (uids : List ℕ) → Discards found uids left → IsEvent found left (discards (in_set (Some uids)) (rows found))
+discard_event found left uids does = record {
+  found_kept = does.kept;
+  left_kept = does.left_kept;
+  logs = does.logs;
+  same = record {
+    number = ap (λ (m : Mailbox). m.number) does.same;
+    uidvalidity = ap (λ (m : Mailbox). m.uidvalidity) does.same;
+    first_uid = ap (λ (m : Mailbox). m.first_uid) does.same;
+    limit = ap (λ (m : Mailbox). m.limit) does.same;
+    history = ap (λ (m : Mailbox). m.history) does.same;
+  };
+  accepted = ap (λ (m : Mailbox). m.accepted) does.same;
+}
+
+without_texts : (events : List Event) (n : ℕ) (test : ℕ → Bool) (messages : List Message) → Texts events n messages → Texts events n (without test messages)
+without_texts events n test messages texts = All-filter (λ (m : Message). not (test m.uid)) (λ m. HasText events n m.uid m.text) messages texts
+
+pub discard_keeps : (found left : Mailbox) (n : ℕ) (events : List Event) (last : List (Option CopyKey)) (uids : List ℕ) → Discards found uids left → Keeps found n events last
+    → Keeps left n (events ++ Changed n (Discard uids) ∷ []) last
+discard_keeps found left n events last uids does kept = change_keeps found left n events last (Discard uids) (discards (in_set (Some uids)) (rows found)) kept (discard_event found left uids does) refl
+    (same_texts events n _ left.messages does.messages (without_texts events n (in_set (Some uids)) found.messages kept.texts))
+
+pub discard_same : (found left : Mailbox) (uids : List ℕ) (fault : MailFault) → DoesDiscard found uids (Err fault) left → left ≡ found
+discard_same found left uids Spent does = does.1
+discard_same found left uids Stranger does = absurd does
+discard_same found left uids Lapped does = absurd does
+discard_same found left uids NoMemory does = absurd does
 
 -- ---- what a read answers
 

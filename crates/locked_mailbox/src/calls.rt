@@ -7,7 +7,7 @@ ghost use mathlib.Core.List.{IsPrefix};
 ghost use Rattle.change_ring.specs.Log.{view_at};
 ghost use Rattle.cursor_set.specs.Lines.{lines};
 ghost use Rattle.mailbox.specs.Stands.{next_of};
-ghost use Rattle.workers_sync.specs.Holds.{Counts, DoesAlter, DoesEnter, DoesExpunge, DoesFeed, DoesLeave, DoesLook, DoesRead};
+ghost use Rattle.workers_sync.specs.Holds.{Counts, DoesAlter, DoesDiscard, DoesEnter, DoesExpunge, DoesFeed, DoesLeave, DoesLook, DoesRead};
 ghost use Rattle.house_history.specs.declared.event.Event.{Event};
 ghost use Rattle.house_history.specs.declared.event.Event.TheVariants as events;
 ghost use Rattle.house_history.specs.declared.event.Step.TheVariants as steps;
@@ -158,5 +158,18 @@ impl<B: Naming> LockedMailbox<B> {
         let gone = workers_sync::leave(&mut self.mailbox, handle, remove)?;
         self.part.leave(front, remove);
         Ok(gone)
+    }
+
+    /// Removes the messages of these UIDs, whatever their flags, as `workers_sync::discard` has it.
+    pub fn discard(&mut self, front: &mut Front<B>, uids: &[u32]) -> Result<(), MailFault>
+        ensures event { DoesDiscard self.old.mailbox uids.now result self.new.mailbox }
+        ensures history { Knows self.old self.new
+            (on_ok result (events.Changed self.old.mailbox.number (steps.Discard uids.now)))
+            front.old front.new }
+    {
+        self.part.look(front);
+        workers_sync::discard(&mut self.mailbox, uids)?;
+        self.part.discard(front, uids);
+        Ok(())
     }
 }

@@ -7,3 +7,4 @@ pub mod LetterLaws
 pub mod MarkLaws
 pub mod TakenLaws
 pub mod ArrivalLaws
+pub mod DoomLaws

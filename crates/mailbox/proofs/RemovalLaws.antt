@@ -1,19 +1,19 @@
 -- What removing messages does to the messages, to the log and to the window.
-use Rattle.std.proofs.Common.{◌≡◌, ◌≢◌, ℕ, zero, suc, ◌+◌, ◌<◌, ◌≤◌, Bool, true, false, ◌==◌, List, [], ◌∷◌, ◌++◌, length, get_or, map, Contains, refl, sym, ap, ◌∙◌, inl, inr, subst, arith, eq-eqb, append_assoc, length-append}
+use Rattle.std.proofs.Common.{◌≡◌, ◌≢◌, ℕ, zero, suc, ◌+◌, ◌<◌, ◌≤◌, Bool, true, false, ◌==◌, List, [], ◌∷◌, ◌++◌, length, get_or, map, filter, not, Contains, refl, sym, ap, ◌∙◌, inl, inr, subst, arith, eq-eqb, append_assoc, length-append}
 use Rattle.std.specs.Prelude.{◌&&◌}
 use Rattle.std.specs.List.{AllByRecursion, list_any}
 use Rattle.std.proofs.lemmas.Bool.Decides.{eqb_tells}
 use Rattle.change_ring.specs.declared.change.Change.{Change}
 use Rattle.change_ring.specs.declared.change.Change.TheVariants.{Gone}
 use Rattle.change_ring.specs.Log.{Row, FitsView, without, without_row, rows_after, added}
-use Rattle.change_ring.specs.Logged.{removals}
+use Rattle.change_ring.specs.Logged.{discards, removals}
 use Rattle.change_ring.specs.Window.{Window, IsWindowOf, total}
 use Rattle.cursor_set.specs.Cursors.{CursorSet}
 use Rattle.cursor_set.proofs.Positions.{Rises}
 use Rattle.mailbox.specs.Events.{Moves}
 use Rattle.mailbox.specs.inner.Events.{GoesOn}
 use Rattle.mailbox.proofs.WindowMoves.{Moves-append, moves_logged}
-use Rattle.mailbox.specs.Mailbox.{Message, row_of, uids_of, remaining}
+use Rattle.mailbox.specs.Mailbox.{Message, row_of, uids_of, remaining, without as without_all}
 use Rattle.mailbox.proofs.MessageLaws.{eqb_less}
 
 -- ---- a list of UIDs has one
@@ -63,47 +63,48 @@ there_middle (k ∷ ks) r rs =
 
 -- ---- removing one message after another
 
--- the message has \Deleted and passes the test
-abbrev is_taken : (ℕ → Bool) → Message → Bool
-is_taken test m = m.flags.deleted && test m.uid
-
-module _ (test : ℕ → Bool) where
-  -- what is logged of some messages
+-- of some messages those that a test of their rows takes
+module _ (taken : Row → Bool) where
+  -- what is logged of it
   abbrev gone_of : List Message → List Change
-  gone_of ms = removals test (map row_of ms)
+  gone_of ms = map (λ (r : Row). Gone r.uid) (filter taken (map row_of ms))
 
-  gone_yes : (m : Message) (ms : List Message) → is_taken test m ≡ true → gone_of (m ∷ ms) ≡ Gone m.uid ∷ gone_of ms
+  -- the messages that are left
+  abbrev left : List Message → List Message
+  left ms = filter (λ (m : Message). not (taken (row_of m))) ms
+
+  pub gone_yes : (m : Message) (ms : List Message) → taken (row_of m) ≡ true → gone_of (m ∷ ms) ≡ Gone m.uid ∷ gone_of ms
   gone_yes m ms e = rw e refl
 
-  gone_no : (m : Message) (ms : List Message) → is_taken test m ≡ false → gone_of (m ∷ ms) ≡ gone_of ms
+  pub gone_no : (m : Message) (ms : List Message) → taken (row_of m) ≡ false → gone_of (m ∷ ms) ≡ gone_of ms
   gone_no m ms e = rw e refl
 
-  left_yes : (m : Message) (ms : List Message) → is_taken test m ≡ true → remaining test (m ∷ ms) ≡ remaining test ms
+  pub left_yes : (m : Message) (ms : List Message) → taken (row_of m) ≡ true → left (m ∷ ms) ≡ left ms
   left_yes m ms e = rw e refl
 
-  left_no : (m : Message) (ms : List Message) → is_taken test m ≡ false → remaining test (m ∷ ms) ≡ m ∷ remaining test ms
+  pub left_no : (m : Message) (ms : List Message) → taken (row_of m) ≡ false → left (m ∷ ms) ≡ m ∷ left ms
   left_no m ms e = rw e refl
 
-  pub rows_removed : (ks ms : List Message) → Rises (uids_of (ks ++ ms)) → rows_after (map row_of (ks ++ ms)) (gone_of ms) ≡ map row_of (ks ++ remaining test ms)
-  rows_removed ks [] up = refl
-  rows_removed ks (m ∷ ms) up = by_case (is_taken test m) refl (rows_removed ks ms (others_rise ks m ms up)) (λ here. rows_removed (ks ++ m ∷ []) ms here)
+  rows_taken : (ks ms : List Message) → Rises (uids_of (ks ++ ms)) → rows_after (map row_of (ks ++ ms)) (gone_of ms) ≡ map row_of (ks ++ left ms)
+  rows_taken ks [] up = refl
+  rows_taken ks (m ∷ ms) up = by_case (taken (row_of m)) refl (rows_taken ks ms (others_rise ks m ms up)) (λ here. rows_taken (ks ++ m ∷ []) ms here)
     where
-      by_case : (b : Bool) → is_taken test m ≡ b → rows_after (map row_of (ks ++ ms)) (gone_of ms) ≡ map row_of (ks ++ remaining test ms) →
-          (Rises (uids_of ((ks ++ m ∷ []) ++ ms)) → rows_after (map row_of ((ks ++ m ∷ []) ++ ms)) (gone_of ms) ≡ map row_of ((ks ++ m ∷ []) ++ remaining test ms)) →
-          rows_after (map row_of (ks ++ m ∷ ms)) (gone_of (m ∷ ms)) ≡ map row_of (ks ++ remaining test (m ∷ ms))
+      by_case : (b : Bool) → taken (row_of m) ≡ b → rows_after (map row_of (ks ++ ms)) (gone_of ms) ≡ map row_of (ks ++ left ms) →
+          (Rises (uids_of ((ks ++ m ∷ []) ++ ms)) → rows_after (map row_of ((ks ++ m ∷ []) ++ ms)) (gone_of ms) ≡ map row_of ((ks ++ m ∷ []) ++ left ms)) →
+          rows_after (map row_of (ks ++ m ∷ ms)) (gone_of (m ∷ ms)) ≡ map row_of (ks ++ left (m ∷ ms))
       by_case true e out stays =
           ap (rows_after (map row_of (ks ++ m ∷ ms))) (gone_yes m ms e) ∙ ap (λ (xs : List Row). rows_after xs (gone_of ms)) (rows_middle ks m ms up) ∙ out
           ∙ ap (λ (xs : List Message). map row_of (ks ++ xs)) (sym (left_yes m ms e))
       by_case false e out stays =
           ap (rows_after (map row_of (ks ++ m ∷ ms))) (gone_no m ms e) ∙ ap (λ (xs : List Message). rows_after (map row_of xs) (gone_of ms)) (sym (append_assoc ks (m ∷ []) ms))
           ∙ stays (subst (λ (xs : List Message). Rises (uids_of xs)) (sym (append_assoc ks (m ∷ []) ms)) up)
-          ∙ ap (map row_of) (append_assoc ks (m ∷ []) (remaining test ms)) ∙ ap (λ (xs : List Message). map row_of (ks ++ xs)) (sym (left_no m ms e))
+          ∙ ap (map row_of) (append_assoc ks (m ∷ []) (left ms)) ∙ ap (λ (xs : List Message). map row_of (ks ++ xs)) (sym (left_no m ms e))
 
-  pub removals_fit : (ks ms : List Message) → Rises (uids_of (ks ++ ms)) → FitsView (uids_of (ks ++ ms)) (gone_of ms)
-  removals_fit ks [] up = tt
-  removals_fit ks (m ∷ ms) up = by_case (is_taken test m) refl (removals_fit ks ms (others_rise ks m ms up)) (λ here. removals_fit (ks ++ m ∷ []) ms here)
+  taken_fit : (ks ms : List Message) → Rises (uids_of (ks ++ ms)) → FitsView (uids_of (ks ++ ms)) (gone_of ms)
+  taken_fit ks [] up = tt
+  taken_fit ks (m ∷ ms) up = by_case (taken (row_of m)) refl (taken_fit ks ms (others_rise ks m ms up)) (λ here. taken_fit (ks ++ m ∷ []) ms here)
     where
-      by_case : (b : Bool) → is_taken test m ≡ b → FitsView (uids_of (ks ++ ms)) (gone_of ms) →
+      by_case : (b : Bool) → taken (row_of m) ≡ b → FitsView (uids_of (ks ++ ms)) (gone_of ms) →
           (Rises (uids_of ((ks ++ m ∷ []) ++ ms)) → FitsView (uids_of ((ks ++ m ∷ []) ++ ms)) (gone_of ms)) → FitsView (uids_of (ks ++ m ∷ ms)) (gone_of (m ∷ ms))
       by_case true e out stays =
           subst (FitsView (uids_of (ks ++ m ∷ ms))) (sym (gone_yes m ms e))
@@ -113,13 +114,40 @@ module _ (test : ℕ → Bool) where
           (subst (λ (xs : List Message). FitsView (uids_of xs) (gone_of ms)) (append_assoc ks (m ∷ []) ms)
           (stays (subst (λ (xs : List Message). Rises (uids_of xs)) (sym (append_assoc ks (m ∷ []) ms)) up)))
 
-  pub gone_adds : (ms : List Message) → added (gone_of ms) ≡ []
-  gone_adds [] = refl
-  gone_adds (m ∷ ms) = by_case (is_taken test m) refl (gone_adds ms)
+  taken_adds : (ms : List Message) → added (gone_of ms) ≡ []
+  taken_adds [] = refl
+  taken_adds (m ∷ ms) = by_case (taken (row_of m)) refl (taken_adds ms)
     where
-      by_case : (b : Bool) → is_taken test m ≡ b → added (gone_of ms) ≡ [] → added (gone_of (m ∷ ms)) ≡ []
+      by_case : (b : Bool) → taken (row_of m) ≡ b → added (gone_of ms) ≡ [] → added (gone_of (m ∷ ms)) ≡ []
       by_case true e h = ap added (gone_yes m ms e) ∙ h
       by_case false e h = ap added (gone_no m ms e) ∙ h
+
+module _ (test : ℕ → Bool) where
+  -- those with \Deleted that pass
+  abbrev deleted : Row → Bool
+  deleted r = r.flags.deleted && test r.uid
+
+  pub rows_removed : (ks ms : List Message) → Rises (uids_of (ks ++ ms)) → rows_after (map row_of (ks ++ ms)) (removals test (map row_of ms)) ≡ map row_of (ks ++ remaining test ms)
+  rows_removed ks ms up = rows_taken deleted ks ms up
+
+  pub removals_fit : (ks ms : List Message) → Rises (uids_of (ks ++ ms)) → FitsView (uids_of (ks ++ ms)) (removals test (map row_of ms))
+  removals_fit ks ms up = taken_fit deleted ks ms up
+
+  pub gone_adds : (ms : List Message) → added (removals test (map row_of ms)) ≡ []
+  gone_adds ms = taken_adds deleted ms
+
+  -- those that pass, whatever their flags
+  abbrev named : Row → Bool
+  named r = test r.uid
+
+  pub rows_discarded : (ks ms : List Message) → Rises (uids_of (ks ++ ms)) → rows_after (map row_of (ks ++ ms)) (discards test (map row_of ms)) ≡ map row_of (ks ++ without_all test ms)
+  rows_discarded ks ms up = rows_taken named ks ms up
+
+  pub discards_fit : (ks ms : List Message) → Rises (uids_of (ks ++ ms)) → FitsView (uids_of (ks ++ ms)) (discards test (map row_of ms))
+  discards_fit ks ms up = taken_fit named ks ms up
+
+  pub discards_add : (ms : List Message) → added (discards test (map row_of ms)) ≡ []
+  discards_add ms = taken_adds named ms
 
 -- ---- changes on changes
 

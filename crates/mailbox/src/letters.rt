@@ -7,13 +7,15 @@
 //! half of all positions are such: so neither a removal nor what is added moves others, and a message
 //! mostly stands as far from the first one as its UID is above that one's.
 
-ghost use Rattle.std.specs.Prelude.{◌≡◌, ◌^◌, ◌<◌, ◌-◌, false, true, [], ◌∷◌, ◌++◌, List, length, All, Contains, IfOk, OnOk, OnErr, IfSome, IfNone, Some, None, option_map, slice_get, slice_index_or};
+ghost use Rattle.std.specs.Prelude.{◌≡◌, ◌^◌, ◌<◌, ◌-◌, ◌&&◌, false, true, [], ◌∷◌, ◌++◌, List, length, All, Contains, IfOk, OnOk, OnErr, IfSome, IfNone, Some, None, option_map, slice_get, slice_index_or, is_some};
 ghost use Rattle.std.specs.List.Sorted.{IsStrictlyIncreasing};
 ghost use Rattle.change_ring.specs.Log.{no_flags};
 ghost use Rattle.mailbox.specs.Counts.{unseen_count, bytes_in_all};
-ghost use Rattle.mailbox.specs.inner.Letters.{filed, message_of, messages_of, reflagged, without_message};
+ghost use Rattle.mailbox.specs.inner.Letters.{count_of, filed, message_of, messages_of, reflagged, without_message};
 ghost use Rattle.mailbox.specs.Mailbox.{message_with, texts_of, uids_of};
+ghost use Rattle.mailbox.specs.inner.Choices.{IsFound, passes};
 
+use crate::choice::Choice;
 use change_ring::{Flags, NO_FLAGS};
 use delivery_token::Text;
 use std::alloc::{AllocError, Global};
@@ -210,6 +212,29 @@ fn texts_in(
     Ok(texts)
 }
 
+// Whether a letter is a message whose UID the choice has.
+fn is_chosen(letter: &Letter, uid: u32, choice: Choice) -> bool
+    requires { IsFound choice }
+    ensures { result ≡ (is_some letter.now.text && passes choice.entry uid) }
+{
+    letter.text.is_some() && choice.has(uid)
+}
+
+// How many messages have UIDs that the choice has.
+fn count_chosen(uids: &[u32], letters: &[Letter], choice: Choice) -> usize
+    requires found { IsFound choice }
+    requires beside { length letters.now ≡ length uids.now }
+    ensures { result ≡ count_of (passes choice.entry) (messages_of (filed uids.now letters.now)) }
+{
+    let mut count = 0;
+    for position in 0..uids.len() {
+        if is_chosen(&letters[position], uids[position], choice) {
+            count += 1;
+        }
+    }
+    count
+}
+
 impl Letters {
     // None is there.
     pub(crate) fn new(alloc: Global) -> Letters
@@ -247,6 +272,14 @@ impl Letters {
         ensures { result ≡ bytes_in_all self.now }
     {
         self.bytes
+    }
+
+    // How many of them have UIDs that the choice has.
+    pub(crate) fn count(&self, choice: Choice) -> usize
+        requires { IsFound choice }
+        ensures { result ≡ count_of (passes choice.entry) self.now }
+    {
+        count_chosen(&self.uids, &self.letters, choice)
     }
 
     // Flags and text of the message of a UID.

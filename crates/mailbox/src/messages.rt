@@ -6,16 +6,25 @@ ghost use Rattle.std.specs.List.Sorted.{IsStrictlyIncreasing};
 ghost use Rattle.change_ring.specs.Log.{no_flags, without};
 ghost use Rattle.mailbox.specs.inner.Choices.{IsFound, passes};
 ghost use Rattle.mailbox.specs.Counts.{unseen_count, deleted_count, bytes_in_all};
-ghost use Rattle.mailbox.specs.inner.Letters.{message_of, reflagged};
-ghost use Rattle.mailbox.specs.Mailbox.{message_with, remaining, texts_of, uids_of};
-ghost use Rattle.mailbox.specs.inner.Marks.{marked_of, put_in, remarked, without_each};
+ghost use Rattle.mailbox.specs.inner.Letters.{count_of, message_of, reflagged};
+ghost use Rattle.mailbox.specs.Mailbox.{flagged, message_with, remaining, texts_of, uids_of};
+ghost use Rattle.mailbox.specs.inner.Marks.{doom, doomed, marked_of, put_in, remarked, without_each};
 
 use crate::choice::Choice;
 use crate::letters::Letters;
-use change_ring::Flags;
+use change_ring::{FlagOp, Flags};
 use delivery_token::Text;
 use std::alloc::{AllocError, Global};
 use std::marker::Model;
+
+// Setting \Deleted.
+const DOOM: FlagOp = FlagOp::Insert(Flags {
+    answered: false,
+    flagged: false,
+    deleted: true,
+    seen: false,
+    draft: false,
+});
 
 // The messages, and the UIDs of those with \Deleted, which rise.
 #[derive(Drop)]
@@ -85,6 +94,15 @@ fn remove_each(letters: &mut Letters, uids: &[u32], choice: Choice)
     }
 }
 
+// Sets \Deleted of the messages of these UIDs.
+pub(crate) fn doom_each(messages: &mut Messages, uids: &[u32])
+    ensures { messages.new ≡ doomed uids.now messages.old }
+{
+    for uid in uids {
+        messages.doom(*uid);
+    }
+}
+
 impl Messages {
     // None is there.
     pub(crate) fn new(alloc: Global) -> Messages
@@ -122,6 +140,14 @@ impl Messages {
         ensures { result ≡ bytes_in_all self.now }
     {
         self.letters.bytes()
+    }
+
+    // How many of them have UIDs that the choice has.
+    pub(crate) fn count(&self, choice: Choice) -> usize
+        requires { IsFound choice }
+        ensures { result ≡ count_of (passes choice.entry) self.now }
+    {
+        self.letters.count(choice)
     }
 
     // Flags and text of the message of a UID.
@@ -175,6 +201,18 @@ impl Messages {
             return;
         };
         remark(&mut self.marked, uid, old.deleted, flags.deleted);
+    }
+
+    // Sets \Deleted of the message of a UID, where there is one.
+    fn doom(&mut self, uid: u32)
+        ensures { self.new ≡ flagged uid doom self.old }
+    {
+        // Read for its bound: the UIDs rise.
+        let _len = self.letters.len();
+        let Some((old, _)) = self.letters.get(uid) else {
+            return;
+        };
+        self.set_flags(uid, DOOM.after(old));
     }
 
     // Takes out those with \Deleted that the choice has.

@@ -1,16 +1,17 @@
-//! Which messages go: those with \Deleted, at an expunge or as a client leaves. All of a call's
-//! removals are one event, logged in the order of the UIDs. Those with \Deleted alone are passed.
+//! Which messages go: those with \Deleted, at an expunge or as a client leaves, or those of some UIDs.
+//! All of a call's removals are one event, logged in the order of the UIDs. Those with \Deleted alone
+//! are passed: whatever else is to go is given it first, which is neither logged nor shown.
 
-ghost use Rattle.std.specs.Prelude.{◌≡◌, ◌+◌, ◌^◌, ◌≤◌, ◌<◌, ◌↔◌, ◌⊎◌, ◌==◌, true, List, ◌++◌, length, count_by, None, Err, OnOk, OnErr, IfOk, IfErr, IsTrue, option_map, drop, IsSome, IfSome, if◌then◌else◌, vec_capacity};
+ghost use Rattle.std.specs.Prelude.{◌≡◌, ◌+◌, ◌^◌, ◌≤◌, ◌<◌, ◌↔◌, ◌⊎◌, ◌==◌, true, List, ◌++◌, length, count_by, None, Err, OnOk, OnErr, IfOk, IfErr, IsTrue, option_map, drop, Some, IsSome, IfSome, if◌then◌else◌, vec_capacity};
 ghost use Rattle.change_ring.specs.Log.{view_at};
-ghost use Rattle.change_ring.specs.Logged.{removals, removals_if};
+ghost use Rattle.change_ring.specs.Logged.{discards, removals, removals_if};
 ghost use Rattle.change_ring.specs.Window.{changes_from, total};
 ghost use Rattle.cursor_set.specs.Cursors.{Updates, after_showing, held};
 ghost use Rattle.cursor_set.specs.Lines.{lines};
 ghost use Rattle.mailbox.specs.inner.Choices.{IsFound, passes};
 ghost use Rattle.mailbox.specs.Events.{IsCurrent, IsLapped, IsStranger, IsTooMany, KeepsLog, Logs, Moves, in_set};
 ghost use Rattle.mailbox.specs.inner.Events.{GoesOn};
-ghost use Rattle.mailbox.specs.Mailbox.{remaining, rows};
+ghost use Rattle.mailbox.specs.Mailbox.{remaining, rows, without};
 ghost use Rattle.mailbox.specs.inner.Marks.{gone_of};
 ghost use Rattle.mailbox.specs.Stands.{Stands};
 
@@ -18,6 +19,7 @@ use crate::choice::Choice;
 use crate::clients::MailFault;
 use crate::logging::log_change;
 use crate::mailbox::Mailbox;
+use crate::messages::doom_each;
 use change_ring::{Change, ChangeRing, MOST_CHANGES};
 use cursor_set::{CursorHandle, CursorSet};
 
@@ -255,5 +257,72 @@ impl Mailbox {
         }
         self.remove_leaving(remove);
         Ok(count)
+    }
+
+    // Whether the log has room for it that the messages go whose UIDs the choice has.
+    fn can_discard(&self, choice: Choice) -> bool
+        requires { IsFound choice }
+        ensures { IsTrue result ↔ (total self.now.window
+            + length (discards (passes choice.entry) (rows self.now)) ≤ 2 ^ 62) }
+    {
+        // No more go than are there, so these are counted only as the log comes near its end.
+        if self.has_room(self.messages.len()) {
+            return true;
+        }
+        self.has_room(self.messages.count(choice))
+    }
+
+    // Takes out the messages of these UIDs, which are those that are named.
+    fn take_out(&mut self, uids: &[u32], named: Choice)
+        requires found { IsFound named }
+        requires test { passes named ≡ in_set (Some uids.now) }
+        requires room { total self.old.window + length (discards (passes named) (rows self.old))
+            ≤ 2 ^ 62 }
+        ensures logged { Logs self.old self.new (discards (passes named.entry) (rows self.old)) }
+        ensures window { Moves self.old.cursors self.old.window self.new.window
+            (discards (passes named.entry) (rows self.old)) }
+        ensures messages { self.new.messages ≡ without (passes named.entry) self.old.messages }
+        ensures rest { self.new ≡ record self.old {
+          messages = self.new.messages;
+          window = self.new.window;
+        } }
+    {
+        doom_each(&mut self.messages, uids);
+        log_removals(&mut self.ring, &self.cursors, self.messages.marked(), named);
+        self.messages.remove(named);
+    }
+
+    /// Removes the messages of these UIDs, whatever their flags, as a message that was moved goes from
+    /// where it was (RFC 6851, and RFC 9051, 6.4.8). They are logged in the order of their UIDs, so
+    /// each client is shown later that they went. UIDs that no message has are passed over; the UIDs
+    /// may have any order, and such as rise cost least.
+    ///
+    /// Spent where the log has no room for that; the mailbox is then unchanged. It takes no memory.
+    pub fn discard(&mut self, uids: &[u32]) -> Result<(), MailFault>
+        // Spent exactly where the log has no room for what goes, and nothing else is refused; nothing has changed then.
+        ensures spent { (result ≡ Err MailFault.Spent)
+            ↔ IsTooMany self.old (discards (in_set (Some uids.now)) (rows self.old)) }
+        ensures only { IfErr result (λ f. (f ≡ MailFault.Spent) × (self.new ≡ self.old)) }
+
+        // That they are gone is logged, in the order of the messages, on every log for which the mailbox stood.
+        ensures logged { OnOk result (Logs self.old self.new
+            (discards (in_set (Some uids.now)) (rows self.old))) }
+        // What is logged goes into the window; a full one drops its oldest change, or grows where a client is still to be shown it.
+        ensures window { OnOk result (Moves self.old.cursors self.old.window self.new.window
+            (discards (in_set (Some uids.now)) (rows self.old))) }
+        // The messages of these UIDs go, and no others; nothing but messages and window changes.
+        ensures messages { OnOk result (self.new.messages
+            ≡ without (in_set (Some uids.now)) self.old.messages) }
+        ensures rest { OnOk result (self.new ≡ record self.old {
+          messages = self.new.messages;
+          window = self.new.window;
+        }) }
+    {
+        let choice = Choice::of(Some(uids));
+        if !self.can_discard(choice) {
+            return Err(MailFault::Spent);
+        }
+        self.take_out(uids, choice);
+        Ok(())
     }
 }

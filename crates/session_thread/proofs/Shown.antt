@@ -1,6 +1,6 @@
 -- What a session was shown under a lock, as a call of its store.
 use Rattle.std.proofs.Common.{◌≡◌, inl, inr, ℕ, ◌<◌, ◌≤◌, Bool, false, List, [], length, take, drop, refl, sym, ap, ◌∙◌, subst, Result, Ok, Err, Option, Some, None, is_some}
-use Rattle.std.specs.Prelude.{IfOk}
+use Rattle.std.specs.Prelude.{◌⊎◌, IfErr, IfOk}
 use Rattle.change_ring.specs.declared.change.Change.{Change}
 use Rattle.change_ring.specs.declared.change.Flags.{Flags}
 use Rattle.change_ring.specs.declared.flag_op.FlagOp.{FlagOp}
@@ -9,19 +9,20 @@ use Rattle.change_ring.proofs.WindowLaws.{changes_from-log}
 use Rattle.cursor_set.specs.Cursors.{Open, CursorHandle}
 use Rattle.cursor_set.proofs.OpenedLemmas.{held_in_slot}
 use Rattle.mailbox.specs.declared.clients.MailFault.{MailFault}
+use Rattle.mailbox.specs.declared.clients.MailFault.TheVariants.{Lapped, NoMemory, Spent, Stranger}
 use Rattle.mailbox.specs.declared.clients.Row.{Row}
 use Rattle.mailbox.specs.declared.mailbox.Status.{Status}
 use Rattle.mailbox.specs.Mailbox.{Mailbox}
 use Rattle.mailbox.specs.Stands.{Stands, next_of}
-use Rattle.workers_sync.specs.Holds.{DoesAlter, DoesExpunge, DoesFeed, DoesRead, Expunges as DidExpunge, Feeds as DidFeed, HasCursor}
+use Rattle.workers_sync.specs.Holds.{DoesAlter, DoesDiscard, DoesExpunge, DoesFeed, DoesRead, Expunges as DidExpunge, Feeds as DidFeed, HasCursor}
 use Rattle.house_history.specs.declared.event.Event.{Event}
 use Rattle.house_history.specs.declared.event.Event.TheVariants.{Changed}
 use Rattle.house_history.specs.declared.event.Step.TheVariants as steps
 use Rattle.locked_mailbox.specs.Locking.{Knows, on_ok}
-use Rattle.imap_session.specs.Exchange.{Alter, Altered, Answer, Count, Counted, Feed, Expunge, Found, Read}
-use Rattle.imap_session.specs.Store.{Feeds, Expunges, answer}
+use Rattle.imap_session.specs.Exchange.{Alter, Altered, Answer, Count, Counted, Discard, Feed, Expunge, Found, Read}
+use Rattle.imap_session.specs.Store.{Discards, Feeds, Expunges, answer}
 use Rattle.session_thread.specs.declared.locked_store.Entry.{Entry}
-use Rattle.session_thread.specs.Locks.{DoesCountAt, HasItsText, HasRow, HasStatus, Held, Holds, LockedStore, ShowsOf, StaysOut, another_there, entered_at, not_let_in, refused_here, says, says_nothing, seeing}
+use Rattle.session_thread.specs.Locks.{DoesCountAt, DoesDiscardAt, HasItsText, HasRow, HasStatus, Held, Holds, LockedStore, ShowsOf, StaysOut, another_there, entered_at, not_let_in, refused_here, says, says_nothing, seeing}
 use Rattle.session_thread.specs.inner.Entering.{DoesEnterAt, seen_behind}
 
 -- ---- of the log
@@ -140,6 +141,31 @@ counts_from old new mailbox (Ok status) seen there is (found, left, s, k) fits =
     (is ∙ ap (seeing old) h, there, (found, left, s, subst (λ (l : List Event). Knows found left [] old.history l) h k), fits)
 counts_from old new mailbox (Err fault) seen there is (found, left, s, k) fits = (is, inr (there, (found.mailbox, left.mailbox, s)))
 
+discards_from : (old new : LockedStore) (mailbox : ℕ) (uids : List ℕ) (r : Result (Unit {0}) MailFault) (seen : List Event) → mailbox < old.mailboxes → new ≡ seeing old (seen_behind r old.history seen)
+    → Held old.history seen (λ m. on_ok r (Changed m (steps.Discard uids))) (λ found left. DoesDiscardAt mailbox uids found r left)
+    → Discards (λ (a : Answer). Holds old (Discard mailbox uids) a new) r
+discards_from old new mailbox uids (Ok done) seen there is (found, left, s, k) =
+    let h : seen ≡ new.history = sym (ap (λ (p : LockedStore). p.history) is) in
+    (is ∙ ap (seeing old) h, there, (found, left, s, subst (λ (l : List Event). Knows found left (says (steps.Discard uids) found.mailbox.number) old.history l) h k))
+discards_from old new mailbox uids (Err fault) seen there is (found, left, s, k) = (is, inr (there, (found.mailbox, left.mailbox, s)))
+
+-- the mailbox that was found says why
+pub discard_faults : (mailbox : ℕ) (uids : List ℕ) (r : Result (Unit {0}) MailFault) (before after : List Event) (said : ℕ → List Event)
+    → Held before after said (λ found left. DoesDiscardAt mailbox uids found r left) → IfErr r (λ f. (f ≡ Stranger) ⊎ (f ≡ Spent))
+discard_faults mailbox uids (Ok done) before after said h = tt
+discard_faults mailbox uids (Err Stranger) before after said h = inl refl
+discard_faults mailbox uids (Err Spent) before after said h = inr refl
+discard_faults mailbox uids (Err Lapped) before after said (found, left, s, k) = absurd s.1
+discard_faults mailbox uids (Err NoMemory) before after said (found, left, s, k) = absurd s.1
+
+-- a mailbox of that number is found
+pub discards_there : (number : ℕ) (uids : List ℕ) (found left : Mailbox) (r : Result (Unit {0}) MailFault) → found.number ≡ number → DoesDiscard found uids r left → DoesDiscardAt number uids found r left
+discards_there number uids found left (Ok done) here does = (here, does)
+discards_there number uids found left (Err Stranger) here does = absurd does
+discards_there number uids found left (Err Lapped) here does = absurd does
+discards_there number uids found left (Err Spent) here does = (here, does)
+discards_there number uids found left (Err NoMemory) here does = absurd does
+
 pub stays_out : (old : LockedStore) (mailbox : ℕ) (fault : MailFault) (before seen : List Event) (said : ℕ → List Event) → old.entered ≡ None → mailbox < old.mailboxes
     → Held before seen said (λ found left. DoesEnterAt mailbox found (Err fault) left) → StaysOut old mailbox fault
 stays_out old mailbox fault before seen said nowhere under (found, left, (same, inl (number, kept, not)), k) = not_let_in found.mailbox left.mailbox nowhere under number kept same not
@@ -184,3 +210,11 @@ pub counts : (old new : LockedStore) (mailbox : ℕ) (r : Result Status MailFaul
 counts old new mailbox r first second seen behind there f s b is h fits =
     counts_from old new mailbox r seen there (is ∙ ap (seeing old) (b ∙ ap (λ (l : List Event). seen_behind r l seen) s))
     (subst (λ (l : List Event). Held l seen says_nothing (λ found left. DoesCountAt mailbox found r left)) f h) fits
+
+pub discards : (old new : LockedStore) (mailbox : ℕ) (uids : List ℕ) (r : Result (Unit {0}) MailFault) (first second seen behind : List Event) → mailbox < old.mailboxes → first ≡ old.history → second ≡ old.history
+    → behind ≡ seen_behind r second seen → new ≡ seeing old behind
+    → Held first seen (λ m. on_ok r (Changed m (steps.Discard uids))) (λ found left. DoesDiscardAt mailbox uids found r left)
+    → Discards (λ (a : Answer). Holds old (Discard mailbox uids) a new) r
+discards old new mailbox uids r first second seen behind there f s b is h =
+    discards_from old new mailbox uids r seen there (is ∙ ap (seeing old) (b ∙ ap (λ (l : List Event). seen_behind r l seen) s))
+    (subst (λ (l : List Event). Held l seen (λ m. on_ok r (Changed m (steps.Discard uids))) (λ found left. DoesDiscardAt mailbox uids found r left)) f h)

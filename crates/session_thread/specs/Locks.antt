@@ -22,7 +22,7 @@ use Rattle.house_history.specs.declared.event.Step.{Step}
 use Rattle.house_history.specs.declared.event.Step.TheVariants as steps
 use Rattle.house_history.specs.Legal.{HasText}
 use Rattle.locked_mailbox.specs.Locking.{Knows, LockedMailbox}
-use Rattle.workers_sync.specs.Holds.{Alters, Counts, Enters, EntersNot, Expunges, Feeds, IsRefused, HasCursor, Leaves, LeavesNot, Reads, UnderLock}
+use Rattle.workers_sync.specs.Holds.{Alters, Counts, Discards, DoesDiscard, Enters, EntersNot, Expunges, Feeds, IsRefused, HasCursor, Leaves, LeavesNot, Reads, UnderLock}
 use Rattle.imap_session.specs.Exchange.{Call, Answer, Enter, Look, Read, Count, Alter, Expunge, Feed, Leave, Discard, Entered, Looked, Found, Counted, Altered, Expunged, Fed, Left, Discarded, Refused}
 use Rattle.session_thread.specs.declared.locked_store.Entry.{Entry}
 

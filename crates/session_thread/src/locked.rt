@@ -10,7 +10,7 @@ ghost use Rattle.house_history.specs.declared.event.Event.{Event};
 ghost use Rattle.house_history.specs.declared.event.Step.TheVariants as steps;
 ghost use Rattle.locked_mailbox.specs.Locking.{Knows, on_ok};
 ghost use Rattle.workers_sync.specs.Holds.{DoesAlter, DoesExpunge, DoesFeed, DoesLeave, DoesLook, DoesRead, UnderLock};
-ghost use Rattle.session_thread.specs.Locks.{DoesCountAt, HasItsText, HasOpening, HasRow, HasStatus, Held, LooksNot, says_nothing};
+ghost use Rattle.session_thread.specs.Locks.{DoesCountAt, DoesDiscardAt, HasItsText, HasOpening, HasRow, HasStatus, Held, LooksNot, says_nothing};
 ghost use Rattle.session_thread.specs.inner.Entering.{DoesEnterAt};
 
 use change_ring::{FlagOp, Flags};
@@ -470,4 +470,54 @@ pub(crate) fn leave<B: Naming, R: Wait>(
     );
     *front = seen;
     left
+}
+
+// Removes the messages of these UIDs from the mailbox that is held, where it has this number.
+fn discard_at<B: Naming>(
+    locked: &mut LockedMailbox<B>,
+    front: &mut Front<B>,
+    number: u8,
+    uids: &[u32],
+) -> Result<(), MailFault>
+    ensures event { DoesDiscardAt number uids.now locked.old.mailbox result locked.new.mailbox }
+    ensures history { Knows locked.old locked.new
+        (on_ok result (events.Changed locked.old.mailbox.number (steps.Discard uids.now)))
+        front.old front.new }
+{
+    if locked.mailbox().number() != number {
+        locked.look(front);
+        return Err(MailFault::Stranger);
+    }
+    locked.discard(front, uids)
+}
+
+pub(crate) fn discard<B: Naming, R: Wait>(
+    rt: &R,
+    lock: &Mutex<LockedMailbox<B>>,
+    front: &mut Front<B>,
+    number: u8,
+    uids: &[u32],
+) -> Result<(), MailFault>
+    ensures { Held front.old front.new
+        (λ m. on_ok result (events.Changed m (steps.Discard uids.now)))
+        (λ found left. DoesDiscardAt number uids.now found result left) }
+{
+    let mut seen = front.again();
+    let (done, seen) = under(
+        rt,
+        lock,
+        move |locked: &mut LockedMailbox<B>| -> (Result<(), MailFault>, Front<B>)
+            ensures event { DoesDiscardAt number uids.entry.now locked.old.mailbox result.0
+                locked.new.mailbox }
+            ensures history { Knows locked.old locked.new
+                (on_ok result.0
+                (events.Changed locked.old.mailbox.number (steps.Discard uids.entry.now)))
+                seen result.1 }
+        {
+            let done = discard_at(locked, &mut seen, number, uids);
+            (done, seen)
+        },
+    );
+    *front = seen;
+    done
 }

@@ -331,4 +331,21 @@ impl<'a, B: Naming, R: Wait, G: Gate> Store for LockedStore<'a, B, R, G> {
             }
         }
     }
+
+    fn discard(&mut self, mailbox: u8, uids: &[u32]) -> Result<(), MailFault> {
+        if usize::from(mailbox) >= self.mailboxes.len() {
+            return Err(MailFault::Stranger);
+        }
+        self.pace.pass();
+        let lock = &self.mailboxes[usize::from(mailbox)];
+        let mut front = self.front.again();
+        let done = locked::discard(self.rt, lock, &mut front, mailbox, uids);
+        self.front = seen_behind(&done, self.front.again(), front);
+        // Also where no message had such a UID: the mailbox doesn't tell, and a ring too many costs
+        // a turn.
+        if done.is_ok() {
+            ring_each(self.bells);
+        }
+        done
+    }
 }

@@ -92,6 +92,8 @@ enum Act {
     Expunge(u8, &'static [u32], Result<usize, MailFault>),
     // Messages with \Deleted go where this is so.
     Leave(u8, bool, Result<usize, MailFault>),
+    // The messages of these UIDs go from the mailbox of this number.
+    Discard(u8, &'static [u32], Result<(), MailFault>),
     // The lines since the last such act.
     Lines(&'static [u8]),
 }
@@ -214,6 +216,7 @@ fn step(
             Ok(core.expunge(*session, Some(*set), out) == *wanted)
         }
         Act::Leave(session, remove, wanted) => Ok(core.leave(*session, *remove) == *wanted),
+        Act::Discard(mailbox, uids, wanted) => Ok(core.discard(*mailbox, *uids) == *wanted),
         Act::Lines(wanted) => Ok(lines_are(out, wanted)),
         _ => moves(alloc, core, act),
     }
@@ -401,5 +404,38 @@ const TWO_SESSIONS: &[Act] = &[
 #[test]
 fn one_of_two_sessions_falls_behind(rt: HostRuntime) -> Result<(), AllocError> {
     assert_eq!(rt; play(rt.alloc(), NO_GROWTH, TWO_SESSIONS)?, None);
+    Ok(())
+}
+
+const DISCARDED: &[Act] = &[
+    Act::Enters(0, 1),
+    Act::Enters(1, 0),
+    Act::Arrives(0, 0),
+    Act::Feed(1, Ok(1)),
+    Act::Lines(b"* 1 EXISTS\r\n"),
+    Act::Arrives(1, 1),
+    Act::Arrives(2, 1),
+    Act::Arrives(3, 1),
+    Act::Feed(0, Ok(3)),
+    Act::Lines(b"* 1 EXISTS\r\n* 2 EXISTS\r\n* 3 EXISTS\r\n"),
+    // Whatever their flags and their order; no message has the second.
+    Act::Discard(1, &[3, 9, 1], Ok(())),
+    Act::View(0, &[1, 2, 3]),
+    Act::IsUpToDate(0, false),
+    Act::IsUpToDate(1, true),
+    Act::Feed(0, Ok(2)),
+    Act::Lines(b"* 1 EXPUNGE\r\n* 2 EXPUNGE\r\n"),
+    Act::View(0, &[2]),
+    Act::Read(0, 2, false, Ok(Some((NO_FLAGS, false)))),
+    // They are gone, so nothing is logged.
+    Act::Discard(1, &[1, 3], Ok(())),
+    Act::IsUpToDate(0, true),
+    Act::Discard(2, &[1], Err(MailFault::Stranger)),
+    Act::View(1, &[1]),
+];
+
+#[test]
+fn messages_go_by_their_uids(rt: HostRuntime) -> Result<(), AllocError> {
+    assert_eq!(rt; play(rt.alloc(), GROWTH, DISCARDED)?, None);
     Ok(())
 }

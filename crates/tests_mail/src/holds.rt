@@ -6,7 +6,7 @@ use cursor_set::{CursorHandle, Stranger};
 use delivery_token::{CopyKey, Job, Refusal, Text};
 use mailbox::{History, Limits, MailFault, Mailbox, Opening, Status, verdict_of};
 use std::alloc::{AllocError, Global};
-use workers_sync::{alter, count, deliver, enter, expunge, feed, leave, read, view};
+use workers_sync::{alter, count, deliver, discard, enter, expunge, feed, leave, read, view};
 
 pub(crate) const DELETED: Flags = Flags {
     deleted: true,
@@ -44,6 +44,7 @@ enum Act {
     // How many at most, and how many were shown.
     Feed(usize, Result<usize, MailFault>),
     Expunge(Option<&'static [u32]>, Result<usize, MailFault>),
+    Discard(&'static [u32]),
     // The lines since the last such act.
     Lines(&'static [u8]),
 }
@@ -129,6 +130,7 @@ fn step(
         Act::Alter(uid, op, wanted) => alter(mailbox, handle, *uid, *op) == *wanted,
         Act::Feed(limit, wanted) => feed(mailbox, handle, *limit, out) == *wanted,
         Act::Expunge(set, wanted) => expunge(mailbox, handle, *set, out) == *wanted,
+        Act::Discard(uids) => discard(mailbox, uids).is_ok(),
         Act::Lines(wanted) => lines_are(out, wanted),
     }
 }
@@ -198,6 +200,11 @@ const ACTS: &[Act] = &[
     Act::Feed(64, Ok(1)),
     Act::Lines(b"* 2 EXPUNGE\r\n"),
     Act::Deliver(2, Ok((3, 2))),
+    // A message goes that the client wasn't shown yet.
+    Act::Discard(&[3, 9]),
+    Act::View(Ok(&[1])),
+    Act::Feed(64, Ok(2)),
+    Act::Lines(b"* 2 EXISTS\r\n* 2 EXPUNGE\r\n"),
     Act::Alter(1, FlagOp::Set(DELETED), Ok(Some(DELETED))),
 ];
 

@@ -32,6 +32,7 @@ enum Act {
     Read(u32, bool, Result<Option<Flags>, MailFault>),
     Alter(u32, FlagOp, Result<Option<Flags>, MailFault>),
     Expunge(Option<&'static [u32]>, Result<usize, MailFault>),
+    Discard(&'static [u32]),
     // How many messages the client counts, and how many there are.
     Counts(usize, usize),
     // The lines since the last such act.
@@ -159,6 +160,7 @@ fn step<B: Naming>(
         Act::Expunge(set, wanted) => {
             locked.expunge(&mut senders.front, handle, *set, out) == *wanted
         }
+        Act::Discard(uids) => locked.discard(&mut senders.front, uids).is_ok(),
         Act::Counts(shown, there) => counts(locked, handle, *shown, *there),
         Act::Lines(wanted) => lines_are(out, wanted),
     }
@@ -201,6 +203,10 @@ const ACTS: &[Act] = &[
     Act::Feed(64, Ok(1)),
     Act::Lines(b"* 2 EXPUNGE\r\n"),
     Act::Deliver(0, Some(3)),
+    Act::Discard(&[3, 9]),
+    Act::Counts(1, 1),
+    Act::Feed(64, Ok(2)),
+    Act::Lines(b"* 2 EXISTS\r\n* 2 EXPUNGE\r\n"),
     Act::Alter(1, FlagOp::Set(DELETED), Ok(Some(DELETED))),
 ];
 

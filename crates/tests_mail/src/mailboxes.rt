@@ -65,6 +65,8 @@ enum Act {
     StoreEach(u32, u32, FlagOp, Flags),
     Feed(Result<usize, FeedFault>),
     Expunge(Option<&'static [u32]>, Result<usize, MailFault>),
+    // These UIDs; it is never refused.
+    Discard(&'static [u32]),
     // The lines since the last such act.
     Lines(&'static [u8]),
 }
@@ -171,6 +173,7 @@ fn tells(alloc: Global, mailbox: &mut Mailbox, act: &Act) -> Result<bool, AllocE
         Act::Accepted(copies) => Ok(has_accepted(mailbox, copies)),
         Act::Window(base, changes) => Ok(has_window(mailbox, *base, changes)),
         Act::Kept(base, count) => Ok(kept(mailbox) == (*base, *count)),
+        Act::Discard(uids) => Ok(mailbox.discard(uids).is_ok()),
         _ => Ok(false),
     }
 }
@@ -375,6 +378,21 @@ const CASES: &[Case] = &[
         left: (0, (0, 9)),
     },
     Case {
+        name: "messages are discarded whatever their flags, and shown later",
+        limits: SMALL,
+        history: History::Kept,
+        first_uid: 1,
+        messages: 6,
+        opening: Opening {
+            count: 6,
+            uidnext: 7,
+            uidvalidity: 7,
+        },
+        acts: DISCARDS,
+        remove: true,
+        left: (1, (0, 14)),
+    },
+    Case {
         name: "half of a large mailbox goes",
         limits: Limits {
             messages: 32_768,
@@ -503,6 +521,54 @@ const EXPUNGES: &[Act] = &[
     Act::Feed(Ok(2)),
     Act::Lines(b"* 1 EXPUNGE\r\n* 1 EXPUNGE\r\n"),
     Act::View(&[]),
+];
+
+const DISCARDS: &[Act] = &[
+    Act::Store(2, FlagOp::Set(BOTH), Ok(Some(BOTH))),
+    Act::Store(6, FlagOp::Set(DELETED), Ok(Some(DELETED))),
+    Act::Feed(Ok(2)),
+    Act::Lines(
+        b"* 2 FETCH (UID 2 FLAGS (\\Deleted \\Seen))\r\n* 6 FETCH (UID 6 FLAGS (\\Deleted))\r\n",
+    ),
+    // No message has the last UID. The one that has \Deleted and isn't named stays.
+    Act::Discard(&[1, 2, 9]),
+    Act::Window(0, DISCARDED),
+    Act::Read(1, false, Ok(None)),
+    Act::Read(3, false, Ok(Some((NO_FLAGS, false)))),
+    Act::Count(Status {
+        messages: 4,
+        uidnext: 7,
+        uidvalidity: 7,
+        unseen: 4,
+        deleted: 1,
+        size: 16,
+    }),
+    // Nothing was shown of it so far.
+    Act::View(&[1, 2, 3, 4, 5, 6]),
+    Act::Lines(b""),
+    // In another order, with a UID twice and one that is gone: they go in the order of the messages.
+    Act::Discard(&[5, 1, 3, 5]),
+    // None of these is there, nor is any UID named.
+    Act::Discard(&[1, 7]),
+    Act::Discard(&[]),
+    Act::Feed(Ok(4)),
+    Act::Lines(b"* 1 EXPUNGE\r\n* 1 EXPUNGE\r\n* 1 EXPUNGE\r\n* 2 EXPUNGE\r\n"),
+    Act::View(&[4, 6]),
+    Act::Read(4, true, Ok(Some((SEEN, true)))),
+];
+
+// What is logged up to the first discard.
+const DISCARDED: &[Change] = &[
+    Change::Add(1),
+    Change::Add(2),
+    Change::Add(3),
+    Change::Add(4),
+    Change::Add(5),
+    Change::Add(6),
+    Change::Flags(2, BOTH),
+    Change::Flags(6, DELETED),
+    Change::Gone(1),
+    Change::Gone(2),
 ];
 
 const UNKEPT: &[Act] = &[

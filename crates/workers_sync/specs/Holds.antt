@@ -5,7 +5,7 @@ use Rattle.change_ring.specs.declared.change.Change.{Change}
 use Rattle.change_ring.specs.declared.change.Flags.{Flags}
 use Rattle.change_ring.specs.declared.flag_op.FlagOp.{FlagOp}
 use Rattle.change_ring.specs.Log.{replay, view_at}
-use Rattle.change_ring.specs.Logged.{arrival, flags_logged, removals, removals_if, seen_logged}
+use Rattle.change_ring.specs.Logged.{arrival, discards, flags_logged, removals, removals_if, seen_logged}
 use Rattle.change_ring.specs.Window.{changes_from, total}
 use Rattle.cursor_set.specs.Cursors.{CursorHandle, Updates, held, in_slot, next_changes}
 use Rattle.cursor_set.specs.Lines.{lines}
@@ -17,7 +17,7 @@ use Rattle.mailbox.specs.declared.mailbox.Receipt.{Receipt}
 use Rattle.mailbox.specs.Counts.{bytes_in_all, deleted_count, unseen_count}
 use Rattle.mailbox.specs.declared.mailbox.Status.{Status}
 use Rattle.mailbox.specs.Events.{IsCurrent, IsLapped, IsStranger, IsTooMany, Logs, Moves, in_set, seen_after, was_logged}
-use Rattle.mailbox.specs.Mailbox.{Mailbox, Message, SameMailbox, flagged, is_full, is_spent, message_with, next_uid, remaining, rows, uids_of}
+use Rattle.mailbox.specs.Mailbox.{Mailbox, Message, SameMailbox, flagged, is_full, is_spent, message_with, next_uid, remaining, rows, uids_of, without}
 use Rattle.mailbox.specs.Stands.{IsKept, Stands, next_of}
 use Rattle.mailbox.specs.declared.clients.MailFault.{MailFault}
 use Rattle.mailbox.specs.declared.clients.MailFault.TheVariants.{Stranger, Lapped, Spent, NoMemory}
@@ -244,6 +244,8 @@ DoesDeliver found job (Err refusal) left = IsKept found × (left ≡ found) × D
 -- The messages of these UIDs were removed, whatever their flags, and that was logged.
 pub record Discards (found : Mailbox) (uids : List ℕ) (left : Mailbox) : Type 0 where
   pub kept : IsKept found
+  pub left_kept : IsKept left
+  pub room : IsTooMany found (discards (in_set (Some uids)) (rows found)) → ⊥
   pub logs : Logs found left (discards (in_set (Some uids)) (rows found))
   pub window : Moves found.cursors found.window left.window (discards (in_set (Some uids)) (rows found))
   pub messages : left.messages ≡ without (in_set (Some uids)) found.messages

@@ -5,7 +5,7 @@ ghost use Rattle.std.specs.Prelude.{◌≡◌, ◌≢◌, ◌≤◌, Ok, Err, If
 ghost use Rattle.std.specs.List.Sorted.{IsStrictlyIncreasing};
 ghost use Rattle.std.specs.Option.{option_copied};
 ghost use Rattle.std.specs.Vec.{vec_capacity};
-ghost use Rattle.workers_sync.specs.Holds.{Counts, DoesAlter, DoesDeliver, DoesEnter, DoesExpunge, DoesFeed, DoesLeave, DoesLook, DoesRead};
+ghost use Rattle.workers_sync.specs.Holds.{Counts, DoesAlter, DoesDeliver, DoesDiscard, DoesEnter, DoesExpunge, DoesFeed, DoesLeave, DoesLook, DoesRead};
 
 use change_ring::{FlagOp, Flags};
 use cursor_set::{CursorHandle, FeedFault, Stranger};
@@ -178,4 +178,19 @@ pub fn leave(
     let gone = mailbox.close_cursor(handle, remove);
     every_mailbox_keeps(mailbox);
     gone
+}
+
+/// Removes the messages of these UIDs, whatever their flags (RFC 6851, and RFC 9051, 6.4.8); UIDs that
+/// no message has are passed over. No cursor is needed for it and none changes: clients are shown
+/// later that these are gone.
+///
+/// Spent where the log has no room for the removals; the mailbox is then unchanged. It takes no
+/// memory.
+pub fn discard(mailbox: &mut Mailbox, uids: &[u32]) -> Result<(), MailFault>
+    ensures { DoesDiscard mailbox.old uids.now result mailbox.new }
+{
+    every_mailbox_keeps(mailbox);
+    let done = mailbox.discard(uids);
+    every_mailbox_keeps(mailbox);
+    done
 }

@@ -14,7 +14,7 @@ mod timely;
 mod waiting;
 
 pub use bell::{SessionBell, Sleeper, ring_each};
-pub use calls::{alter, count, deliver, enter, expunge, feed, leave, read, view};
+pub use calls::{alter, count, deliver, discard, enter, expunge, feed, leave, read, view};
 pub use courier::{Courier, Lost};
 pub use grip::Grip;
 pub use listening::Listening;

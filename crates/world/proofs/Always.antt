@@ -20,12 +20,12 @@ use Rattle.delivery_token.specs.Log.{stored_pair, stored_in}
 use Rattle.std.specs.List.{range_with_len}
 use Rattle.shard_queue.proofs.AtLaws.{at_cases}
 use Rattle.shard_queue.proofs.LaneLaws.{of_append, closed_is_empty, closed_not_live}
-use Rattle.world.specs.World.{Config, World, Box, Session, Event, Put, PutEnd, Take, Deliver, Answer, Hear, Enter, Status, Read, Store, Expunge, Feed, Leave, Step, Steps, IsWorld, put_joins, put_full, put_no_memory, put_shut, end_joins, end_full, takes, take_empty, delivers, deliver_spent, deliver_full, deliver_no_memory, answers, answer_full, hears_one, enters, enter_spent, enter_no_memory, MailStep, mails, mail_lapped, mail_spent, mail_no_memory, LeaveStep, leaves, leave_spent, shard_of, pending, empty_world}
+use Rattle.world.specs.World.{Config, World, Box, Session, Event, Put, PutEnd, Take, Deliver, Answer, Hear, Enter, Status, Read, Store, Expunge, Feed, Leave, Discard, Step, Steps, IsWorld, put_joins, put_full, put_no_memory, put_shut, end_joins, end_full, takes, take_empty, delivers, deliver_spent, deliver_full, deliver_no_memory, answers, answer_full, hears_one, enters, enter_spent, enter_no_memory, MailStep, mails, mail_lapped, mail_spent, mail_no_memory, LeaveStep, leaves, leave_spent, discards_them, discard_spent, shard_of, pending, empty_world}
 use Rattle.world.specs.Law.{stored, due, accepted_of, pair_of, pairs, copies, key_of, keys, copy_for, taken_copies, IsShown, IsPart, none, keeps, skips, StandsOnce, Headline}
 use Rattle.world.proofs.Base.{Every, Rising, rising_pair, rising_map, part_more, part_front, part_self, part_both, part_rising, part_filter, part_map}
 use Rattle.world.specs.Known.{key_in}
-use Rattle.world.proofs.Mails.{uids, rows_rising, removals_there, added_removals, flags_there, added_flags, range_rising, IsIn}
-use Rattle.world.proofs.Kept.{Kept, BoxOk, OwnCopy, hand_copies, SessionOk, kept_empty, kept_put, kept_end, kept_hears, kept_take, kept_refused, kept_delivered, kept_answer, kept_hear, kept_mail, kept_leave, kept_enter}
+use Rattle.world.proofs.Mails.{uids, rows_rising, discards_there, added_discards, removals_there, added_removals, flags_there, added_flags, range_rising, IsIn}
+use Rattle.world.proofs.Kept.{Kept, BoxOk, OwnCopy, hand_copies, SessionOk, kept_empty, kept_put, kept_end, kept_hears, kept_take, kept_refused, kept_delivered, kept_answer, kept_hear, kept_mail, kept_leave, kept_discard, kept_enter}
 use Rattle.world.proofs.Verdicts.{Verdicts, verdicts_always, one_verdict, refused_nowhere, below_itself}
 
 uids_rise : (k : Config) (b : Box) → BoxOk k b → Rising (λ u v. u < v) (added b.log)
@@ -87,6 +87,8 @@ kept_step k w (Store n u op) v K (s, is, step) = kept_mail_step k w n s false []
 kept_step k w (Expunge n may_go) v K (s, is, step) = kept_mail_step k w n s true _ [] _ v K is (removals_there may_go (rows_of (w.box s.mailbox).log) (rows_in_order k w s.mailbox K)) (added_removals may_go (rows_of (w.box s.mailbox).log)) (append-nil _) step
 kept_step k w (Feed n limit) v K (s, is, step) = kept_mail_step k w n s true _ (drop limit (pending (w.box s.mailbox) s)) [] v K is tt refl (take-append-drop limit _) step
 kept_step k w (Leave n removing) v K (s, is, step) = kept_leave_step k w n s _ v K (removed_there removing (rows_of (w.box s.mailbox).log) (rows_in_order k w s.mailbox K)) (added_removed removing (rows_of (w.box s.mailbox).log)) step
+kept_step k w (Discard m goes) v K (discards_them b there L e) = rw e (kept_discard k w m b _ K L (discards_there goes (rows_of (w.box m).log) (rows_in_order k w m K)) (added_discards goes (rows_of (w.box m).log)))
+kept_step k w (Discard m goes) v K (discard_spent there h e) = rw e K
 
 pub kept_steps : (k : Config) (w : World) (es : List Event) (v : World) → Kept k w → Steps k w es v → Kept k v
 kept_steps k w [] v K e = rw e K
@@ -213,6 +215,8 @@ closed_step k w (Expunge n may_go) v s K closed (x, is, step) = mail_lane k w n 
 closed_step k w (Feed n limit) v s K closed (x, is, step) = mail_lane k w n x _ _ _ v s step
 closed_step k w (Leave n removing) v s K closed (x, is, leaves b L e) = rw e refl
 closed_step k w (Leave n removing) v s K closed (x, is, leave_spent h e) = rw e refl
+closed_step k w (Discard m goes) v s K closed (discards_them b there L e) = rw e refl
+closed_step k w (Discard m goes) v s K closed (discard_spent there h e) = rw e refl
 
 pub closed_stays : (k : Config) (w : World) (es : List Event) (v : World) (s : ℕ) → Kept k w → IsClosed k.seats (w.lane s) → Steps k w es v → v.lane s ≡ w.lane s
 closed_stays k w [] v s K closed e = rw e refl

@@ -1,7 +1,7 @@
 -- Only a seat's own Put and Hear change what it has heard.
 use Rattle.std.proofs.Common.{◌≡◌, ◌≢◌, ℕ, List, refl}
 use Rattle.shard_queue.proofs.AtLaws.{at_cases}
-use Rattle.world.specs.World.{Config, World, Session, Event, Put, PutEnd, Take, Deliver, Answer, Hear, Enter, Status, Read, Store, Expunge, Feed, Leave, Step, put_joins, put_full, put_no_memory, put_shut, end_joins, end_full, takes, take_empty, delivers, deliver_spent, deliver_full, deliver_no_memory, answers, answer_full, hears_one, enters, enter_spent, enter_no_memory, MailStep, mails, mail_lapped, mail_spent, mail_no_memory, leaves, leave_spent}
+use Rattle.world.specs.World.{Config, World, Session, Event, Put, PutEnd, Take, Deliver, Answer, Hear, Enter, Status, Read, Store, Expunge, Feed, Leave, Discard, Step, put_joins, put_full, put_no_memory, put_shut, end_joins, end_full, takes, take_empty, delivers, deliver_spent, deliver_full, deliver_no_memory, answers, answer_full, hears_one, enters, enter_spent, enter_no_memory, MailStep, mails, mail_lapped, mail_spent, mail_no_memory, leaves, leave_spent, discards_them, discard_spent}
 
 -- the event is no Put and no Hear of seat p
 abbrev pub IsOfOthers : ℕ → Event → Type 0
@@ -41,3 +41,5 @@ heard_stays k w (Expunge n may_go) v p o (s, is, step) = mail_heard k w n s _ _ 
 heard_stays k w (Feed n limit) v p o (s, is, step) = mail_heard k w n s _ _ _ v p step
 heard_stays k w (Leave n removing) v p o (s, is, leaves b L e) = rw e refl
 heard_stays k w (Leave n removing) v p o (s, is, leave_spent i e) = rw e refl
+heard_stays k w (Discard m goes) v p o (discards_them b there L e) = rw e refl
+heard_stays k w (Discard m goes) v p o (discard_spent there h e) = rw e refl

@@ -461,6 +461,11 @@ pub kept_leave : (k : Config) (w : World) (n : ℕ) (s : Session) (new : Box) (c
 kept_leave k w n s new changes K L names none_added = kept_logs k w s.mailbox new changes _ K L names none_added
     (at_each (λ i x. SessionOk (set_at w.box s.mailbox new) x) w.session n _ (λ i. sessions_log k w.box s.mailbox new changes [] L (w.session i) (K.sessions i)) tt)
 
+pub kept_discard : (k : Config) (w : World) (m : ℕ) (new : Box) (changes : List Change) → Kept k w → Logs k (w.box m) changes [] new
+    → FitsView (uids (rows_of (w.box m).log)) changes → added changes ≡ [] → Kept k (record w { box = set_at w.box m new })
+kept_discard k w m new changes K L names none_added = kept_logs k w m new changes w.session K L names none_added
+    (λ i. sessions_log k w.box m new changes [] L (w.session i) (K.sessions i))
+
 pub kept_enter : (k : Config) (w : World) (n m : ℕ) (opened : ℕ → ℕ) → Kept k w
     → Kept k (record w { session = set_at w.session n (Some (record { mailbox = m; start = length (w.box m).log; cursor = length (w.box m).log; shown = [] })); opened = opened })
 kept_enter k w n m opened K = record {

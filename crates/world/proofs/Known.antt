@@ -9,7 +9,7 @@ use Rattle.delivery_token.specs.declared.CopyKey.{CopyKey}
 use Rattle.delivery_token.specs.declared.Job.{Job}
 use Rattle.delivery_token.specs.declared.log.Noted.{Noted}
 use Rattle.shard_queue.proofs.AtLaws.{at_cases, at_each}
-use Rattle.world.specs.World.{Config, World, Box, Session, Hand, Empty, Taken, Done, MayPut, put_joins, put_full, put_no_memory, put_shut, end_joins, end_full, takes, take_empty, delivers, deliver_spent, deliver_full, deliver_no_memory, answers, answer_full, hears_one, enters, enter_spent, enter_no_memory, MailStep, mails, mail_lapped, mail_spent, mail_no_memory, LeaveStep, leaves, leave_spent, Event, Put, PutEnd, Take, Deliver, Answer, Hear, Enter, Status, Read, Store, Expunge, Feed, Leave, Step, Steps, IsWorld, in_hand, puts, empty_world}
+use Rattle.world.specs.World.{Config, World, Box, Session, Hand, Empty, Taken, Done, MayPut, put_joins, put_full, put_no_memory, put_shut, end_joins, end_full, takes, take_empty, delivers, deliver_spent, deliver_full, deliver_no_memory, answers, answer_full, hears_one, enters, enter_spent, enter_no_memory, MailStep, mails, mail_lapped, mail_spent, mail_no_memory, LeaveStep, leaves, leave_spent, discards_them, discard_spent, Event, Put, PutEnd, Take, Deliver, Answer, Hear, Enter, Status, Read, Store, Expunge, Feed, Leave, Discard, Step, Steps, IsWorld, in_hand, puts, empty_world}
 use Rattle.world.proofs.Base.{Every, every_append, every_weaker}
 use Rattle.world.proofs.Mails.{IsIn}
 use Rattle.world.specs.Known.{key_in}
@@ -206,6 +206,8 @@ known_step k w (Store n u op) v K (s, is, step) = known_mail k w n s _ _ _ v K s
 known_step k w (Expunge n may_go) v K (s, is, step) = known_mail k w n s _ _ _ v K step
 known_step k w (Feed n limit) v K (s, is, step) = known_mail k w n s _ _ _ v K step
 known_step k w (Leave n removing) v K (s, is, step) = known_leave k w n s _ v K step
+known_step k w (Discard m goes) v K (discards_them b there L e) = rw e (known_rest k w _ _ _ _ K)
+known_step k w (Discard m goes) v K (discard_spent there h e) = rw e K
 
 pub known_steps : (k : Config) (w : World) (es : List Event) (v : World) → Known k w → Steps k w es v → Known k v
 known_steps k w [] v K e = rw e K

@@ -8,7 +8,7 @@ use Rattle.change_ring.specs.declared.change.Change.{Change}
 use Rattle.change_ring.specs.declared.change.Change.TheVariants.{Add, Gone, Flags as SetFlags}
 use Rattle.change_ring.specs.declared.flag_op.FlagOp.{FlagOp}
 use Rattle.change_ring.specs.Log.{Row, rows_of, without, replay, added, FitsView}
-use Rattle.change_ring.specs.Logged.{flags_after, flags_differ, flags_logged, removals}
+use Rattle.change_ring.specs.Logged.{discards, flags_after, flags_differ, flags_logged, removals}
 use Rattle.change_ring.proofs.LogLaws.{uids-rows_after}
 use Rattle.change_ring.specs.Window.{BaseAfter}
 use Rattle.world.specs.World.{Session, shows}
@@ -78,12 +78,20 @@ removals_there test rows o = gone_there (uids rows) (filter (λ (r : Row). r.fla
     (part_rising (λ u v. u < v) (part_map (λ (r : Row). r.uid) (part_filter (λ (r : Row). r.flags.deleted && test r.uid) rows)) o)
     (part_every (λ u. IsIn u (uids rows)) (part_map (λ (r : Row). r.uid) (part_filter (λ (r : Row). r.flags.deleted && test r.uid) rows)) (every_in_itself (uids rows)))
 
+pub discards_there : (test : ℕ → Bool) (rows : List Row) → Rising (λ u v. u < v) (uids rows) → FitsView (uids rows) (discards test rows)
+discards_there test rows o = gone_there (uids rows) (filter (λ (r : Row). test r.uid) rows)
+    (part_rising (λ u v. u < v) (part_map (λ (r : Row). r.uid) (part_filter (λ (r : Row). test r.uid) rows)) o)
+    (part_every (λ u. IsIn u (uids rows)) (part_map (λ (r : Row). r.uid) (part_filter (λ (r : Row). test r.uid) rows)) (every_in_itself (uids rows)))
+
 added_gone : (rs : List Row) → added (map (λ (r : Row). Gone r.uid) rs) ≡ []
 added_gone [] = refl
 added_gone (r ∷ rs) = added_gone rs
 
 pub added_removals : (test : ℕ → Bool) (rows : List Row) → added (removals test rows) ≡ []
 added_removals test rows = added_gone (filter (λ (r : Row). r.flags.deleted && test r.uid) rows)
+
+pub added_discards : (test : ℕ → Bool) (rows : List Row) → added (discards test rows) ≡ []
+added_discards test rows = added_gone (filter (λ (r : Row). test r.uid) rows)
 
 -- what a store logs names a row among the rows that it looks at
 flags_in : (view : List ℕ) (rows : List Row) (u : ℕ) (op : FlagOp) → ((v : ℕ) → IsIn v (uids rows) → IsIn v view) → FitsView view (flags_logged rows u op)

@@ -6,9 +6,9 @@ use Rattle.shard_queue.specs.declared.lane.Entry.{Entry}
 use Rattle.delivery_token.specs.declared.Job.{Job}
 use Rattle.change_ring.specs.declared.change.Change.{Change}
 use Rattle.change_ring.specs.Log.{rows_of}
-use Rattle.change_ring.specs.Logged.{arrival, flags_logged, removals, seen_logged, removals_if}
+use Rattle.change_ring.specs.Logged.{arrival, discards, flags_logged, removals, seen_logged, removals_if}
 use Rattle.change_ring.specs.Window.{BaseAfter}
-use Rattle.world.specs.World.{Config, World, Box, Session, Empty, Taken, Event, Put, PutEnd, Take, Deliver, Answer, Hear, Enter, Status, Read, Store, Expunge, Feed, Leave, Step, Allowed, put_joins, put_full, put_no_memory, put_shut, end_joins, end_full, TakeStep, takes, take_empty, DeliverStep, delivers, deliver_spent, deliver_full, deliver_no_memory, answers, answer_full, hears_one, enters, enter_spent, enter_no_memory, MailStep, mails, mail_lapped, mail_spent, LeaveStep, leaves, leave_spent, Logs, reply_room, pending, next_uid, most_changes, most_entries, last_uid}
+use Rattle.world.specs.World.{Config, World, Box, Session, Empty, Taken, Event, Put, PutEnd, Take, Deliver, Answer, Hear, Enter, Status, Read, Store, Expunge, Feed, Leave, Discard, Step, Allowed, put_joins, put_full, put_no_memory, put_shut, end_joins, end_full, TakeStep, takes, take_empty, DeliverStep, delivers, deliver_spent, deliver_full, deliver_no_memory, answers, answer_full, hears_one, enters, enter_spent, enter_no_memory, MailStep, mails, mail_lapped, mail_spent, LeaveStep, DiscardStep, leaves, leave_spent, discards_them, discard_spent, Logs, reply_room, pending, next_uid, most_changes, most_entries, last_uid}
 
 base_stays : (ring total base : ℕ) (cs : List Change) → BaseAfter ring total base cs base
 base_stays ring total base [] = refl
@@ -35,6 +35,15 @@ leave_outcome k w n s changes = go (cases_lt most_changes (length (w.box s.mailb
     go (inr room) =
         let b : (new : Box) × Logs k (w.box s.mailbox) changes [] new = logged k (w.box s.mailbox) changes [] room in
         (_, leaves b.0 b.1 refl)
+
+discard_outcome : (k : Config) (w : World) (m : ℕ) (changes : List Change) → m < k.mailboxes → (v : World) × DiscardStep k w m changes v
+discard_outcome k w m changes there = go (cases_lt most_changes (length (w.box m).log + length changes))
+  where
+    go : (most_changes < length (w.box m).log + length changes) ⊎ (length (w.box m).log + length changes ≤ most_changes) → (v : World) × DiscardStep k w m changes v
+    go (inl spent) = (w, discard_spent there spent refl)
+    go (inr room) =
+        let b : (new : Box) × Logs k (w.box m) changes [] new = logged k (w.box m) changes [] room in
+        (_, discards_them b.0 there b.1 refl)
 
 deliver_outcome : (k : Config) (w : World) (s : ℕ) (c : Job) → w.hand s ≡ Taken c → (v : World) × DeliverStep k w s v
 deliver_outcome k w s c was = go (cases_lt (next_uid k b) last_uid) (cases_lt most_changes (length b.log + length (arrival (next_uid k b) c.flags))) (cases_lt (length (rows_of b.log)) k.messages)
@@ -85,6 +94,7 @@ outcome k w (Store n u op) (s, is) = let o : (v : World) × MailStep k w n s fal
 outcome k w (Expunge n may_go) (s, is) = let o : (v : World) × MailStep k w n s true (pending (w.box s.mailbox) s) (removals may_go (rows_of (w.box s.mailbox).log)) v = mail_outcome k w n s true _ _ in (o.0, (s, is, o.1))
 outcome k w (Feed n limit) (s, is) = let o : (v : World) × MailStep k w n s true (take limit (pending (w.box s.mailbox) s)) [] v = mail_outcome k w n s true _ [] in (o.0, (s, is, o.1))
 outcome k w (Leave n removing) (s, is) = let o : (v : World) × LeaveStep k w n s (removals_if removing (rows_of (w.box s.mailbox).log)) v = leave_outcome k w n s _ in (o.0, (s, is, o.1))
+outcome k w (Discard m goes) there = discard_outcome k w m (discards goes (rows_of (w.box m).log)) there
 
 pub only_allowed : (k : Config) (w : World) (e : Event) (v : World) → Step k w e v → Allowed k w e
 only_allowed k w (Put p s c) v (put_joins may live room e) = may
@@ -111,3 +121,5 @@ only_allowed k w (Store n u op) v (s, is, step) = (s, is)
 only_allowed k w (Expunge n may_go) v (s, is, step) = (s, is)
 only_allowed k w (Feed n limit) v (s, is, step) = (s, is)
 only_allowed k w (Leave n removing) v (s, is, step) = (s, is)
+only_allowed k w (Discard m goes) v (discards_them b there L e) = there
+only_allowed k w (Discard m goes) v (discard_spent there h e) = there

@@ -18,7 +18,7 @@ use Rattle.delivery_token.specs.declared.Verdict.{Verdict}
 use Rattle.delivery_token.specs.declared.Verdict.TheVariants.{Stored, Refused}
 use Rattle.delivery_token.specs.declared.Refusal.{Refusal}
 use Rattle.delivery_token.specs.declared.log.Noted.{Noted}
-use Rattle.world.specs.World.{Config, World, Box, Session, Hand, Empty, Taken, Done, MayPut, EntryBelow, put_joins, put_full, put_no_memory, put_shut, end_joins, end_full, takes, take_empty, delivers, deliver_spent, deliver_full, deliver_no_memory, answers, answer_full, hears_one, enters, enter_spent, enter_no_memory, MailStep, mails, mail_lapped, mail_spent, mail_no_memory, LeaveStep, leaves, leave_spent, Event, Put, PutEnd, Take, Deliver, Answer, Hear, Enter, Status, Read, Store, Expunge, Feed, Leave, Step, Steps, IsWorld, in_hand, puts, hears, shard_of, empty_world}
+use Rattle.world.specs.World.{Config, World, Box, Session, Hand, Empty, Taken, Done, MayPut, EntryBelow, put_joins, put_full, put_no_memory, put_shut, end_joins, end_full, takes, take_empty, delivers, deliver_spent, deliver_full, deliver_no_memory, answers, answer_full, hears_one, enters, enter_spent, enter_no_memory, MailStep, mails, mail_lapped, mail_spent, mail_no_memory, LeaveStep, leaves, leave_spent, discards_them, discard_spent, Event, Put, PutEnd, Take, Deliver, Answer, Hear, Enter, Status, Read, Store, Expunge, Feed, Leave, Discard, Step, Steps, IsWorld, in_hand, puts, hears, shard_of, empty_world}
 use Rattle.world.specs.Law.{item_of, items, stored, held, due, accepted_of, pair_of, pairs}
 use Rattle.world.specs.Known.{key_in}
 use Rattle.world.proofs.Base.{Every, every_append, every_map, every_weaker, every_of_all, all_of_every, Rising, rising_pair}
@@ -406,6 +406,8 @@ verdicts_step k w (Store n u op) v K V (s, is, step) = verdicts_mail k w n s _ _
 verdicts_step k w (Expunge n may_go) v K V (s, is, step) = verdicts_mail k w n s _ _ _ v V step
 verdicts_step k w (Feed n limit) v K V (s, is, step) = verdicts_mail k w n s _ _ _ v V step
 verdicts_step k w (Leave n removing) v K V (s, is, step) = verdicts_leave k w n s _ v V step
+verdicts_step k w (Discard m goes) v K V (discards_them b there L e) = rw e (verdicts_rest w _ _ _ V)
+verdicts_step k w (Discard m goes) v K V (discard_spent there h e) = rw e V
 
 verdicts_steps : (k : Config) (w : World) (es : List Event) (v : World) → Known k w → Verdicts w → Steps k w es v → Verdicts v
 verdicts_steps k w [] v K V e = rw e V

@@ -555,7 +555,7 @@ lacking = refl
 logs_in_first : written at_the_door
     (Line (codes "a1 CAPABILITY") [] ∷ Line (codes "a2 NOOP") [] ∷ Line (codes "a3 SELECT INBOX") [] ∷ Line (codes "a4 AUTHENTICATE GSSAPI") [] ∷ Line (codes "a5 LOGIN smith SESAME") [] ∷ Line (codes "a6 LOGIN SMITH") []
     ∷ Line (codes "a7 LOGIN \"SMITH\" \"\"") [] ∷ Line (codes "a8 LOGIN SMITH SESAME") [] ∷ [])
-    ≡ Some (codes "* CAPABILITY IMAP4rev2 IMAP4rev1 AUTH=PLAIN ENABLE ID IDLE LITERAL- NAMESPACE SASL-IR UIDPLUS UNSELECT\r\na1 OK CAPABILITY completed\r\na2 OK NOOP completed\r\na3 BAD Wrong state\r\na4 NO [CANNOT] Not offered here\r\na5 NO [AUTHENTICATIONFAILED] Another user's port\r\na6 BAD Invalid arguments\r\na7 OK LOGIN completed\r\na8 BAD Wrong state\r\n")
+    ≡ Some (codes "* CAPABILITY IMAP4rev2 IMAP4rev1 AUTH=PLAIN ENABLE ID IDLE LITERAL- MOVE NAMESPACE SASL-IR UIDPLUS UNSELECT\r\na1 OK CAPABILITY completed\r\na2 OK NOOP completed\r\na3 BAD Wrong state\r\na4 NO [CANNOT] Not offered here\r\na5 NO [AUTHENTICATIONFAILED] Another user's port\r\na6 BAD Invalid arguments\r\na7 OK LOGIN completed\r\na8 BAD Wrong state\r\n")
 unfolding read digits announced
 logs_in_first = refl
 
@@ -689,7 +689,7 @@ copies_taken_back = refl
 gone_passed : written at_inbox
     (Line (codes "a1 UID COPY 3,5 Work") (Looked (3 ∷ 5 ∷ []) ∷ Found None ∷ flagged_message ∷ []) ∷ Heard (verdicts.Stored 9) (counted 7 ∷ Fed (3 ∷ 5 ∷ []) [] ∷ [])
     ∷ Line (codes "a2 COPY 1:2 Work") (Looked (3 ∷ 5 ∷ []) ∷ flagged_message ∷ Found None ∷ []) ∷ [])
-    ≡ Some (codes "a1 OK [COPYUID 7 5 9] UID COPY completed\r\na2 NO [EXPUNGEISSUED] Some messages are gone\r\n")
+    ≡ Some (codes "a1 OK [COPYUID 7 5 9] COPY completed\r\na2 NO [EXPUNGEISSUED] Some messages are gone\r\n")
 unfolding read digits counted
 gone_passed = refl
 

@@ -2,17 +2,20 @@
 use Rattle.std.specs.Prelude.{◌≡◌, ℕ, List, true, false, codes, [], ◌∷◌, Bool}
 use Rattle.imap_grammar.specs.Literals.{announced}
 use Rattle.imap_grammar.specs.Reading.{read}
-use Rattle.imap_session.specs.Exchange.{Sent}
+use Rattle.imap_session.specs.Exchange.{Sent, Client, Copied, Batch, Folder}
 use Rattle.std.specs.Fmt.{digits}
-use Rattle.std.proofs.Common.{refl, inl}
-use Rattle.imap_session.specs.Commands.{appended_words, copied_words}
+use Rattle.std.proofs.Common.{refl, inl, sym}
+use Rattle.imap_session.specs.Commands.{appended_words, copied_words, with_copy}
 use Rattle.imap_session.specs.Telling.{tells_uid}
-use Rattle.laws_client.specs.Appends.{EndsWith, IsSentAs, IsSpelled, as_it_stands, last_line, with_literal, with_response, IsCopyOf, SaysMoved}
+use Rattle.laws_client.specs.Appends.{EndsWith, IsSentAs, IsSpelled, as_it_stands, last_line, with_literal, with_response, IsCopyOf, SaysMoved, SaysVerdict, awaits_next}
 use Rattle.laws_client.specs.Clients.{Answer, Words}
 use Rattle.laws_client.specs.Cuts.{amid, between, cut_between, cuts, is_ended}
-use Rattle.imap_session.specs.declared.standing.Origin.TheVariants.{Client, Copied}
-use Rattle.imap_session.specs.declared.standing.Source.{Source}
 use Rattle.imap_grammar.specs.declared.set.SeqNumber.TheVariants.{Number}
+use Rattle.exactly_once.specs.Found.{none_named, one_found, one_gone}
+use Rattle.mailbox.specs.declared.clients.Row.{Row}
+use Rattle.delivery_token.specs.declared.Verdict.TheVariants.{Stored, Refused}
+use Rattle.delivery_token.specs.declared.Refusal.TheVariants.{Full}
+use Rattle.std.proofs.lemmas.Bool.{false≢true}
 
 -- ---- the last line
 
@@ -76,14 +79,17 @@ sent_by_literals = record {
   whole = refl;
 }
 
--- a copy of the second message that the client was told of, which has the UID 7
-abbrev of_the_second : Bool → Source
-of_the_second moves = record { uid = 7; by_uid = false; moves = moves }
+-- the second message that the client was told of, which has the UID 7, before its copy is stored
+abbrev of_the_second : Bool → Batch
+of_the_second moves = record { by_uid = false; moves = moves; uids = 7 ∷ []; left = []; copies = [] }
 
-abbrev a_copy : (mailbox : ℕ) → (text : List ℕ) → Sent
-a_copy mailbox text = record (a_message mailbox text) { origin = Copied (of_the_second false) }
+abbrev of_batch : Batch → (mailbox : ℕ) → (text : List ℕ) → Sent
+of_batch batch mailbox text = record (a_message mailbox text) { origin = Copied batch }
 
-copied_so : IsCopyOf (record { name = codes "INBOX"; mailbox = 4 } ∷ record { name = codes "Archive"; mailbox = 5 } ∷ []) (codes "a0 NOOP\r\na1 COPY 2 Archive\r\n") (a_copy 5 (codes "x\r\n")) (of_the_second false)
+abbrev inbox_and_archive : List Folder
+inbox_and_archive = record { name = codes "INBOX"; mailbox = 4 } ∷ record { name = codes "Archive"; mailbox = 5 } ∷ []
+
+copied_so : IsCopyOf inbox_and_archive (codes "a0 NOOP\r\na1 COPY 2 Archive\r\n") (of_batch (of_the_second false) 5 (codes "x\r\n")) (of_the_second false)
 unfolding read
 copied_so = record {
   front = codes "a0 NOOP\r\n";
@@ -92,21 +98,64 @@ copied_so = record {
   behind = [];
   copy = record { by_uid = false; moves = false; set = record { from = Number 2; to = Number 2 } ∷ []; name = codes "Archive" };
   view = 3 ∷ 7 ∷ [];
+  uids = 7 ∷ [];
   spelled = as_it_stands (codes "a1 COPY 2 Archive");
   reads = refl;
   named = refl;
   by_uid = refl;
   moves = refl;
-  one = refl;
+  set = refl;
+  some = one_found 7 [] [] none_named;
+  all = λ by_number. refl;
+  place = refl;
   whole = refl;
 }
 
-told_of_a_copy : EndsWith (codes "a1") (copied_words 8 7 1) (codes "* 3 EXISTS\r\na1 OK [COPYUID 8 7 1] COPY completed\r\n")
+-- Of three that are named by their UIDs the second is gone. The copy of the first is stored, under the UID 9, and the other is on its way.
+abbrev of_two : (left : List Row) → (copies : List ℕ) → Batch
+of_two left copies = record { by_uid = true; moves = false; uids = 3 ∷ 5 ∷ []; left = left; copies = copies }
+
+one_was_gone : IsCopyOf inbox_and_archive (codes "a1 UID COPY 3:5 Archive\r\n") (of_batch (of_two [] (9 ∷ [])) 5 (codes "x\r\n")) (of_two [] (9 ∷ []))
+unfolding read
+one_was_gone = record {
+  front = [];
+  bytes = codes "a1 UID COPY 3:5 Archive";
+  line = codes "a1 UID COPY 3:5 Archive";
+  behind = [];
+  copy = record { by_uid = true; moves = false; set = record { from = Number 3; to = Number 5 } ∷ []; name = codes "Archive" };
+  view = 3 ∷ 4 ∷ 5 ∷ 7 ∷ [];
+  uids = 3 ∷ 4 ∷ 5 ∷ [];
+  spelled = as_it_stands (codes "a1 UID COPY 3:5 Archive");
+  reads = refl;
+  named = refl;
+  by_uid = refl;
+  moves = refl;
+  set = refl;
+  some = one_found 3 (5 ∷ []) (4 ∷ 5 ∷ []) (one_gone 4 (5 ∷ []) (5 ∷ []) (one_found 5 [] [] none_named));
+  all = λ by_number. let never : true ≡ false = by_number in absurd (false≢true (sym never));
+  place = refl;
+  whole = refl;
+}
+
+told_of_a_copy : EndsWith (codes "a1") (copied_words 8 (with_copy 1 (of_the_second false))) (codes "* 3 EXISTS\r\na1 OK [COPYUID 8 7 1] COPY completed\r\n")
 unfolding digits
 told_of_a_copy = record { chosen = refl; last = refl }
 
+-- UIDs that follow one another are a range (RFC 9051, 9: uid-set)
+told_of_two : EndsWith (codes "a1") (copied_words 7 (with_copy 10 (of_two [] (9 ∷ [])))) (codes "a1 OK [COPYUID 7 3,5 9:10] COPY completed\r\n")
+unfolding digits
+told_of_two = record { chosen = refl; last = refl }
+
+-- the copy of the first is stored, and nothing is said yet
+first_of_two : (row : Row) → SaysVerdict 7 (Copied (of_two (row ∷ []) [])) (codes "a1") (Stored 9) []
+first_of_two row = inl (awaits_next row [] refl refl)
+
+-- that of the second is refused, since its shard is full: the other is removed again
+second_refused : SaysVerdict 7 (Copied (of_two [] (9 ∷ []))) (codes "a1") (Refused Full) (codes "a1 NO Shard full\r\n")
+second_refused = inl refl
+
 -- of a MOVE, where the message is removed
-moved_so : SaysMoved 8 1 (of_the_second true) (codes "a1") (codes "* OK [COPYUID 8 7 1] Moved\r\n* 2 EXPUNGE\r\na1 OK MOVE completed\r\n")
+moved_so : SaysMoved 8 (with_copy 1 (of_the_second true)) (codes "a1") (codes "* OK [COPYUID 8 7 1] Moved\r\n* 2 EXPUNGE\r\na1 OK MOVE completed\r\n")
 unfolding digits
 moved_so = record { behind = codes "* 2 EXPUNGE\r\na1 OK MOVE completed\r\n"; tells = refl; ends = inl (record { chosen = refl; last = refl }) }
 

@@ -11,12 +11,11 @@ use Rattle.imap_session.specs.declared.standing.After.TheVariants.{Go, Submit}
 use Rattle.imap_session.specs.declared.standing.After.TheVariants as afters
 use Rattle.imap_session.specs.Commands.{unlimited, with_bytes, without_begun, without_sent}
 use Rattle.imap_session.specs.declared.standing.Profile.TheVariants.{Standard}
-use Rattle.imap_session.specs.Exchange.{Count, Counted, Fed, Feed, Argument, ForLiteral, ForVerdict, Message, Purpose, Response, Standing, begun_with, waiting, Unasked}
+use Rattle.imap_session.specs.Exchange.{Count, Counted, Fed, Feed, Argument, ForLiteral, ForVerdict, Message, Purpose, Response, Standing, begun_with, waiting, Unasked, Client}
 use Rattle.laws_client.specs.Clients.{Answer, Words}
 use Rattle.laws_client.specs.Commands.{whole_line}
 use Rattle.laws_client.specs.RecordTurns.{told_of}
 use Rattle.laws_client.specs.Talks.{Heard, Line, Literal, Talks}
-use Rattle.imap_session.specs.declared.standing.Origin.TheVariants.{Client}
 
 abbrev pub selected : Standing
 selected = record (begun_with (record { most = Some 10; profile = Standard; login = None }) []) { selected = Some (record { mailbox = 0; read_only = false }) }

@@ -1,9 +1,9 @@
 -- The messages by their UIDs, as a mailbox keeps them.
-use Rattle.std.specs.Prelude.{◌≡◌, ℕ, ◌==◌, ◌≤◌, List, [], ◌∷◌, length, map, All, Option, Some, None, if◌then◌else◌}
+use Rattle.std.specs.Prelude.{◌≡◌, ℕ, ◌==◌, ◌≤◌, Bool, List, [], ◌∷◌, length, map, filter, All, Option, Some, None, if◌then◌else◌}
 use Rattle.std.specs.List.Sorted.{IsStrictlyIncreasing}
 use Rattle.change_ring.specs.declared.change.Flags.{Flags}
 use Rattle.mailbox.specs.Counts.{unseen_count, bytes_in_all}
-use Rattle.mailbox.specs.Mailbox.{Message}
+use Rattle.mailbox.specs.Mailbox.{Message, uids_of}
 use Rattle.mailbox.specs.declared.letters.Letter.{Letter}
 use Rattle.mailbox.specs.declared.letters.Letters.TheInside.{Inside}
 
@@ -50,6 +50,10 @@ without_message uid (m ∷ ms) = if m.uid == uid then ms else m ∷ without_mess
 abbrev pub reflagged : ℕ → Flags → List Message → List Message
 reflagged uid flags [] = []
 reflagged uid flags (m ∷ ms) = if m.uid == uid then record m { flags = flags } ∷ ms else m ∷ reflagged uid flags ms
+
+-- how many messages have a UID that passes
+abbrev pub count_of : (ℕ → Bool) → List Message → ℕ
+count_of test messages = length (filter test (uids_of messages))
 
 -- the UIDs rise, a letter is at each position, and the counts are the messages'
 pub record AreCounted (b : Inside) : Type 0 where

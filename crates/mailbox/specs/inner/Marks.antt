@@ -2,9 +2,11 @@
 use Rattle.std.specs.Prelude.{◌≡◌, ◌≤◌, ℕ, Bool, true, false, List, [], ◌∷◌, length, map, filter, if◌then◌else◌, vec_capacity, nat_lt}
 use Rattle.change_ring.specs.declared.change.Change.{Change}
 use Rattle.change_ring.specs.declared.change.Change.TheVariants.{Gone}
-use Rattle.change_ring.specs.Log.{without}
+use Rattle.change_ring.specs.declared.flag_op.FlagOp.{FlagOp}
+use Rattle.change_ring.specs.declared.flag_op.FlagOp.TheVariants.{Insert}
+use Rattle.change_ring.specs.Log.{no_flags, without}
 use Rattle.mailbox.specs.inner.Letters.{without_message}
-use Rattle.mailbox.specs.Mailbox.{Message, uids_of}
+use Rattle.mailbox.specs.Mailbox.{Message, flagged, uids_of}
 use Rattle.mailbox.specs.declared.messages.Messages.TheInside.{Inside}
 
 -- the UIDs of those with \Deleted
@@ -27,6 +29,15 @@ remarked uid false false us = us
 abbrev pub without_each : (ℕ → Bool) → List ℕ → List Message → List Message
 without_each test [] messages = messages
 without_each test (u ∷ us) messages = without_each test us (if test u then without_message u messages else messages)
+
+-- setting \Deleted
+abbrev pub doom : FlagOp
+doom = Insert (record no_flags { deleted = true })
+
+-- the messages of these UIDs have \Deleted
+abbrev pub doomed : List ℕ → List Message → List Message
+doomed [] messages = messages
+doomed (u ∷ us) messages = doomed us (flagged u doom messages)
 
 -- what is logged where those UIDs go that pass
 abbrev pub gone_of : (ℕ → Bool) → List ℕ → List Change

@@ -1,4 +1,4 @@
-use Rattle.std.proofs.Common.{◌≡◌, ℕ, ◌+◌, ◌-◌, ◌≤◌, List, [], drop, map, length}
+use Rattle.std.proofs.Common.{◌≡◌, ℕ, ◌≤◌, List, drop, map, length}
 use Rattle.std.specs.Prelude.{vec_capacity, vec_len}
 use Rattle.imap_grammar.specs.Sets.{named_at}
 use Rattle.imap_session.specs.Exchange.{Mailing, Standing}

@@ -1,0 +1,26 @@
+use Rattle.std.proofs.Common.{◌∷◌, [], List, subst}
+use Rattle.house_history.specs.declared.event.Event.{Event}
+use Rattle.house_history.specs.declared.event.Event.TheVariants as events
+use Rattle.house_history.specs.declared.event.Step.TheVariants as steps
+use Rattle.locked_mailbox.specs.Locking.{LockedMailbox, Knows}
+use Rattle.locked_mailbox.proofs.Keeping.{changed_keeps, changed_knows, discard_keeps, discard_same, held, looked_knows, no_event, same_keeps}
+use Rattle.locked_mailbox.proofs.locked.LockedMailbox.discard.Goals as goal
+
+pub returns-in_err-discard-clause-history : goal.returns-in_err-discard-clause-history
+returns-in_err-discard-clause-history g c = let s = c.self.inside in let left = c.discard.new.mailbox in
+    let to = held left c.look.new.self.events s.last.items s.front in
+    subst (λ (said : List Event). Knows c.args.self.now to said c.args.front.now c.look.new.front) (no_event c.from_residual.result c.from_residual.ensures.0 (events.Changed c.args.self.now.mailbox.number (steps.Discard c.args.uids.now)))
+    (subst (λ (h : LockedMailbox). Knows h to [] c.args.front.now c.look.new.front) c.self.view_is
+    (looked_knows s.mailbox left s.part c.look.new.self s.last.items s.front c.args.front.now c.look.new.front c.look.ensures.same c.self.invariant
+    (same_keeps s.mailbox left s.part.number s.part.events s.last.items c.self.invariant (discard_same s.mailbox left c.args.uids.now c.in_err-discard.field-0.0 c.in_err-discard.ensures)) c.look.ensures.seen))
+
+pub invariant_of-self-2 : goal.invariant_of-self-2
+invariant_of-self-2 g c = let s = c.self.inside in let left = c.discard.new.mailbox in
+    changed_keeps left s.part c.look.new.self c.discard-2.new.self s.last.items (steps.Discard c.args.uids.now) c.look.ensures.same c.discard-2.ensures.part
+    (discard_keeps s.mailbox left s.part.number s.part.events s.last.items c.args.uids.now c.in_ok-discard.ensures c.self.invariant)
+
+pub returns-clause-history : goal.returns-clause-history
+returns-clause-history g c = let s = c.self.inside in let left = c.discard.new.mailbox in let after = c.discard-2.new.front in
+    subst (λ (h : LockedMailbox). Knows h (held left c.discard-2.new.self.events s.last.items s.front) (events.Changed h.mailbox.number (steps.Discard c.args.uids.now) ∷ []) c.args.front.now after) c.self.view_is
+    (changed_knows s.mailbox left s.part c.look.new.self c.discard-2.new.self s.last.items (steps.Discard c.args.uids.now) s.front c.args.front.now c.look.new.front after c.look.ensures.same c.discard-2.ensures.part c.self.invariant
+    (discard_keeps s.mailbox left s.part.number s.part.events s.last.items c.args.uids.now c.in_ok-discard.ensures c.self.invariant) c.look.ensures.seen.0 c.discard-2.ensures.seen c.discard-2.ensures.all)
