@@ -1,5 +1,5 @@
 -- How the work that is left becomes less.
-use Rattle.std.proofs.Common.{◌≡◌, ◌⊎◌, inl, inr, Bool, true, nat_eq, sym, ℕ, ◌+◌, ◌*◌, ◌<◌, ◌≤◌, List, [], ◌∷◌, length, drop, refl, ap, ◌∙◌, arith, Option, Some, None, length-drop, append-nil}
+use Rattle.std.proofs.Common.{◌≡◌, inl, inr, Bool, true, nat_eq, sym, ℕ, ◌+◌, ◌*◌, ◌<◌, ◌≤◌, List, [], ◌∷◌, length, drop, refl, ap, ◌∙◌, arith, Option, Some, None, length-drop, append-nil}
 use Rattle.change_ring.specs.Log.{no_flags}
 use Rattle.std.proofs.lemmas.Bool.{eqb-true}
 use Rattle.std.proofs.Math.Seq.{drop-length, drop-nil}

@@ -1,4 +1,4 @@
-use Rattle.std.proofs.Common.{◌++◌, ℕ, List}
+use Rattle.std.proofs.Common.{◌++◌, List}
 use Rattle.workers_sync.specs.Carried.{Carried}
 use Rattle.imap_session.specs.Dialogue.{Dialogue, StandsFor}
 use Rattle.session_thread.specs.Life.{moment}

@@ -1,4 +1,4 @@
-use Rattle.std.proofs.Common.{◌≤◌, ◌+◌, ◌*◌, ◌∙◌, ℕ, ap, arith, length, subst, sym, refl, false, true, List, Option}
+use Rattle.std.proofs.Common.{◌≤◌, ◌∙◌, ap, arith, length, subst, sym, refl, false, true, List, Option}
 use Rattle.std.specs.Option.{is_some}
 use Rattle.std.specs.Prelude.{Err, Ok, OnErr, Result}
 use Rattle.delivery_token.specs.declared.Verdict.{Verdict}

@@ -1,4 +1,4 @@
-use Rattle.std.proofs.Common.{ap, sym, subst}
+use Rattle.std.proofs.Common.{sym, subst}
 use Rattle.house_peers.specs.HouseSession.{HouseSession, StandsFor}
 use Rattle.imap_session.specs.Store.{Follows}
 use Rattle.imap_session.proofs.Following.{verdict_follows}
