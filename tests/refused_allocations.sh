@@ -56,7 +56,7 @@ is_right() {
 
 # Whether each copy that was answered as delivered, or that a client appended or had copied, stands in the mailbox, where the script came that far: the UIDs that were told are UIDs of
 # messages that were added, none is told twice, and no more copies are answered than were added. Where all mail came from a client that isn't told BYE, whatever else was added is gone
-# again: of a COPY or MOVE of several messages that was refused no copy stays.
+# again; or all copies of the one command stand whose NO speaks of what is shown behind them. a7 and a8 copy two messages each, the other commands one.
 is_kept() {
     grep -q '^T alice total' "$room/out" || return 0
     awk '
@@ -79,14 +79,15 @@ is_kept() {
             if ($5 != 7) wrong = 1
             tell_set($4 == "[COPYUID" ? $7 : $6)
         }
+        $1 == "I1" && $3 == "NO" { named = $2 ~ /^a[78]$/ ? 2 : 1 }
         /^T alice add / { added[$4] = 1; count++ }
         /^T alice gone / { gone[$4] = 1 }
         END {
             for (uid in told)
                 if (!(uid in added)) wrong = 1
             for (uid in added)
-                if (!others && !(uid in told) && !(uid in gone)) wrong = 1
-            exit (wrong || answered > count)
+                if (!others && !(uid in told) && !(uid in gone)) untold++
+            exit (wrong || answered > count || untold && untold != named)
         }
     ' "$room/out"
 }
