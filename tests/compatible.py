@@ -23,7 +23,7 @@ import time
 from serving_house import House
 
 USERS = ("alice", "bob")
-CAPABILITIES = ("IMAP4REV2", "IMAP4REV1", "AUTH=PLAIN", "ENABLE", "ID", "IDLE", "LITERAL-", "MOVE", "NAMESPACE", "SASL-IR", "UIDPLUS", "UNSELECT")
+CAPABILITIES = ("IMAP4REV2", "IMAP4REV1", "AUTH=PLAIN", "ENABLE", "ESEARCH", "ID", "IDLE", "LITERAL-", "MOVE", "NAMESPACE", "SASL-IR", "UIDPLUS", "UNSELECT")
 PATIENCE = 20
 MOST_SESSIONS = 16
 
@@ -164,8 +164,20 @@ def reading(client, house):
     expect("what CHECK showed", client.response("EXISTS"), ("EXISTS", [b"2"]))
     expect("a flag", client.store("1", "+FLAGS", r"(\Deleted)")[0], "OK")
     expect("EXPUNGE", client.expunge(), ("OK", [b"1"]))
-    expect("APPEND", client.append("INBOX", r"(\Seen)", None, b"Subject: three\r\n\r\nhi\r\n")[0], "OK")
+    expect("APPEND", client.append("INBOX", r"(\Seen)", '"17-Jul-1996 02:44:25 -0700"', b"Subject: three\r\n\r\nhi\r\n")[0], "OK")
     expect("what is there", client.status("INBOX", "(MESSAGES UNSEEN)"), ("OK", [b"INBOX (MESSAGES 2 UNSEEN 1)"]))
+    # What EXPUNGE and APPEND showed of flags stands before the answer, as imaplib hands out all that it holds.
+    expect("the date of what was appended", client.fetch("2", "(INTERNALDATE)")[1][-1], b'2 (INTERNALDATE "17-Jul-1996 02:44:25 -0700")')
+    expect("a search by it", client.search(None, "ON", "17-Jul-1996"), ("OK", [b"2"]))
+
+
+def counting(client):
+    """A search that says what it is to return; imaplib reads the answer as any other that it doesn't know (RFC 9051, 7.3.4)."""
+    expect("SEARCH RETURN", client.search(None, "RETURN", "(MIN COUNT)", "SEEN")[0], "OK")
+    found = client.response("ESEARCH")[1][-1]
+    expect("what it returns", found.partition(b") ")[2], b"MIN 2 COUNT 1")
+    expect("UID SEARCH RETURN", client.uid("SEARCH", "RETURN", "()", "DRAFT")[0], "OK")
+    expect("of none", client.response("ESEARCH")[1][-1].partition(b")")[2], b" UID")
 
 
 def idling(client, house):
@@ -234,6 +246,7 @@ def main():
     folders(client)
     dates(client, house)
     reading(client, house)
+    counting(client)
     idling(client, house)
     expect("LOGOUT", client.logout()[0], "BYE")
     other = connect(house.imap_ports[1])

@@ -45,6 +45,8 @@ ARRIVALS = 20
 # So many clients a user may have at once, by the recipe.
 CLIENTS = 12
 CANNOT = b"[CANNOT] Not offered here"
+# The date of a message that is appended, as RFC 9051 has one in an example.
+SUMMER = calendar.timegm((1996, 7, 17, 9, 44, 25))
 
 
 class Wrong(Exception):
@@ -361,7 +363,30 @@ def appending(alice, bob, front):
         there.noop()
         expect("what was appended", answer(there, "(BODY.PEEK[])"), draft)
         expect("its flag", flags(there, "1"), {rb"\Draft"})
-        expect("STATUS", client.status("Work", "(MESSAGES)"), ("OK", [b"Work (MESSAGES 1)"]))
+        expect("APPEND with a date", client.append("Work", None, '"17-Jul-1996 02:44:25 -0700"', draft)[0], "OK")
+        there.noop()
+        expect("its date at the server", seconds_of(answer(there, "(INTERNALDATE)", "2")), SUMMER)
+        expect("STATUS", client.status("Work", "(MESSAGES)"), ("OK", [b"Work (MESSAGES 2)"]))
+    with front.reader("alice", "Work") as client:
+        expect("its date through the front", seconds_of(answer(client, "(INTERNALDATE)", "2")), SUMMER)
+
+
+def copying(alice, bob, front):
+    """COPY and MOVE by the front, of messages with flags and a date; and how often each is there."""
+    with front.reader("alice", "Work") as client, alice.reader() as there:
+        expect("STORE", client.store("2", "+FLAGS", r"(\Flagged)")[0], "OK")
+        expect("COPY", client.copy("1:2", "INBOX")[0], "OK")
+        until_shown("the copies at the server", there, numbers, [b"1 2 3 4 5"])
+        expect("the text of a copy", answer(there, "(BODY.PEEK[])", "4"), answer(client, "(BODY.PEEK[])", "1"))
+        expect("its flag", flags(there, "4"), {rb"\Draft"})
+        expect("the flag of the other", flags(there, "5"), {rb"\Flagged"})
+        expect("the date of the other", seconds_of(answer(there, "(INTERNALDATE)", "5")), SUMMER)
+    with front.reader("alice") as client, alice.reader("Work") as there:
+        expect("what the client finds", numbers(client), [b"1 2 3 4 5"])
+        expect("MOVE", client.uid("MOVE", b",".join(client.uid("SEARCH", "4:5")[1][0].split()).decode(), "Work")[0], "OK")
+        expect("what is left", numbers(client), [b"1 2 3"])
+        until_shown("what was moved, at the server", there, numbers, [b"1 2 3 4"])
+        expect("the date of what was copied and moved", seconds_of(answer(there, "(INTERNALDATE)", "4")), SUMMER)
 
 
 def removing(alice, bob, front):
@@ -475,7 +500,8 @@ CHECKS = (
     ("INTERNALDATE is the date of the first Received field", dates),
     ("SEARCH, SORT, THREAD", searching),
     ("flags both ways", flags_both_ways),
-    ("APPEND", appending),
+    ("APPEND, with its date", appending),
+    ("COPY and MOVE, with flags and dates", copying),
     ("EXPUNGE both ways", removing),
     ("IDLE", idling),
     ("each user sees the own server's mail alone", two_users),

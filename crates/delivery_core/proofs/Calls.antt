@@ -15,6 +15,7 @@ use Rattle.world.specs.World.{Config, World, Box, Session, Event, MailStep, Read
 use Rattle.world.specs.Law.{IsPart}
 use Rattle.world.proofs.Base.{part_both}
 use Rattle.world.proofs.Kept.{BoxOk}
+use Rattle.delivery_token.specs.Text.{Text}
 use Rattle.delivery_core.specs.declared.client.Client.{Client}
 use Rattle.delivery_core.specs.DeliveryCore.{DeliveryCore}
 use Rattle.delivery_core.specs.Attached.{AreAttached, client_at, cursors_of}
@@ -45,7 +46,7 @@ read_tells k b b2 x mark_seen uid S ok logs texts =
 
     go : (o : Option Message) → message_with uid b2.messages ≡ o → option_map (row_read mark_seen uid (rows_of x.log)) o ≡ option_map after (option_map row_of o)
     go None e = refl
-    go (Some m) e = ap (λ (t : List ℕ). let row : read.Row = record { uid = m.uid; flags = m.flags; newly_seen = was_logged (seen_logged mark_seen (rows_of x.log) uid); text = t } in Some row)
+    go (Some m) e = ap (λ (t : Text). let row : read.Row = record { uid = m.uid; flags = m.flags; newly_seen = was_logged (seen_logged mark_seen (rows_of x.log) uid); text = t } in Some row)
         (text_told k x b2.messages uid m ok texts e)
 
 -- a call's tests of its handle

@@ -4,6 +4,7 @@ use Rattle.std.specs.Prelude.{if◌then◌else◌, ◌==◌, not, option_map, If
 use Rattle.std.proofs.lemmas.Bool.Decides.{eqb_tells}
 use Rattle.std.proofs.lemmas.Bool.{eq-eqb}
 use Rattle.std.proofs.lemmas.List.Sums.{sum_by-cons}
+use Rattle.delivery_token.specs.Text.{Text}
 use Rattle.delivery_token.specs.declared.Job.{Job}
 use Rattle.change_ring.specs.declared.change.Change.{Change}
 use Rattle.change_ring.specs.Log.{Row, replay, view_at}
@@ -160,9 +161,9 @@ pending_seen k w old n c b S e there = go (session_at k w old n c S e)
 -- ---- Status
 
 abbrev Texts : Type 0
-Texts = List (ℕ × List ℕ)
+Texts = List (ℕ × Text)
 
-shift : (y : ℕ × List ℕ) (ys xs : Texts) → Every (λ u. y.0 < u) (map (λ p. p.0) xs) → Every (λ p. text_at p.0 ys ≡ Some p.1) xs → Every (λ p. text_at p.0 (y ∷ ys) ≡ Some p.1) xs
+shift : (y : ℕ × Text) (ys xs : Texts) → Every (λ u. y.0 < u) (map (λ p. p.0) xs) → Every (λ p. text_at p.0 ys ≡ Some p.1) xs → Every (λ p. text_at p.0 (y ∷ ys) ≡ Some p.1) xs
 shift y ys [] above all = tt
 shift y ys (x ∷ xs) above all = (go (eqb_tells y.0 x.0), shift y ys xs above.1 all.1)
   where
@@ -175,17 +176,17 @@ part_texts : {xs ys : Texts} → IsPart xs ys → Rising (λ u v. u < v) (map (�
 part_texts none o = tt
 part_texts (keeps y {xs} {ys} p) o = (
   subst (λ (b : Bool). (if b then Some y.1 else text_at y.0 ys) ≡ Some y.1) (sym (eq-eqb y.0 y.0 refl)) refl,
-  shift y ys xs (part_every (λ u. y.0 < u) (part_map (λ (q : ℕ × List ℕ). q.0) p) o.0) (part_texts p o.1),
+  shift y ys xs (part_every (λ u. y.0 < u) (part_map (λ (q : ℕ × Text). q.0) p) o.0) (part_texts p o.1),
 )
-part_texts (skips y {xs} {ys} p) o = shift y ys xs (part_every (λ u. y.0 < u) (part_map (λ (q : ℕ × List ℕ). q.0) p) o.0) (part_texts p o.1)
+part_texts (skips y {xs} {ys} p) o = shift y ys xs (part_every (λ u. y.0 < u) (part_map (λ (q : ℕ × Text). q.0) p) o.0) (part_texts p o.1)
 
 sum_texts : (ms : List Message) (copies : List (Job × ℕ)) → Every (λ p. text_at p.0 (map accepted_text copies) ≡ Some p.1) (map text_of ms)
-    → sum_by (λ (m : Message). length m.text) ms ≡ sum_by (λ (row : Row). length (text_with row.uid copies)) (map row_of ms)
+    → sum_by (λ (m : Message). length m.text.bytes) ms ≡ sum_by (λ (row : Row). length (text_with row.uid copies).bytes) (map row_of ms)
 sum_texts [] copies all = refl
 sum_texts (m ∷ ms) copies all =
-    sum_by-cons (λ (x : Message). length x.text) m ms
-    ∙ ap₂ (λ (a b : ℕ). a + b) (ap length (sym (text_accepted m.uid copies m.text all.0))) (sum_texts ms copies all.1)
-    ∙ sym (sum_by-cons (λ (row : Row). length (text_with row.uid copies)) (row_of m) (map row_of ms))
+    sum_by-cons (λ (x : Message). length x.text.bytes) m ms
+    ∙ ap₂ (λ (a b : ℕ). a + b) (ap (λ (t : Text). length t.bytes) (sym (text_accepted m.uid copies m.text all.0))) (sum_texts ms copies all.1)
+    ∙ sym (sum_by-cons (λ (row : Row). length (text_with row.uid copies).bytes) (row_of m) (map row_of ms))
 
 sum_rows : (f : Row → ℕ) (ms : List Message) → sum_by (λ (m : Message). f (row_of m)) ms ≡ sum_by f (map row_of ms)
 sum_rows f [] = refl
@@ -199,7 +200,7 @@ status_told k w old m i b status S same within there is = record {
   uidnext = ap (λ (z : Status). z.uidnext) is ∙ boxed.same_uid k b x here;
   unseen = ap (λ (z : Status). z.unseen) is ∙ sum_rows (λ row. cond (not row.flags.seen) 1 0) b.messages ∙ ap (count_by (λ (row : Row). not row.flags.seen)) here.log.messages;
   deleted = ap (λ (z : Status). z.deleted) is ∙ sum_rows (λ row. cond row.flags.deleted 1 0) b.messages ∙ ap (count_by (λ (row : Row). row.flags.deleted)) here.log.messages;
-  size = ap (λ (z : Status). z.size) is ∙ sum_texts b.messages x.accepted (part_texts here.texts rises) ∙ ap (sum_by (λ (row : Row). length (text_with row.uid x.accepted))) here.log.messages;
+  size = ap (λ (z : Status). z.size) is ∙ sum_texts b.messages x.accepted (part_texts here.texts rises) ∙ ap (sum_by (λ (row : Row). length (text_with row.uid x.accepted).bytes)) here.log.messages;
 }
   where
     x : Box

@@ -3,6 +3,7 @@ use Rattle.std.proofs.Common.{◌≡◌, ◌≢◌, ℕ, ◌+◌, ◌<◌, ◌�
 use Rattle.std.specs.Prelude.{◌↔◌, if◌then◌else◌, option_map, OnOk, OnErr}
 use Rattle.std.proofs.lemmas.Bool.{cases_lt}
 use Rattle.std.proofs.lemmas.Bool.Decides.{eqb_tells}
+use Rattle.delivery_token.specs.Text.{Text}
 use Rattle.delivery_token.specs.declared.Job.{Job}
 use Rattle.change_ring.specs.declared.change.Change.{Change}
 use Rattle.change_ring.specs.declared.flag_op.FlagOp.{FlagOp}
@@ -76,13 +77,13 @@ box_keeps k b new x s S same rest = record {
 
 pub texts_flagged : (uid : ℕ) (op : FlagOp) (ms : List Message) → map text_of (flagged uid op ms) ≡ map text_of ms
 texts_flagged uid op [] = refl
-texts_flagged uid op (m ∷ ms) = ap₂ (λ (t : ℕ × List ℕ) (ts : List (ℕ × List ℕ)). t ∷ ts) (go (m.uid == uid)) (texts_flagged uid op ms)
+texts_flagged uid op (m ∷ ms) = ap₂ (λ (t : ℕ × Text) (ts : List (ℕ × Text)). t ∷ ts) (go (m.uid == uid)) (texts_flagged uid op ms)
   where
     go : (b : Bool) → text_of (if b then record m { flags = flags_after op m.flags } else m) ≡ text_of m
     go true = refl
     go false = refl
 
-part_same : (xs ys : List (ℕ × List ℕ)) → xs ≡ ys → IsPart xs ys
+part_same : (xs ys : List (ℕ × Text)) → xs ≡ ys → IsPart xs ys
 part_same xs ys e = subst (IsPart xs) e (part_self xs)
 
 pub flagged_part : (uid : ℕ) (op : FlagOp) (old new : List Message) → new ≡ flagged uid op old → IsPart (map text_of new) (map text_of old)
@@ -189,7 +190,7 @@ row_message uid (m ∷ ms) = go (m.uid == uid) (row_message uid ms)
     go false h = h
 
 -- the text of a UID
-abbrev pub text_at : ℕ → List (ℕ × List ℕ) → Option (List ℕ)
+abbrev pub text_at : ℕ → List (ℕ × Text) → Option Text
 text_at uid [] = None
 text_at uid (t ∷ ts) = if t.0 == uid then Some t.1 else text_at uid ts
 
@@ -202,7 +203,7 @@ text_message uid (m ∷ ms) = go (m.uid == uid) (text_message uid ms)
     go true h = refl
     go false h = h
 
-pub text_accepted : (uid : ℕ) (copies : List (Job × ℕ)) (t : List ℕ) → text_at uid (map accepted_text copies) ≡ Some t → text_with uid copies ≡ t
+pub text_accepted : (uid : ℕ) (copies : List (Job × ℕ)) (t : Text) → text_at uid (map accepted_text copies) ≡ Some t → text_with uid copies ≡ t
 text_accepted uid [] t e = cc
 text_accepted uid (a ∷ copies) t e = go (a.1 == uid) (text_accepted uid copies t) e
   where
@@ -212,7 +213,7 @@ text_accepted uid (a ∷ copies) t e = go (a.1 == uid) (text_accepted uid copies
     go false later h = later h
 
 -- a UID that has a text is above whatever each UID is above
-text_above : (low uid : ℕ) (ts : List (ℕ × List ℕ)) (t : List ℕ) → Every (λ u. low < u) (map (λ p. p.0) ts) → text_at uid ts ≡ Some t → low < uid
+text_above : (low uid : ℕ) (ts : List (ℕ × Text)) (t : Text) → Every (λ u. low < u) (map (λ p. p.0) ts) → text_at uid ts ≡ Some t → low < uid
 text_above low uid [] t all e = cc
 text_above low uid (p ∷ ts) t all e = go (eqb_tells p.0 uid) (text_above low uid ts t all.1)
   where
@@ -225,7 +226,7 @@ text_above low uid (p ∷ ts) t all e = go (eqb_tells p.0 uid) (text_above low u
     go (inr (h, other)) later = later (pick false h refl)
 
 -- where the UIDs rise, a part of the texts has the texts that the whole has
-text_part : (uid : ℕ) (t : List ℕ) {xs ys : List (ℕ × List ℕ)} → IsPart xs ys → Rising (λ u v. u < v) (map (λ p. p.0) ys) → text_at uid xs ≡ Some t → text_at uid ys ≡ Some t
+text_part : (uid : ℕ) (t : Text) {xs ys : List (ℕ × Text)} → IsPart xs ys → Rising (λ u v. u < v) (map (λ p. p.0) ys) → text_at uid xs ≡ Some t → text_at uid ys ≡ Some t
 text_part uid t none o e = e
 text_part uid t (keeps y {xs} {ys} p) o e = go (y.0 == uid) (text_part uid t p o.1) e
   where
@@ -235,13 +236,13 @@ text_part uid t (keeps y {xs} {ys} p) o e = go (y.0 == uid) (text_part uid t p o
 text_part uid t (skips y {xs} {ys} p) o e = go (eqb_tells y.0 uid) (text_part uid t p o.1)
   where
     above : y.0 < uid
-    above = text_above y.0 uid xs t (part_every (λ u. y.0 < u) (part_map (λ (q : ℕ × List ℕ). q.0) p) o.0) e
+    above = text_above y.0 uid xs t (part_every (λ u. y.0 < u) (part_map (λ (q : ℕ × Text). q.0) p) o.0) e
 
     go : (((y.0 == uid) ≡ true) × (y.0 ≡ uid)) ⊎ (((y.0 == uid) ≡ false) × (y.0 ≢ uid)) → (text_at uid xs ≡ Some t → text_at uid ys ≡ Some t) → text_at uid (y ∷ ys) ≡ Some t
     go (inl (h, same)) later = absurd (omega (arith, above))
     go (inr (h, other)) later = subst (λ (b : Bool). (if b then Some y.1 else text_at uid ys) ≡ Some t) (sym h) (later e)
 
-pub numbers_of : (copies : List (Job × ℕ)) → map (λ (p : ℕ × List ℕ). p.0) (map accepted_text copies) ≡ map (λ (a : Job × ℕ). a.1) copies
+pub numbers_of : (copies : List (Job × ℕ)) → map (λ (p : ℕ × Text). p.0) (map accepted_text copies) ≡ map (λ (a : Job × ℕ). a.1) copies
 numbers_of [] = refl
 numbers_of (a ∷ copies) = ap (λ (us : List ℕ). a.1 ∷ us) (numbers_of copies)
 

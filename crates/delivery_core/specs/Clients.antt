@@ -1,5 +1,6 @@
 -- What a call of a session is in the world, and what it tells of the mailbox and of the session, as the event met them.
 use Rattle.std.specs.Prelude.{◌≡◌, ℕ, ◌+◌, ◌<◌, ◌≤◌, ◌==◌, not, Bool, List, [], ◌∷◌, ◌++◌, length, take, count_by, sum_by, option_map, Option, Some, None, Result, Ok, Err, if◌then◌else◌}
+use Rattle.delivery_token.specs.Text.{Text, undated}
 use Rattle.delivery_token.specs.declared.Job.{Job}
 use Rattle.change_ring.specs.declared.change.Change.{Change}
 use Rattle.change_ring.specs.declared.change.Flags.{Flags}
@@ -52,8 +53,8 @@ row_with uid [] = None
 row_with uid (row ∷ rows) = if row.uid == uid then Some row else row_with uid rows
 
 -- the text of the copy that was accepted under a UID
-abbrev pub text_with : ℕ → List (Job × ℕ) → List ℕ
-text_with uid [] = []
+abbrev pub text_with : ℕ → List (Job × ℕ) → Text
+text_with uid [] = undated []
 text_with uid (copy ∷ copies) = if copy.1 == uid then copy.0.text else text_with uid copies
 
 -- the session was shown these changes, whose lines stand behind what stood there
@@ -120,7 +121,7 @@ pub record IsStatus (k : Config) (b : Box) (status : Status) : Type 0 where
   pub uidnext : status.uidnext ≡ next_uid k b
   pub unseen : status.unseen ≡ count_by (λ (row : Row). not row.flags.seen) (rows_of b.log)
   pub deleted : status.deleted ≡ count_by (λ (row : Row). row.flags.deleted) (rows_of b.log)
-  pub size : status.size ≡ sum_by (λ (row : Row). length (text_with row.uid b.accepted)) (rows_of b.log)
+  pub size : status.size ≡ sum_by (λ (row : Row). length (text_with row.uid b.accepted).bytes) (rows_of b.log)
 
 -- Mailbox m logged these changes, and nothing else changed.
 pub record Discards (k : Config) (m : ℕ) (changes : List Change) (w v : World) : Type 0 where

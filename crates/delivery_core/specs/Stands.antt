@@ -3,6 +3,7 @@
 use Rattle.std.specs.Prelude.{◌≡◌, ℕ, ◌<◌, ◌≤◌, List, length, map, slice_index_or, All, Option, Some, None}
 use Rattle.delivery_token.specs.Keys.{Below}
 use Rattle.delivery_token.specs.declared.CopyKey.{CopyKey}
+use Rattle.delivery_token.specs.Text.{Text}
 use Rattle.delivery_token.specs.declared.Job.{Job}
 use Rattle.shard_queue.specs.Plain.{StandsForLane}
 use Rattle.mailbox.specs.Mailbox.{Mailbox, Message}
@@ -18,11 +19,11 @@ abbrev pub EachAt : {A : Type 0} → (ℕ → A → Type 0) → List A → Type 
 EachAt {A} P xs = (i : ℕ) (d : A) → i < length xs → P i (slice_index_or xs i d)
 
 -- a message by its UID and text
-abbrev pub text_of : Message → ℕ × List ℕ
+abbrev pub text_of : Message → ℕ × Text
 text_of m = (m.uid, m.text)
 
 -- an accepted copy by its UID and text
-abbrev pub accepted_text : Job × ℕ → ℕ × List ℕ
+abbrev pub accepted_text : Job × ℕ → ℕ × Text
 accepted_text a = (a.1, a.0.text)
 
 -- the mailbox is as the log leaves it, with its window's base and its history

@@ -7,12 +7,13 @@ mod laws;
 mod log;
 mod verdicts;
 
-ghost use Rattle.std.specs.Prelude.{◌≡◌, ◌↔◌, IfOk, IsTrue};
+ghost use Rattle.std.specs.Prelude.{◌≡◌, ◌↔◌, true, IfOk, IsTrue};
 ghost use Rattle.delivery_token.specs.Keys.{Precedes};
 
 use change_ring::Flags;
 pub use laws::what_was_heard_is_kept;
 pub use log::{Noted, WorkerLog};
+use mail_date::{Stamp, received};
 use std::alloc::AllocError;
 use std::marker::Model;
 use std::sync::Arc;
@@ -42,38 +43,73 @@ pub fn precedes(a: &CopyKey, b: &CopyKey) -> bool
     a.seat == b.seat && a < b
 }
 
-/// The bytes of a message, which all copies of it share.
+// The bytes of a message and the date that came with it.
+#[derive(Drop)]
+struct Letter {
+    bytes: Vec<u8>,
+    date: Option<Stamp>,
+}
+
+/// The bytes of a message, and the date that its APPEND brought: all copies of it share them.
 #[derive(Drop)]
 pub struct Text {
-    bytes: Arc<Vec<u8>>,
+    letter: Arc<Letter>,
 }
 
 impl Model for Text {
-    ghost use Rattle.std.specs.Prelude.{List, ℕ};
     ghost use Rattle.std.specs.Arc.{arc_value};
+    ghost use Rattle.delivery_token.specs.Text.{Text};
 
-    ghost Value = { List ℕ };
+    ghost Value = { Text };
 
-    ghost view = { λ t. (arc_value t.bytes).items };
+    ghost view = { λ t. record { bytes = (arc_value t.letter).bytes.items; date = (arc_value t.letter).date } };
 }
 
 impl Text {
-    /// The text that has these bytes, which are not copied, or an error where memory is refused for
-    /// what its copies share.
+    ghost use Rattle.mail_date.specs.Dates.{is_date};
+    ghost use Rattle.delivery_token.specs.Text.{date_of, undated};
+
+    /// The text that has these bytes, which are not copied, and no date of its own.
+    ///
+    /// Errors: `AllocError` where memory is refused for what its copies share.
     pub fn new(bytes: Vec<u8>) -> Result<Text, AllocError>
-        ensures { IfOk result (λ t. t ≡ bytes.items) }
+        ensures { IfOk result (λ t. t ≡ undated bytes.items) }
+    {
+        Text::with_date(bytes, None)
+    }
+
+    /// The text that has these bytes, which are not copied, and the date that came with it, where one did.
+    ///
+    /// Errors: `AllocError` where memory is refused for what its copies share.
+    pub fn with_date(bytes: Vec<u8>, date: Option<Stamp>) -> Result<Text, AllocError>
+        ensures { IfOk result (λ t. t ≡ record { bytes = bytes.items; date = date }) }
     {
         let alloc = *bytes.allocator();
         Ok(Text {
-            bytes: Arc::new(alloc, bytes)?,
+            letter: Arc::new(alloc, Letter { bytes, date })?,
         })
     }
 
     /// Its bytes.
     pub fn as_slice(&self) -> &[u8]
-        ensures { result.now ≡ self.now }
+        ensures { result.now ≡ self.now.bytes }
     {
-        self.bytes.as_slice()
+        self.letter.bytes.as_slice()
+    }
+
+    /// The date that came with it, where one did.
+    pub fn given_date(&self) -> Option<Stamp>
+        ensures { result ≡ self.now.date }
+    {
+        self.letter.date
+    }
+
+    /// The date of the message (RFC 9051, 2.3.3): the one that came with it, or else the one that its header says, for which the header is read.
+    pub fn date(&self) -> Stamp
+        ensures date { result ≡ date_of self.now }
+        ensures valid { is_date result ≡ true }
+    {
+        received(self.letter.date, self.letter.bytes.as_slice())
     }
 
     /// An equal text, which shares its bytes, or an error where that is refused.
@@ -81,7 +117,7 @@ impl Text {
         ensures { IfOk result (λ t. t ≡ self.now) }
     {
         Ok(Text {
-            bytes: Arc::try_clone(&self.bytes)?,
+            letter: Arc::try_clone(&self.letter)?,
         })
     }
 }

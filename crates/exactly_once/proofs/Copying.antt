@@ -18,7 +18,7 @@ use Rattle.exactly_once.specs.Found.{AreSomeOf, none_named, one_found, one_gone}
 
 -- each of these messages is as short as one that is copied has to be
 abbrev pub EachFits : Standing → List Row → Type 0
-EachFits now rows = AllByRecursion (λ (row : Row). is_over (most_copied now.mailing.most) (length row.text) ≡ false) rows
+EachFits now rows = AllByRecursion (λ (row : Row). is_over (most_copied now.mailing.most) (length row.text.bytes) ≡ false) rows
 
 -- The copy of this message goes to the mailbox that was named: of the first one that was found of those that the command named in its form. The others are left, and none is too long.
 pub record IsCopied (now : Standing) (copy : CopyMessages) (batch : Batch) (mailbox : ℕ) (row : Row) : Type 0 where
@@ -32,7 +32,7 @@ pub record IsCopied (now : Standing) (copy : CopyMessages) (batch : Batch) (mail
   pub first : batch.copies ≡ []
   pub others : suc (length batch.left) ≡ length batch.uids
   pub named : number_named copy.name now.folders ≡ Some mailbox
-  pub fits : is_over (most_copied now.mailing.most) (length row.text) ≡ false
+  pub fits : is_over (most_copied now.mailing.most) (length row.text.bytes) ≡ false
   pub others_fit : EachFits now batch.left
 
 -- it is so of each last line; and so where memory is wanted, a set is looked up and a message is read, if it is so of what comes then
@@ -62,7 +62,7 @@ one_less uid none_named = one_gone uid [] [] none_named
 one_less uid (one_found first others named h) = one_found first others (named ++ uid ∷ []) (one_less uid h)
 one_less {some} uid (one_gone first others named h) = one_gone first some (named ++ uid ∷ []) (one_less uid h)
 
-each_and : (now : Standing) (rows : List Row) (row : Row) → EachFits now rows → is_over (most_copied now.mailing.most) (length row.text) ≡ false → EachFits now (rows ++ row ∷ [])
+each_and : (now : Standing) (rows : List Row) (row : Row) → EachFits now rows → is_over (most_copied now.mailing.most) (length row.text.bytes) ≡ false → EachFits now (rows ++ row ∷ [])
 each_and now [] row each fits = (fits, tt)
 each_and now (first ∷ rows) row each fits = (each.0, each_and now rows row each.1 fits)
 
@@ -77,7 +77,7 @@ record IsGathered (now : Standing) (copy : CopyMessages) (passed : List ℕ) (ba
   fit : EachFits now batch.left
 
 with_one : (now : Standing) (copy : CopyMessages) (passed : List ℕ) (batch : Batch) (uid : ℕ) (row : Row) → IsGathered now copy passed batch
-    → is_over (most_copied now.mailing.most) (length row.text) ≡ false → IsGathered now copy (passed ++ uid ∷ []) (with_message uid row batch)
+    → is_over (most_copied now.mailing.most) (length row.text.bytes) ≡ false → IsGathered now copy (passed ++ uid ∷ []) (with_message uid row batch)
 with_one now copy passed batch uid row g fits = record {
   some = one_more uid g.some;
   all = λ numbered. ap (λ (x : List ℕ). x ++ uid ∷ []) (g.all numbered);
@@ -101,10 +101,10 @@ without_one now copy passed batch uid g by_uid = record {
 
 -- ---- the command
 
-pub copies_so : (P : Exchange → Type 0) → Passes P → (now : Standing) (copy : CopyMessages)
+pub copies_so : (P : Exchange → Type 0) → Passes P → (tag : List ℕ) (now : Standing) (copy : CopyMessages)
     → ((batch : Batch) (mailbox : ℕ) (row : Row) → IsCopied now copy batch mailbox row → P (Wait [] (ForVerdict (Copied batch) mailbox row.flags row.text)))
-    → P (on_command now (commands.Copy copy))
-copies_so P passes now copy waits = selected now.selected
+    → P (on_command tag now (commands.Copy copy))
+copies_so P passes tag now copy waits = selected now.selected
   where
     done : Exchange
     done = completed (commands.Copy copy)
@@ -136,16 +136,16 @@ copies_so P passes now copy waits = selected now.selected
 
     read : (mailbox uid : ℕ) (passed uids : List ℕ) (batch : Batch) → IsGathered now copy passed batch
         → ((more : Batch) → IsGathered now copy (passed ++ uid ∷ []) more → P (gathering now.mailing copy mailbox uids more)) → (row : Option Row)
-        → P (on_found (λ (row : Row). if is_over (most_copied now.mailing.most) (length row.text) then over (most_copied now.mailing.most) else gathering now.mailing copy mailbox uids (with_message uid row batch))
+        → P (on_found (λ (row : Row). if is_over (most_copied now.mailing.most) (length row.text.bytes) then over (most_copied now.mailing.most) else gathering now.mailing copy mailbox uids (with_message uid row batch))
         (if copy.by_uid then gathering now.mailing copy mailbox uids batch else says (response_text texts.MessagesGone)) row)
     read mailbox uid passed uids batch g goes None = gone copy.by_uid refl
       where
         gone : (b : Bool) → copy.by_uid ≡ b → P (if b then gathering now.mailing copy mailbox uids batch else says (response_text texts.MessagesGone))
         gone true is = goes batch (without_one now copy passed batch uid g is)
         gone false is = passes.told texts.MessagesGone
-    read mailbox uid passed uids batch g goes (Some row) = fitting (is_over (most_copied now.mailing.most) (length row.text)) refl
+    read mailbox uid passed uids batch g goes (Some row) = fitting (is_over (most_copied now.mailing.most) (length row.text.bytes)) refl
       where
-        fitting : (big : Bool) → is_over (most_copied now.mailing.most) (length row.text) ≡ big
+        fitting : (big : Bool) → is_over (most_copied now.mailing.most) (length row.text.bytes) ≡ big
             → P (if big then over (most_copied now.mailing.most) else gathering now.mailing copy mailbox uids (with_message uid row batch))
         fitting true is = in_over P passes (most_copied now.mailing.most)
         fitting false is = goes (with_message uid row batch) (with_one now copy passed batch uid row g is)

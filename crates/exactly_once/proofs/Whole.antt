@@ -15,7 +15,8 @@ use Rattle.mailbox.specs.declared.clients.MailFault.TheVariants.{Stranger, Lappe
 use Rattle.mailbox.specs.declared.clients.Opening.{Opening}
 use Rattle.mailbox.specs.declared.clients.Row.{Row}
 use Rattle.mailbox.specs.declared.mailbox.Status.{Status}
-use Rattle.imap_answers.specs.Answers.{answered, asks_for_root, item_text, is_listed, list_answer, list_front, listed, name_answer, root_answer, status_text, all_flags, flags_answer, opening_text, search_answer, spaced_numbers}
+use Rattle.imap_grammar.specs.declared.command.SearchReturns.{SearchReturns}
+use Rattle.imap_answers.specs.Answers.{all_flags, answered, asks_for_root, extended_front, extended_items, flags_answer, found_answer, is_listed, item_text, list_answer, list_front, listed, name_answer, opening_text, root_answer, spaced_numbers, status_text}
 use Rattle.imap_grammar.specs.Reading.{is_done, read}
 use Rattle.imap_grammar.specs.declared.command.Append.{Append}
 use Rattle.imap_grammar.specs.declared.command.Command.{Command}
@@ -343,13 +344,14 @@ pub flags_whole : (by_uid : Bool) (k uid : ℕ) (flags : Flags) → IsWhole (fla
 flags_whole by_uid k uid flags =
     ends (codes "* " ++ decimal k ++ codes " FETCH (" ++ (if by_uid then codes "UID " ++ decimal uid ++ codes " " else []) ++ codes "FLAGS (" ++ spaced (flag_words flags)) (codes "))")
 
-pub found_whole : (found : List ℕ) → IsWhole (search_answer found)
-found_whole found = ends (codes "* SEARCH") (spaced_numbers found)
+pub found_whole : (tag : List ℕ) (by_uid : Bool) (returns : Option SearchReturns) (found : List ℕ) → IsWhole (found_answer tag by_uid returns found)
+found_whole tag by_uid None found = ends (codes "* SEARCH") (spaced_numbers found)
+found_whole tag by_uid (Some returns) found = inr (extended_front tag by_uid ++ extended_items returns found, refl)
 
-in_searching : (search : Search) (last : Named) (view : List ℕ) (uids found : List ℕ) → SaysWhole (searching search last view (search_done search) uids found)
-in_searching search last view [] found = (found_whole found, in_done (commands.Search search) search.by_uid false)
-in_searching search last view (uid ∷ uids) found =
-    elim [ None ↦ in_searching search last view uids found | Some row ↦ in_searching search last view uids (found ++ found_in search last (named_at view uid) row) ]
+in_searching : (tag : List ℕ) (search : Search) (last : Named) (view : List ℕ) (uids found : List ℕ) → SaysWhole (searching search last view (search_done tag search) uids found)
+in_searching tag search last view [] found = (found_whole tag search.by_uid search.returns found, in_done (commands.Search search) search.by_uid false)
+in_searching tag search last view (uid ∷ uids) found =
+    elim [ None ↦ in_searching tag search last view uids found | Some row ↦ in_searching tag search last view uids (found ++ found_in search last (named_at view uid) row) ]
 
 in_silence : (silent : Bool) (text : List ℕ) (x : Exchange) → IsWhole text → SaysWhole x → SaysWhole (if silent then x else ex.Write text x)
 in_silence true text x p q = q
@@ -414,61 +416,61 @@ in_text : (mailing : Mailing) (a : PendingLiteral) (text : List ℕ) (mailbox : 
 in_text mailing a text mailbox =
     in_either (is_over mailing.most a.size) (over mailing.most) _ (in_over mailing.most)
     (in_either (list_any (λ b. b == 0) text) (says (response_text texts.NulByte)) _ tt
-    (in_either (nat_le last_number mailing.number) (says (response_text texts.MailboxSpent)) (wanting (ex.Wait [] (ForVerdict Client mailbox (commands_of.flags_for a.purpose) text))) tt (inl refl, inl refl)))
+    (in_either (nat_le last_number mailing.number) (says (response_text texts.MailboxSpent)) (wanting (ex.Wait [] (ForVerdict Client mailbox (commands_of.flags_for a.purpose) (record { bytes = text; date = commands_of.date_for a.purpose })))) tt (inl refl, inl refl)))
 
 in_rest : (mailing : Mailing) (a : PendingLiteral) (empty : Bool) → SaysWhole (on_rest mailing a empty)
 in_rest mailing a empty =
     in_found _ (says (response_text texts.OutOfMemory))
     (λ (text : List ℕ). in_either empty (on_found (on_text mailing a text) nowhere (commands_of.mailbox_for a.purpose)) (says (response_text texts.InvalidArguments)) (in_found (on_text mailing a text) nowhere (in_text mailing a text) tt (commands_of.mailbox_for a.purpose)) tt) tt a.text
 
-in_copy : (now : Standing) (copy : CopyMessages) → SaysWhole (on_command now (commands.Copy copy))
-in_copy now copy =
+in_copy : (tag : List ℕ) (now : Standing) (copy : CopyMessages) → SaysWhole (on_command tag now (commands.Copy copy))
+in_copy tag now copy =
     copies_so SaysWhole
-    (record { told = λ text. tt; wanted = λ x p. (inl refl, p); looked = λ by_uid set next p. p; found = λ uid mark next p. p }) now copy
+    (record { told = λ text. tt; wanted = λ x p. (inl refl, p); looked = λ by_uid set next p. p; found = λ uid mark next p. p }) tag now copy
     (λ batch mailbox row copied. inl refl)
 
 in_notice : (said : Option (List ℕ)) (x : Exchange) → SaysWhole x → SaysWhole (noticing said x)
 in_notice None x whole = whole
 in_notice (Some words) x whole = (ends (codes "* ") words, whole)
 
-command_whole : (now : Standing) (command : Command) → SaysWhole (on_command now command)
-command_whole now commands.Noop = in_showing now.selected _ tt
-command_whole now commands.Logout = (bye_whole (response_text texts.LoggingOut), tt)
-command_whole now commands.Idle = ends (codes "+ ") (response_text texts.Idling)
-command_whole now (commands.Login user password) = tt
-command_whole now (commands.Authenticate a) = tt
-command_whole now commands.StartTls = tt
-command_whole now (commands.Select name) = in_closing now.selected _ (inl refl, in_folder (entering now.profile false) (in_entering now.profile false) (folder_of name now.folders))
-command_whole now (commands.Examine name) = in_closing now.selected _ (inl refl, in_folder (entering now.profile true) (in_entering now.profile true) (folder_of name now.folders))
-command_whole now (commands.List reference pattern) = (list_whole All reference pattern (map (λ (folder : Folder). folder.name) now.folders), in_showing now.selected _ tt)
-command_whole now (commands.Lsub reference pattern) = (list_whole Subscribed reference pattern (map (λ (folder : Folder). folder.name) now.folders), in_showing now.selected _ tt)
-command_whole now (commands.Subscribe name) = (inl refl, in_folder _ (λ folder. tt) (folder_of name now.folders))
-command_whole now (commands.Unsubscribe name) = (inl refl, in_folder _ (λ folder. tt) (folder_of name now.folders))
-command_whole now commands.Check = in_showing now.selected _ tt
-command_whole now (commands.Status name items) = (
+command_whole : (tag : List ℕ) (now : Standing) (command : Command) → SaysWhole (on_command tag now command)
+command_whole tag now commands.Noop = in_showing now.selected _ tt
+command_whole tag now commands.Logout = (bye_whole (response_text texts.LoggingOut), tt)
+command_whole tag now commands.Idle = ends (codes "+ ") (response_text texts.Idling)
+command_whole tag now (commands.Login user password) = tt
+command_whole tag now (commands.Authenticate a) = tt
+command_whole tag now commands.StartTls = tt
+command_whole tag now (commands.Select name) = in_closing now.selected _ (inl refl, in_folder (entering now.profile false) (in_entering now.profile false) (folder_of name now.folders))
+command_whole tag now (commands.Examine name) = in_closing now.selected _ (inl refl, in_folder (entering now.profile true) (in_entering now.profile true) (folder_of name now.folders))
+command_whole tag now (commands.List reference pattern) = (list_whole All reference pattern (map (λ (folder : Folder). folder.name) now.folders), in_showing now.selected _ tt)
+command_whole tag now (commands.Lsub reference pattern) = (list_whole Subscribed reference pattern (map (λ (folder : Folder). folder.name) now.folders), in_showing now.selected _ tt)
+command_whole tag now (commands.Subscribe name) = (inl refl, in_folder _ (λ folder. tt) (folder_of name now.folders))
+command_whole tag now (commands.Unsubscribe name) = (inl refl, in_folder _ (λ folder. tt) (folder_of name now.folders))
+command_whole tag now commands.Check = in_showing now.selected _ tt
+command_whole tag now (commands.Status name items) = (
   inl refl,
   in_folder (counting now.selected name items)
       (λ folder status. (ends (codes "* STATUS " ++ folder.name ++ codes " (" ++ spaced (map (status_text status) items)) (codes ")"), in_showing now.selected _ tt)) (folder_of name now.folders),
 )
-command_whole now commands.Close = in_found _ wrong_state (λ s. tt) tt now.selected
-command_whole now commands.Unselect = in_found _ wrong_state (λ s. tt) tt now.selected
-command_whole now commands.Expunge = in_found _ wrong_state (λ (s : Selected). in_either s.read_only _ _ tt tt) tt now.selected
-command_whole now (commands.UidExpunge set) = in_found _ wrong_state (λ (s : Selected). in_either s.read_only _ (expunge_set set) tt (λ view. in_chosen (named_in true set view) (λ uids. wanting_for uids (ex.Expunge (Some uids) (ex.Feed unlimited (completed (commands.UidExpunge set))))) (elim [ [] ↦ tt | uid ∷ uids ↦ (inl refl, tt) ]))) tt now.selected
-command_whole now (commands.Fetch fetch) =
+command_whole tag now commands.Close = in_found _ wrong_state (λ s. tt) tt now.selected
+command_whole tag now commands.Unselect = in_found _ wrong_state (λ s. tt) tt now.selected
+command_whole tag now commands.Expunge = in_found _ wrong_state (λ (s : Selected). in_either s.read_only _ _ tt tt) tt now.selected
+command_whole tag now (commands.UidExpunge set) = in_found _ wrong_state (λ (s : Selected). in_either s.read_only _ (expunge_set set) tt (λ view. in_chosen (named_in true set view) (λ uids. wanting_for uids (ex.Expunge (Some uids) (ex.Feed unlimited (completed (commands.UidExpunge set))))) (elim [ [] ↦ tt | uid ∷ uids ↦ (inl refl, tt) ]))) tt now.selected
+command_whole tag now (commands.Fetch fetch) =
     in_found (fetch_messages fetch) wrong_state
     (λ (s : Selected). (inl refl, λ view. in_chosen (named_in fetch.by_uid fetch.set view) _ (λ uids. in_fetching fetch _ view (messages_done (commands.Fetch fetch) fetch.by_uid) (in_done (commands.Fetch fetch) fetch.by_uid) uids false))) tt now.selected
-command_whole now (commands.Store store) =
+command_whole tag now (commands.Store store) =
     in_found _ wrong_state
     (λ (s : Selected). in_either s.read_only _ (store_messages store) tt
     (λ view. in_chosen (named_in store.by_uid store.set view) _ (λ uids. in_storing store view (messages_done (commands.Store store) store.by_uid) (in_done (commands.Store store) store.by_uid) uids false))) tt now.selected
-command_whole now (commands.Search search) =
-    in_found (search_known search) wrong_state
-    (λ s. in_either search.known_charset (search_messages search) (says (response_text texts.BadCharset))
-    (λ view. in_chosen (named_in true all_messages view) (λ uids. wanting (searching search (named_at view (last_uid uids)) view (search_done search) uids []))
-    (λ uids. (inl refl, in_searching search (named_at view (last_uid uids)) view uids []))) tt) tt now.selected
-command_whole now (commands.Append append) = in_append now.mailing.most now.folders append
-command_whole now (commands.Copy copy) = in_copy now copy
-command_whole now command = in_notice (notice now.profile command) (completed command) tt
+command_whole tag now (commands.Search search) =
+    in_found (search_known tag search) wrong_state
+    (λ s. in_either search.known_charset (search_messages tag search) (says (response_text texts.BadCharset))
+    (λ view. in_chosen (named_in true all_messages view) (λ uids. wanting (searching search (named_at view (last_uid uids)) view (search_done tag search) uids []))
+    (λ uids. (inl refl, in_searching tag search (named_at view (last_uid uids)) view uids []))) tt) tt now.selected
+command_whole tag now (commands.Append append) = in_append now.mailing.most now.folders append
+command_whole tag now (commands.Copy copy) = in_copy tag now copy
+command_whole tag now command = in_notice (notice now.profile command) (completed command) tt
 
 -- ---- lines
 
@@ -484,7 +486,7 @@ read_whole now (Ok line) answers =
     line_has TurnWhole now line.0 line.1 answers
     (λ right. played_whole line.0 (commands_of.logged_in now) (completed line.1) answers tt)
     (λ text refused. played_whole line.0 now (says (response_text text)) answers tt)
-    (played_whole line.0 now (on_command now line.1) answers (command_whole now line.1))
+    (played_whole line.0 now (on_command line.0 now line.1) answers (command_whole line.0 now line.1))
 read_whole now (Err fault) answers = fault_whole fault now answers
 
 -- a line that isn't whole yet, and one that is given up

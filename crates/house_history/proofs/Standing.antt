@@ -11,6 +11,7 @@ use Rattle.change_ring.specs.declared.change.Change.{Change}
 use Rattle.change_ring.specs.Log.{added, rows_of}
 use Rattle.change_ring.specs.Logged.{arrival}
 use Rattle.change_ring.proofs.LogLaws.{added-append, arrival-added}
+use Rattle.delivery_token.specs.Text.{Text}
 use Rattle.delivery_token.specs.declared.CopyKey.{CopyKey}
 use Rattle.delivery_token.specs.Keys.{Below}
 use Rattle.delivery_token.specs.declared.Job.{Job}
@@ -204,10 +205,10 @@ pub in_whole : (g : Event → Bool) (xs : List Event) (y : Event) → Contains (
 in_whole g [] y has = absurd (let l = has.1 in omega (arith, l))
 in_whole g (x ∷ xs) y has = picked g x xs y (g x) (in_whole g xs y) has
 
-pub text_in_whole : (g : Event → Bool) (log : List Event) (m uid : ℕ) (text : List ℕ) → HasText (filter g log) m uid text → HasText log m uid text
+pub text_in_whole : (g : Event → Bool) (log : List Event) (m uid : ℕ) (text : Text) → HasText (filter g log) m uid text → HasText log m uid text
 text_in_whole g log m uid text has = (has.0, has.1, has.2, (has.3.0, in_whole g log (Judged has.0 (Stored uid) has.3.0) has.3.1))
 
-pub text_later : (log : List Event) (e : Event) (m uid : ℕ) (text : List ℕ) → HasText log m uid text → HasText (log ++ e ∷ []) m uid text
+pub text_later : (log : List Event) (e : Event) (m uid : ℕ) (text : Text) → HasText log m uid text → HasText (log ++ e ∷ []) m uid text
 text_later log e m uid text has = (has.0, has.1, has.2, (has.3.0, Contains-append_left log (e ∷ []) (Judged has.0 (Stored uid) has.3.0) has.3.1))
 
 stored_or_refused : (u : ℕ) (why : Refusal) → Stored u ≡ Refused why → ⊥

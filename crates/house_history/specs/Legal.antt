@@ -2,6 +2,7 @@
 use Rattle.std.specs.Prelude.{◌≡◌, ◌<◌, ◌^◌, ℕ, List, [], ◌∷◌, All, AllPairs, Contains}
 use Rattle.change_ring.specs.Log.{IsLegalLog}
 use Rattle.delivery_token.specs.Keys.{Below}
+use Rattle.delivery_token.specs.Text.{Text}
 use Rattle.delivery_token.specs.declared.Job.{Job}
 use Rattle.delivery_token.specs.declared.Verdict.{Verdict}
 use Rattle.delivery_token.specs.declared.Verdict.TheVariants.{Stored, Refused}
@@ -59,5 +60,5 @@ abbrev pub WasWithdrawn : List Event → Job → Type 0
 WasWithdrawn log j = (t : ℕ) × Contains (sent_by j.key.seat log) (j, t) × Contains log (Withdrawn t)
 
 -- the message with this UID in mailbox m has this text: that of the copy which was stored there under it
-abbrev pub HasText : List Event → ℕ → ℕ → List ℕ → Type 0
+abbrev pub HasText : List Event → ℕ → ℕ → Text → Type 0
 HasText log m uid text = (j : Job) × (j.mailbox ≡ m) × (j.text ≡ text) × Stands log j uid

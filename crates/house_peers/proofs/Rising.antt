@@ -2,6 +2,7 @@
 use Rattle.std.proofs.Common.{◌≡◌, ◌⊎◌, inl, inr, ℕ, ◌<◌, ◌≤◌, arith, Bool, true, false, List, [], ◌∷◌, length, refl, sym, ap, ◌∙◌, subst, Option, Some, None, Result, Ok, Err}
 use Rattle.std.specs.Prelude.{◌==◌}
 use Rattle.change_ring.specs.declared.change.Flags.{Flags}
+use Rattle.delivery_token.specs.Text.{Text}
 use Rattle.delivery_token.specs.declared.Verdict.{Verdict}
 use Rattle.mailbox.specs.declared.clients.MailFault.TheVariants.{Stranger, Lapped, Spent, NoMemory}
 use Rattle.imap_grammar.specs.Reading.{read}
@@ -48,7 +49,7 @@ abbrev TurnRises : Mailing → Option Turn → Type 0
 TurnRises now = TurnHas (RisesTo now)
 
 -- a message that is submitted has the next number
-submit_rises : (tag : List ℕ) (now : Mailing) (origin : Origin) (mailbox : ℕ) (flags : Flags) (text : List ℕ) → WaitsSo (RisesTo now) tag now.number (ForVerdict origin mailbox flags text)
+submit_rises : (tag : List ℕ) (now : Mailing) (origin : Origin) (mailbox : ℕ) (flags : Flags) (text : Text) → WaitsSo (RisesTo now) tag now.number (ForVerdict origin mailbox flags text)
 submit_rises tag now origin mailbox flags text = (
   omega arith,
   λ s is. let e : record { tag = tag; append = record { message = now.number; mailbox = mailbox; text = text; flags = flags }; origin = origin } ≡ s = cc in let m : now.number ≡ s.append.message = ap (λ (x : Sent). x.append.message) e in
@@ -79,7 +80,7 @@ read_rises now (Ok line) answers =
     line_has (TurnRises now.mailing) now line.0 line.1 answers
     (λ right. again (commands_of.logged_in now).mailing now.mailing _ (same_rises now.mailing (commands_of.logged_in now).mailing refl refl) (played_rises line.0 (commands_of.logged_in now) (commands_of.completed line.1) answers))
     (λ text refused. played_rises line.0 now (commands_of.says (response_text text)) answers)
-    (played_rises line.0 now (commands_of.on_command now line.1) answers)
+    (played_rises line.0 now (commands_of.on_command line.0 now line.1) answers)
 read_rises now (Err fault) answers = fault_rises fault now answers
 
 text_rises : (now : Standing) (line : List ℕ) (answers : List Answer) → TurnRises now.mailing (commands_of.on_text_line now line answers)

@@ -1,5 +1,5 @@
 -- The answers that tell of messages and mailboxes (RFC 9051, 7).
-use Rattle.std.specs.Prelude.{◌≡◌, ◌≢◌, ℕ, ◌+◌, Bool, true, false, codes, decimal, List, [], ◌∷◌, ◌++◌, length, take, drop, map, flat_map, Option, Some, None, is_some, ◌==◌, ◌&&◌, ◌||◌, not, if◌then◌else◌}
+use Rattle.std.specs.Prelude.{◌≡◌, ◌≢◌, ℕ, ◌+◌, min, max, Bool, true, false, codes, decimal, List, [], ◌∷◌, ◌++◌, length, take, drop, map, flat_map, Option, Some, None, is_some, ◌==◌, ◌&&◌, ◌||◌, not, if◌then◌else◌}
 use Rattle.std.specs.List.{list_any}
 use Rattle.std.specs.Str.{str_to_ascii_lowercase as lowercase, str_eq_ignore_ascii_case as is_same}
 use Rattle.change_ring.specs.declared.change.Flags.{Flags}
@@ -11,11 +11,14 @@ use Rattle.envelope.specs.Bytes.{is_not_slash}
 use Rattle.envelope.specs.Grammar.{Many}
 use Rattle.envelope.specs.Reading.{first_is}
 use Rattle.mail_date.specs.Bytes.{is_folded}
-use Rattle.mail_date.specs.Fields.{message_date, past_name}
+use Rattle.delivery_token.specs.Text.{Text, date_of}
+use Rattle.mail_date.specs.Fields.{past_name}
 use Rattle.mail_date.specs.Internal.{internal_text}
 use Rattle.imap_grammar.specs.Grammar.{rfc822_word, section_word, status_word}
+use Rattle.imap_grammar.specs.Items.{name_said}
+use Rattle.imap_grammar.specs.declared.command.SearchReturns.{SearchReturns}
 use Rattle.imap_grammar.specs.declared.items.Section.{Section}
-use Rattle.imap_grammar.specs.declared.items.Section.TheVariants.{Whole, Header, Text}
+use Rattle.imap_grammar.specs.declared.items.Section.TheVariants as sections
 use Rattle.imap_grammar.specs.declared.items.BodyPart.{BodyPart}
 use Rattle.imap_grammar.specs.declared.items.BodyPart.TheVariants as parts
 use Rattle.imap_grammar.specs.declared.items.Span.{Span}
@@ -48,13 +51,13 @@ abbrev pub header : List ℕ → List ℕ
 header text = header_from true text
 
 abbrev pub section : Section → List ℕ → List ℕ
-section Whole text = text
-section Header text = header text
-section Text text = drop (length (header text)) text
+section sections.Whole text = text
+section sections.Header text = header text
+section sections.Text text = drop (length (header text)) text
 
--- a field of one of these names begins here
+-- a field of one of these names begins here, which stand in quotes or without
 abbrev pub is_named : List (List ℕ) → List ℕ → Bool
-is_named names text = list_any (λ name. is_some (past_name name text)) names
+is_named names text = list_any (λ word. is_some (past_name (name_said word) text)) names
 
 -- Of what begins here all is answered up to the next field: of a field by its name, and of the empty line always.
 abbrev pub takes_field : Bool → List (List ℕ) → List ℕ → Bool
@@ -106,16 +109,16 @@ abbrev pub rfc822_text : Section → List ℕ → List ℕ
 rfc822_text which text = rfc822_word which ++ codes " " ++ literal (section which text)
 
 -- the date of the message with this text, in quotes (RFC 9051, 7.5.2)
-abbrev pub date_item : List ℕ → List ℕ
-date_item text = codes "INTERNALDATE \"" ++ internal_text (message_date text) ++ codes "\""
+abbrev pub date_item : Text → List ℕ
+date_item text = codes "INTERNALDATE \"" ++ internal_text (date_of text) ++ codes "\""
 
 abbrev pub item_text : Row → FetchItem → List ℕ
 item_text row fetch.Uid = codes "UID " ++ decimal row.uid
 item_text row fetch.Flags = flags_text row.flags
-item_text row fetch.Size = codes "RFC822.SIZE " ++ decimal (length row.text)
+item_text row fetch.Size = codes "RFC822.SIZE " ++ decimal (length row.text.bytes)
 item_text row fetch.InternalDate = date_item row.text
-item_text row (fetch.Rfc822 which) = rfc822_text which row.text
-item_text row (fetch.Body peek which span) = body_text which span row.text
+item_text row (fetch.Rfc822 which) = rfc822_text which row.text.bytes
+item_text row (fetch.Body peek which span) = body_text which span row.text.bytes
 
 abbrev pub is_uid : FetchItem → Bool
 is_uid fetch.Uid = true
@@ -167,6 +170,55 @@ runs_text first last (uid ∷ uids) = if uid == last + 1 then runs_text first ui
 abbrev pub uid_set : List ℕ → List ℕ
 uid_set [] = []
 uid_set (uid ∷ uids) = runs_text uid uid uids
+
+-- ---- searches that say what to return
+
+-- the lowest of these numbers, and the highest
+abbrev pub lowest : ℕ → List ℕ → ℕ
+lowest n [] = n
+lowest n (m ∷ ms) = lowest (min n m) ms
+
+abbrev pub highest : ℕ → List ℕ → ℕ
+highest n [] = n
+highest n (m ∷ ms) = highest (max n m) ms
+
+-- Where nothing was found only their count is told (RFC 9051, 6.4.4).
+abbrev pub lowest_item : List ℕ → List ℕ
+lowest_item [] = []
+lowest_item (n ∷ ns) = codes " MIN " ++ decimal (lowest n ns)
+
+abbrev pub highest_item : List ℕ → List ℕ
+highest_item [] = []
+highest_item (n ∷ ns) = codes " MAX " ++ decimal (highest n ns)
+
+abbrev pub count_item : List ℕ → List ℕ
+count_item numbers = codes " COUNT " ++ decimal (length numbers)
+
+abbrev pub all_item : List ℕ → List ℕ
+all_item [] = []
+all_item (n ∷ ns) = codes " ALL " ++ uid_set (n ∷ ns)
+
+abbrev pub if_asked : Bool → List ℕ → List ℕ
+if_asked asked text = if asked then text else []
+
+-- what is asked for, of these numbers
+abbrev pub extended_items : SearchReturns → List ℕ → List ℕ
+extended_items returns numbers =
+    (if_asked returns.min (lowest_item numbers) ++ if_asked returns.max (highest_item numbers))
+    ++ (if_asked returns.count (count_item numbers) ++ if_asked returns.all (all_item numbers))
+
+-- which search is answered, and whether by UIDs
+abbrev pub extended_front : (tag : List ℕ) → (by_uid : Bool) → List ℕ
+extended_front tag by_uid = codes "* ESEARCH (TAG \"" ++ tag ++ (if by_uid then codes "\") UID" else codes "\")")
+
+-- what is told of the messages that were found, under the tag of the search (RFC 9051, 7.3.4)
+abbrev pub extended_answer : (tag : List ℕ) → (by_uid : Bool) → SearchReturns → List ℕ → List ℕ
+extended_answer tag by_uid returns numbers = extended_front tag by_uid ++ extended_items returns numbers ++ codes "\r\n"
+
+-- the answer to a search under this tag
+abbrev pub found_answer : (tag : List ℕ) → (by_uid : Bool) → Option SearchReturns → List ℕ → List ℕ
+found_answer tag by_uid None numbers = search_answer numbers
+found_answer tag by_uid (Some returns) numbers = extended_answer tag by_uid returns numbers
 
 -- ---- STORE
 

@@ -3,7 +3,8 @@
 ghost use Rattle.std.specs.Prelude.{◌≡◌, ◌+◌, ◌++◌, ◌≤◌, OnOk, OnErr, length, vec_capacity, vec_len};
 ghost use Rattle.imap_answers.specs.Answers.{date_item};
 
-use mail_date::{INTERNAL_LEN, message_date, write_internal_date};
+use delivery_token::Text;
+use mail_date::{INTERNAL_LEN, write_internal_date};
 use std::alloc::AllocError;
 
 const FRONT: &[u8] = b"INTERNALDATE \"";
@@ -19,14 +20,14 @@ fn put(bytes: &[u8], out: &mut Vec<u8>)
 }
 
 /// Appends the date of the message with this text, or nothing where memory is refused.
-pub(crate) fn write_date(text: &[u8], out: &mut Vec<u8>) -> Result<(), AllocError>
+pub(crate) fn write_date(text: &Text, out: &mut Vec<u8>) -> Result<(), AllocError>
     ensures ok { OnOk result (out.new.items ≡ out.old.items ++ date_item text.now) }
     ensures err { OnErr result (out.new.items ≡ out.old.items) }
     ensures room { vec_capacity out.old ≤ vec_capacity out.new }
 {
     out.reserve(FRONT.len() + INTERNAL_LEN + 1)?;
     put(FRONT, out);
-    write_internal_date(&message_date(text), out);
+    write_internal_date(&text.date(), out);
     put(b"\"", out);
     Ok(())
 }

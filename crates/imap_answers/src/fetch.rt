@@ -33,7 +33,7 @@ fn write_item(
         FetchItem::Uid => write_number(b"UID ", u128::from(row.uid), out),
         FetchItem::Flags => write_flags(row.flags, out),
         FetchItem::Size => write_number(b"RFC822.SIZE ", row.text.as_slice().len() as u128, out),
-        FetchItem::InternalDate => write_date(row.text.as_slice(), out),
+        FetchItem::InternalDate => write_date(&row.text, out),
         FetchItem::Rfc822 { section } => write_rfc822(*section, row.text.as_slice(), out),
         FetchItem::Body {
             peek: _,

@@ -8,7 +8,7 @@ ghost use Rattle.mail_date.specs.Fields.{past_name};
 ghost use Rattle.imap_answers.specs.Answers.{is_named, takes_field, fields_from};
 
 use crate::sections::is_crlf;
-use imap_grammar::FieldNames;
+use imap_grammar::{FieldNames, field_name};
 use mail_date::begins_field;
 use std::alloc::{AllocError, Global};
 
@@ -19,7 +19,7 @@ fn is_named(names: &FieldNames<'_>, text: &[u8]) -> bool
     names
         .spelled()
         .split(|b| *b == b' ')
-        .any(|name| begins_field(name, text))
+        .any(|word| begins_field(field_name(word), text))
 }
 
 // Whether what begins here is answered.

@@ -3,12 +3,14 @@
 #![tactic(auto)]
 
 mod date;
+mod extended;
 mod fetch;
 mod fields;
 mod flags;
 mod found;
 mod laws;
 mod list;
+mod number_set;
 mod opening;
 mod sections;
 mod status;

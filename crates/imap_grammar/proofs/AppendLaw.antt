@@ -1,6 +1,6 @@
 -- What follows APPEND: what is spelled is read, and what is read is spelled.
-use Rattle.std.proofs.Common.{◌≡◌, ℕ, Bool, true, false, cond, List, [], ◌∷◌, ◌++◌, length, take, drop, refl, ap, sym, subst, ◌∙◌, arith, append_assoc, inl, inr}
-use Rattle.std.specs.Prelude.{Option, Some, None, ◌⊎◌, codes, min}
+use Rattle.std.proofs.Common.{◌≡◌, ℕ, Bool, true, false, cond, List, [], ◌∷◌, ◌++◌, length, take, drop, refl, ap, sym, subst, ◌∙◌, arith, append_assoc, length-append, inl, inr}
+use Rattle.std.specs.Prelude.{Option, Some, None, ◌⊎◌, ◌+◌, ◌-◌, codes, min}
 use Rattle.std.proofs.lemmas.List.{take_at, drop_at, take-append-drop}
 use Rattle.change_ring.specs.Log.{no_flags}
 use Rattle.change_ring.specs.declared.change.Flags.{Flags}
@@ -11,11 +11,13 @@ use Rattle.envelope.proofs.Tokens.{Stops, some_again}
 use Rattle.envelope.specs.Bytes.{is_space}
 use Rattle.envelope.specs.Grammar.{Many, Spaces, Gap, Joined}
 use Rattle.envelope.specs.Reading.{◌>>=◌, first_is, past_byte, some_len}
+use Rattle.mail_date.specs.InternalBack.{internal_date}
+use Rattle.mail_date.specs.declared.stamp.Stamp.{Stamp}
 use Rattle.imap_grammar.specs.Bytes.{is_atom, is_digit}
 use Rattle.imap_grammar.specs.Cuts.{cut_at}
-use Rattle.imap_grammar.specs.Grammar.{AnyQuoted, FlagList, FlagWords, GivenDate, GivenFlags, LiteralIs, Name, StringOf}
+use Rattle.imap_grammar.specs.Grammar.{FlagList, FlagWords, GivenDate, GivenFlags, InQuotes, LiteralIs, Name, Quoted, QuotedText, StringOf}
 use Rattle.imap_grammar.specs.Numbers.{most_size, number_of}
-use Rattle.imap_grammar.specs.Reading.{append_at, flag_list_at, flags_in, given_flags_at, if_end, is_tight, literal_at, literal_end, parens_at, past_date, past_quoted, string_at}
+use Rattle.imap_grammar.specs.Reading.{append_at, flag_list_at, flags_in, given_flags_at, if_end, is_tight, literal_at, literal_end, parens_at, given_date_at, quoted_date_at, quoted_len, string_at}
 use Rattle.imap_grammar.specs.Front.{past_gap}
 use Rattle.imap_grammar.specs.declared.command.Append.{Append}
 use Rattle.imap_grammar.specs.declared.command.Command.{Command}
@@ -24,7 +26,7 @@ use Rattle.imap_grammar.specs.declared.command.Literal.{Literal}
 use Rattle.imap_grammar.proofs.Chains.{end_again, end_sound, gap_first, name_read, past}
 use Rattle.imap_grammar.proofs.Cuts.{cut_again, cut_sound, is_other}
 use Rattle.imap_grammar.proofs.ListLaw.{flag_words_read, inner_flags, paren_text, text_paren}
-use Rattle.imap_grammar.proofs.Tokens.{gap_again, gap_sound, spaced_first, stops_class, string_again, string_sound}
+use Rattle.imap_grammar.proofs.Tokens.{gap_again, gap_sound, string_sound, quoted_again, quoted_sound, FoundQuoted}
 
 -- the digits at the front are digits
 pub taken_digits : (bytes : List ℕ) → list_all is_digit (take (prefix_len is_digit bytes) bytes) ≡ true
@@ -39,18 +41,18 @@ Opens b bytes = (more : List ℕ) × (bytes ≡ b ∷ more)
 tight_cut : List ℕ × List ℕ → Option (List ℕ × List ℕ)
 tight_cut cut = cond (is_tight cut.0) (Some cut) None
 
-parens_again : (inner rest : List ℕ) → Many (is_other 41) inner → is_tight inner ≡ true → parens_at ((40 ∷ (inner ++ 41 ∷ [])) ++ rest) ≡ Some (inner, rest)
+pub parens_again : (inner rest : List ℕ) → Many (is_other 41) inner → is_tight inner ≡ true → parens_at ((40 ∷ (inner ++ 41 ∷ [])) ++ rest) ≡ Some (inner, rest)
 unfolding tight_cut
 parens_again inner rest h t =
     let pair : List ℕ × List ℕ = (inner, rest) in
     let cut : cut_at 41 ((inner ++ 41 ∷ []) ++ rest) ≡ Some pair = ap (cut_at 41) (append_assoc inner (41 ∷ []) rest) ∙ cut_again 41 inner rest h in
     ap (λ o. o >>= tight_cut) cut ∙ ap (λ (u : Bool). cond u (Some pair) None) t
 
-record FoundCut (bytes : List ℕ) (cut : List ℕ × List ℕ) : Type 0 where
-  parts : bytes ≡ (40 ∷ (cut.0 ++ 41 ∷ [])) ++ cut.1
-  tight : is_tight cut.0 ≡ true
+pub record FoundCut (bytes : List ℕ) (cut : List ℕ × List ℕ) : Type 0 where
+  pub parts : bytes ≡ (40 ∷ (cut.0 ++ 41 ∷ [])) ++ cut.1
+  pub tight : is_tight cut.0 ≡ true
 
-parens_sound : (bytes : List ℕ) (cut : List ℕ × List ℕ) → parens_at bytes ≡ Some cut → FoundCut bytes cut
+pub parens_sound : (bytes : List ℕ) (cut : List ℕ × List ℕ) → parens_at bytes ≡ Some cut → FoundCut bytes cut
 unfolding tight_cut
 parens_sound bytes cut e =
     let a = bind_some (past_byte 40 bytes) (λ start. cut_at 41 start >>= tight_cut) cut e in
@@ -146,34 +148,63 @@ given_sound bytes x e =
 
 -- ---- the date
 
-quoted_opens : (text rest : List ℕ) → AnyQuoted text → Opens 34 (text ++ rest)
-quoted_opens text rest q = (q.1.back ++ rest, ap (λ l. l ++ rest) (q.1.parts ∙ ap (λ l. l ++ q.1.back) q.1.first))
+-- a quoted string, whatever it says
+abbrev pub AnyQuoted : List ℕ → Type 0
+AnyQuoted text = (value : List ℕ) × InQuotes value text
 
-date_again : (text rest : List ℕ) → GivenDate text → Stops is_space rest → first_is 34 rest ≡ false → past_date (text ++ rest) ≡ Some rest
-date_again text rest (inl h) s n =
-    ap (λ l. past_date (l ++ rest)) h
-    ∙ ap (λ (t : Bool). cond t (past_quoted rest) (Some rest)) n
-date_again text rest (inr q) s n =
-    let behind : List ℕ = q.back ++ rest in
-    let bytes : List ℕ = q.front ++ behind in
-    let whole : text ++ rest ≡ bytes = ap (λ l. l ++ rest) q.parts ∙ append_assoc q.front q.back rest in
-    let o = quoted_opens q.front behind q.first in
-    let read = string_again is_atom q.first.0 q.front behind refl (inr q.first.1) (stops_class is_atom refl behind (spaced_first q.back rest q.second)) in
-    ap past_date whole
-    ∙ ap (λ (t : Bool). cond t (past_quoted bytes) (Some bytes)) (ap (first_is 34) o.1)
-    ∙ ap (λ r. r >>= (λ read. past_gap read.1)) read
-    ∙ gap_again q.back rest q.second s
+quoted_opens : (inner text rest : List ℕ) → QuotedText inner text → text ++ rest ≡ 34 ∷ (inner ++ 34 ∷ rest)
+quoted_opens inner text rest q =
+    let whole : text ≡ codes "\"" ++ (inner ++ codes "\"") =
+    q.parts ∙ ap (λ l. l ++ q.back) q.first ∙ ap (λ l. codes "\"" ++ l) (q.second.parts ∙ ap (λ l. l ++ q.second.back) q.second.first.0 ∙ ap (λ l. inner ++ l) q.second.second) in
+    ap (λ l. l ++ rest) whole ∙ ap (λ l. 34 ∷ l) (append_assoc inner (34 ∷ []) rest)
 
-date_opens : (text rest : List ℕ) → GivenDate text → Opens 123 rest → Opens 123 (text ++ rest) ⊎ Opens 34 (text ++ rest)
-date_opens text rest (inl h) o = inl (o.0, ap (λ l. l ++ rest) h ∙ o.1)
-date_opens text rest (inr q) o =
-    let p = quoted_opens q.front (q.back ++ rest) q.first in
-    inr (p.0, ap (λ l. l ++ rest) q.parts ∙ append_assoc q.front q.back rest ∙ p.1)
+with_date : Option Stamp → List ℕ → Option (Option Stamp × List ℕ)
+with_date date rest = Some (date, rest)
 
-record FoundDate (bytes rest : List ℕ) : Type 0 where
+-- the length that a string has from behind its first quote on, and what is read by it
+read_by : List ℕ → ℕ → Option (Option Stamp × List ℕ)
+read_by start n = past_gap (drop n start) >>= with_date (internal_date (take (n - 1) start))
+
+quoted_date_again : (inner front back rest : List ℕ) → QuotedText inner front → Gap back → Stops is_space rest
+    → quoted_date_at (front ++ (back ++ rest)) ≡ Some (internal_date inner, rest)
+unfolding with_date read_by
+quoted_date_again inner front back rest q g s =
+    let behind : List ℕ = back ++ rest in
+    let start : List ℕ = inner ++ 34 ∷ behind in
+    let is : Quoted q.second.first.1.0 inner = subst (Quoted q.second.first.1.0) q.second.first.0 q.second.first.1.1 in
+    let taken : take (length inner + 1 - 1) start ≡ inner = take_at inner (34 ∷ behind) (length inner + 1 - 1) (omega arith) in
+    let left : drop (length inner + 1) start ≡ behind =
+    ap (drop (length inner + 1)) (sym (append_assoc inner (34 ∷ []) behind)) ∙ drop_at (inner ++ 34 ∷ []) behind (length inner + 1) (length-append inner (34 ∷ [])) in
+    ap quoted_date_at (quoted_opens inner front behind q)
+    ∙ ap (λ o. o >>= read_by start) (quoted_again is behind)
+    ∙ ap (λ l. past_gap l >>= with_date (internal_date (take (length inner + 1 - 1) start))) left
+    ∙ ap (λ x. x >>= with_date (internal_date (take (length inner + 1 - 1) start))) (gap_again back rest g s)
+    ∙ ap (λ l. Some (internal_date l, rest)) taken
+
+date_again : (date : Option Stamp) (text rest : List ℕ) → GivenDate date text → Stops is_space rest → first_is 34 rest ≡ false → given_date_at (text ++ rest) ≡ Some (date, rest)
+unfolding with_date
+date_again date text rest (inl h) s n =
+    ap (λ l. given_date_at (l ++ rest)) h.1
+    ∙ ap (λ (t : Bool). cond t (quoted_date_at rest) (with_date None rest)) n
+    ∙ ap (λ d. with_date d rest) (sym h.0)
+date_again date text rest (inr q) s n =
+    let behind : List ℕ = q.2.back ++ rest in
+    let bytes : List ℕ = q.2.front ++ behind in
+    let whole : text ++ rest ≡ bytes = ap (λ l. l ++ rest) q.2.parts ∙ append_assoc q.2.front q.2.back rest in
+    ap given_date_at whole
+    ∙ ap (λ (t : Bool). cond t (quoted_date_at bytes) (with_date None bytes)) (ap (first_is 34) (quoted_opens q.0 q.2.front behind q.2.first))
+    ∙ quoted_date_again q.0 q.2.front q.2.back rest q.2.first q.2.second s
+    ∙ ap (λ d. with_date d rest) q.1
+
+date_opens : (date : Option Stamp) (text rest : List ℕ) → GivenDate date text → Opens 123 rest → Opens 123 (text ++ rest) ⊎ Opens 34 (text ++ rest)
+date_opens date text rest (inl h) o = inl (o.0, ap (λ l. l ++ rest) h.1 ∙ o.1)
+date_opens date text rest (inr q) o =
+    inr (q.0 ++ 34 ∷ (q.2.back ++ rest), ap (λ l. l ++ rest) q.2.parts ∙ append_assoc q.2.front q.2.back rest ∙ quoted_opens q.0 q.2.front (q.2.back ++ rest) q.2.first)
+
+record FoundDate (bytes : List ℕ) (date : Option Stamp) (rest : List ℕ) : Type 0 where
   text : List ℕ
   parts : bytes ≡ text ++ rest
-  is : GivenDate text
+  is : GivenDate date text
 
 -- a string that begins with a quote is a quoted one
 pub quoted_only : (value text rest more : List ℕ) → text ++ rest ≡ 34 ∷ more → StringOf is_atom value text → AnyQuoted text
@@ -194,20 +225,44 @@ quoted_only value (x ∷ xs) rest more e (inl h) =
 pub opens_first : (b : ℕ) (bytes : List ℕ) → first_is b bytes ≡ true → Opens b bytes
 opens_first b bytes e = let k = byte_sound b bytes (drop 1 bytes) (ap (λ (t : Bool). cond t (Some (drop 1 bytes)) None) e) in (drop 1 bytes, k)
 
-date_sound : (bytes rest : List ℕ) → past_date bytes ≡ Some rest → FoundDate bytes rest
-date_sound bytes rest e =
-    elim (either (first_is 34 bytes) (past_quoted bytes) (Some bytes) (Some rest) e) [
+date_in_pair : Option (Option Stamp × List ℕ) → Option Stamp
+date_in_pair (Some x) = x.0
+date_in_pair None = None
+
+quoted_date_sound : (start : List ℕ) (x : Option Stamp × List ℕ) → quoted_len false start >>= read_by start ≡ Some x → FoundDate (34 ∷ start) x.0 x.1
+unfolding with_date read_by date_in_pair rest_in_pair
+quoted_date_sound start x e =
+    let a = bind_some (quoted_len false start) (read_by start) x e in
+    let f : FoundQuoted start a.0 = quoted_sound false start a.0 a.1 in
+    let b = bind_some (past_gap (drop a.0 start)) (with_date (internal_date (take (a.0 - 1) start))) x a.2 in
+    let g = gap_sound (drop a.0 start) b.0 b.1 in
+    let taken : take (a.0 - 1) start ≡ f.content = ap (take (a.0 - 1)) f.parts ∙ take_at f.content (34 ∷ f.rest) (a.0 - 1) (omega (arith, f.size)) in
+    let left : drop a.0 start ≡ f.rest =
+    ap (drop a.0) (f.parts ∙ sym (append_assoc f.content (34 ∷ []) f.rest)) ∙ drop_at (f.content ++ 34 ∷ []) f.rest a.0 (length-append f.content (34 ∷ []) ∙ sym f.size) in
+    let text : List ℕ = 34 ∷ (f.content ++ 34 ∷ []) in
+    let rest : f.rest ≡ g.gap ++ x.1 = sym left ∙ g.parts ∙ ap (λ l. g.gap ++ l) (ap rest_in_pair b.2) in
+    let date : internal_date f.content ≡ x.0 = ap internal_date (sym taken) ∙ ap date_in_pair b.2 in
+    let is : QuotedText f.content text = record {
+      front = 34 ∷ [];
+      back = f.content ++ 34 ∷ [];
+      parts = refl;
+      first = refl;
+      second = record { front = f.content; back = 34 ∷ []; parts = refl; first = (refl, (f.value, f.is)); second = refl };
+    } in
+    record {
+      text = text ++ g.gap;
+      parts = ap (λ l. 34 ∷ l) (f.parts ∙ ap (λ l. f.content ++ 34 ∷ l) rest ∙ sym (append_assoc f.content (34 ∷ g.gap) x.1) ∙ ap (λ l. l ++ x.1) (sym (append_assoc f.content (34 ∷ []) g.gap)));
+      is = inr (f.content, date, record { front = text; back = g.gap; parts = refl; first = is; second = g.is });
+    }
+
+date_sound : (bytes : List ℕ) (x : Option Stamp × List ℕ) → given_date_at bytes ≡ Some x → FoundDate bytes x.0 x.1
+unfolding with_date read_by date_in_pair rest_in_pair
+date_sound bytes x e =
+    elim (either (first_is 34 bytes) (quoted_date_at bytes) (Some (None, bytes)) (Some x) e) [
       | inl q ↦
-          let a = bind_some (string_at is_atom bytes) (λ read. past_gap read.1) rest q.1 in
-          let s = string_sound is_atom refl bytes a.0.0 a.0.1 a.1 in
-          let g = gap_sound a.0.1 rest a.2 in
           let o = opens_first 34 bytes q.0 in
-          record {
-            text = s.text ++ g.gap;
-            parts = s.parts ∙ ap (λ l. s.text ++ l) g.parts ∙ sym (append_assoc s.text g.gap rest);
-            is = inr (record { front = s.text; back = g.gap; parts = refl; first = quoted_only a.0.0 s.text a.0.1 o.0 (sym s.parts ∙ o.1) s.is; second = g.is });
-          }
-      | inr q ↦ record { text = []; parts = (let k : bytes ≡ rest = cc in k); is = inl refl }
+          subst (λ l. FoundDate l x.0 x.1) (sym o.1) (quoted_date_sound o.0 x (ap (λ l. quoted_len false (drop 1 l) >>= read_by (drop 1 l)) (sym o.1) ∙ q.1))
+      | inr q ↦ record { text = []; parts = ap rest_in_pair q.1; is = inl (sym (ap date_in_pair q.1), refl) }
     ]
 
 -- ---- the literal
@@ -290,13 +345,16 @@ literal_sound bytes x e =
 -- ---- the whole
 
 abbrev pub AppendIs : Append → List ℕ → Type 0
-AppendIs a = Joined Gap (Joined (Name a.name) (Joined Gap (Joined (GivenFlags a.flags) (Joined GivenDate (Joined (LiteralIs a.literal) Spaces)))))
+AppendIs a = Joined Gap (Joined (Name a.name) (Joined Gap (Joined (GivenFlags a.flags) (Joined (GivenDate a.date) (Joined (LiteralIs a.literal) Spaces)))))
 
-append_made : List ℕ → Flags → Literal × List ℕ → Option Command
-append_made name flags literal = if_end (say.Append (record { name = name; flags = flags; literal = literal.0 })) literal.1
+append_made : List ℕ → Flags → Option Stamp → Literal × List ℕ → Option Command
+append_made name flags date literal = if_end (say.Append (record { name = name; flags = flags; date = date; literal = literal.0 })) literal.1
+
+append_literal : List ℕ → Flags → Option Stamp × List ℕ → Option Command
+append_literal name flags date = literal_at date.1 >>= append_made name flags date.0
 
 append_dated : List ℕ → Flags × List ℕ → Option Command
-append_dated name flags = past_date flags.1 >>= (λ rest. literal_at rest >>= append_made name flags.0)
+append_dated name flags = given_date_at flags.1 >>= append_literal name flags.0
 
 append_named : List ℕ × List ℕ → Option Command
 append_named name = past_gap name.1 >>= (λ next. given_flags_at next >>= append_dated name.0)
@@ -306,7 +364,7 @@ dated_stops bytes (inl o) = (subst (Stops is_space) (sym o.1) refl, ap (first_is
 dated_stops bytes (inr o) = (subst (Stops is_space) (sym o.1) refl, ap (first_is 40) o.1)
 
 pub append_again : (a : Append) (rest : List ℕ) → AppendIs a rest → append_at rest ≡ Some (say.Append a)
-unfolding append_made append_dated append_named
+unfolding append_made append_literal append_dated append_named
 append_again a rest q =
     let n = q.second in
     let g = n.second in
@@ -314,7 +372,7 @@ append_again a rest q =
     let d = f.second in
     let l = d.second in
     let o : Opens 123 d.back = (let k = literal_opens a.literal l.front l.back l.first in (k.0, l.parts ∙ k.1)) in
-    let p : Opens 123 f.back ⊎ Opens 34 f.back = subst (λ t. Opens 123 t ⊎ Opens 34 t) (sym d.parts) (date_opens d.front d.back d.first o) in
+    let p : Opens 123 f.back ⊎ Opens 34 f.back = subst (λ t. Opens 123 t ⊎ Opens 34 t) (sym d.parts) (date_opens a.date d.front d.back d.first o) in
     let s = dated_stops f.back p in
     let name = name_read a.name _ q.back n (gap_first _ n.back g) in
     let start : Stops is_space g.back = subst (Stops is_space) (sym f.parts) (given_starts a.flags f.front f.back f.first s.0) in
@@ -323,29 +381,29 @@ append_again a rest q =
     ∙ ap (λ x. x >>= (λ next. given_flags_at next >>= append_dated a.name)) (past _ n.back g start)
     ∙ ap (λ t. given_flags_at t >>= append_dated a.name) f.parts
     ∙ ap (λ x. x >>= append_dated a.name) (given_again a.flags f.front f.back f.first s.0 s.1)
-    ∙ ap (λ t. past_date t >>= (λ rest. literal_at rest >>= append_made a.name a.flags)) d.parts
-    ∙ ap (λ x. x >>= (λ rest. literal_at rest >>= append_made a.name a.flags)) (date_again d.front d.back d.first (subst (Stops is_space) (sym o.1) refl) (ap (first_is 34) o.1))
-    ∙ ap (λ t. literal_at t >>= append_made a.name a.flags) l.parts
-    ∙ ap (λ x. x >>= append_made a.name a.flags) (literal_again a.literal l.front l.back l.first)
+    ∙ ap (λ t. given_date_at t >>= append_literal a.name a.flags) d.parts
+    ∙ ap (λ x. x >>= append_literal a.name a.flags) (date_again a.date d.front d.back d.first (subst (Stops is_space) (sym o.1) refl) (ap (first_is 34) o.1))
+    ∙ ap (λ t. literal_at t >>= append_made a.name a.flags a.date) l.parts
+    ∙ ap (λ x. x >>= append_made a.name a.flags a.date) (literal_again a.literal l.front l.back l.first)
     ∙ end_again (say.Append a) l.back l.second
 
 pub append_sound : (c : Command) (rest : List ℕ) → append_at rest ≡ Some c → (a : Append) × (say.Append a ≡ c) × AppendIs a rest
-unfolding append_made append_dated append_named
+unfolding append_made append_literal append_dated append_named
 append_sound c rest e =
     let a = bind_some (past_gap rest) (λ start. string_at is_atom start >>= append_named) c e in
     let b = bind_some (string_at is_atom a.0) append_named c a.2 in
     let d = bind_some (past_gap b.0.1) (λ next. given_flags_at next >>= append_dated b.0.0) c b.2 in
     let f = bind_some (given_flags_at d.0) (append_dated b.0.0) c d.2 in
-    let h = bind_some (past_date f.0.1) (λ rest. literal_at rest >>= append_made b.0.0 f.0.0) c f.2 in
-    let i = bind_some (literal_at h.0) (append_made b.0.0 f.0.0) c h.2 in
-    let j = end_sound (say.Append (record { name = b.0.0; flags = f.0.0; literal = i.0.0 })) c i.0.1 i.2 in
+    let h = bind_some (given_date_at f.0.1) (append_literal b.0.0 f.0.0) c f.2 in
+    let i = bind_some (literal_at h.0.1) (append_made b.0.0 f.0.0 h.0.0) c h.2 in
+    let j = end_sound (say.Append (record { name = b.0.0; flags = f.0.0; date = h.0.0; literal = i.0.0 })) c i.0.1 i.2 in
     let g = gap_sound rest a.0 a.1 in
     let s = string_sound is_atom refl a.0 b.0.0 b.0.1 b.1 in
     let k = gap_sound b.0.1 d.0 d.1 in
     let x = given_sound d.0 f.0 f.1 in
     let y = date_sound f.0.1 h.0 h.1 in
-    let z = literal_sound h.0 i.0 i.1 in (
-      record { name = b.0.0; flags = f.0.0; literal = i.0.0 },
+    let z = literal_sound h.0.1 i.0 i.1 in (
+      record { name = b.0.0; flags = f.0.0; date = h.0.0; literal = i.0.0 },
       j.0,
       record {
         front = g.gap;
@@ -369,7 +427,7 @@ append_sound c rest e =
               first = x.is;
               second = record {
                 front = y.text;
-                back = h.0;
+                back = h.0.1;
                 parts = y.parts;
                 first = y.is;
                 second = record { front = z.text; back = i.0.1; parts = z.parts; first = z.is; second = j.1 };

@@ -510,13 +510,13 @@ store_ungroup set silent change rest q =
 
 append_regroup : (a : Append) (rest : List ℕ) → Joined (ArgumentsOf (say.Append a)) Spaces rest → AppendIs a rest
 append_regroup a rest q =
-    behind Gap _ _ (λ l p. behind (Name a.name) _ _ (λ l p. behind Gap _ _ (λ l p. behind (GivenFlags a.flags) _ _ (λ l p. regroup GivenDate (LiteralIs a.literal) Spaces l p) l (regroup _ _ Spaces l p))
+    behind Gap _ _ (λ l p. behind (Name a.name) _ _ (λ l p. behind Gap _ _ (λ l p. behind (GivenFlags a.flags) _ _ (λ l p. regroup (GivenDate a.date) (LiteralIs a.literal) Spaces l p) l (regroup _ _ Spaces l p))
     l (regroup _ _ Spaces l p)) l (regroup _ _ Spaces l p)) rest (regroup _ _ Spaces rest q)
 
 append_ungroup : (a : Append) (rest : List ℕ) → AppendIs a rest → Joined (ArgumentsOf (say.Append a)) Spaces rest
 append_ungroup a rest q =
     ungroup _ _ Spaces rest (behind Gap _ _ (λ l p. ungroup _ _ Spaces l (behind (Name a.name) _ _ (λ l p. ungroup _ _ Spaces l (behind Gap _ _ (λ l p. ungroup _ _ Spaces l
-    (behind (GivenFlags a.flags) _ _ (λ l p. ungroup GivenDate (LiteralIs a.literal) Spaces l p) l p)) l p)) l p)) rest q)
+    (behind (GivenFlags a.flags) _ _ (λ l p. ungroup (GivenDate a.date) (LiteralIs a.literal) Spaces l p) l p)) l p)) l p)) rest q)
 
 pub command_again : (c : Command) (rest : List ℕ) → Joined (ArgumentsOf c) Spaces rest → command_at (verb_of c) rest ≡ Some c
 unfolding PairIs StatusIs FetchIs fetch_made store_made

@@ -34,6 +34,7 @@ pub mod DateLaw
 pub mod SearchWords
 pub mod SearchLaw
 pub mod KeySteps
+pub mod ReturnsLaw
 pub mod ChosenLaw
 pub mod AloneLaw
 pub mod LineLaw

@@ -41,11 +41,11 @@ others_many p P sp each (x ∷ xs) text q =
     (subst (Many p) (sym q.second.parts)
     (many_joined p q.second.front q.second.back (each x q.second.front q.second.first) (others_many p P sp each xs q.second.back q.second.second))))
 
-separated_many : {A : Type 0} (p : ℕ → Bool) (P : A → List ℕ → Type 0) → ((b : ℕ) → is_space b ≡ true → p b ≡ true) → ((x : A) (t : List ℕ) → P x t → Many p t)
+pub separated_many : {A : Type 0} (p : ℕ → Bool) (P : A → List ℕ → Type 0) → ((b : ℕ) → is_space b ≡ true → p b ≡ true) → ((x : A) (t : List ℕ) → P x t → Many p t)
     → (x : A) (xs : List A) (text : List ℕ) → Separated Gap P (x ∷ xs) text → Many p text
 separated_many p P sp each x xs text q = subst (Many p) (sym q.parts) (many_joined p q.front q.back (each x q.front q.first) (others_many p P sp each xs q.back q.second))
 
-space_open : (b : ℕ) → is_space b ≡ true → is_other 41 b ≡ true
+pub space_open : (b : ℕ) → is_space b ≡ true → is_other 41 b ≡ true
 space_open b e = excludes is_space 41 refl b e
 
 -- ---- lists in parentheses

@@ -20,7 +20,7 @@ use Rattle.imap_grammar.specs.declared.key_words.KeyWord.TheVariants as words
 use Rattle.imap_grammar.proofs.Chains.{inside}
 use Rattle.imap_grammar.proofs.ListLaw.{paren_text, text_paren}
 use Rattle.imap_grammar.proofs.Parens.{blank_again, blank_sound}
-use Rattle.imap_grammar.proofs.SearchWords.{FoundKey, around_at, begins_word, found, gap_ends, key_front, key_word_parts, no_charset_key, no_space}
+use Rattle.imap_grammar.proofs.SearchWords.{FoundKey, around_at, begins_word, found, gap_ends, key_front, key_word_parts, no_charset_key, no_return_key, no_space}
 use Rattle.imap_grammar.proofs.SearchWords.{set_found, set_front, single_again, single_sound, three_parts, word_again, word_sound}
 use Rattle.imap_grammar.proofs.Tokens.{gap_again, gap_sound}
 
@@ -514,7 +514,7 @@ keys_begun key text rest (first, others, e, q) =
     subst (λ l. Stops is_space (l ++ rest)) (sym q.parts)
     (subst (Stops is_space) (sym (append_assoc q.front q.back rest)) (begun_stops q.front (q.back ++ rest) (law.begun first q.front q.first)))
 
--- keys don't begin with CHARSET
+-- keys begin neither with CHARSET nor with RETURN
 
 unopened_word : (bytes : List ℕ) (w : KeyWord) (o : Option (List ℕ)) → past_byte 40 bytes ≡ o
     → key_word_of (key_word_at bytes).0 ≡ Some w → o ≡ None
@@ -524,19 +524,31 @@ unopened_word bytes w (Some start) e h =
     let none : key_word_of (key_word_at bytes).0 ≡ None = ap (λ l. key_word_of (key_word_at l).0) opened in
     absurd (let bad : None ≡ Some w = sym none ∙ h in cc)
 
-first_no_charset : (n : ℕ) (bytes : List ℕ) (key : Key) (rest : List ℕ) → key_at (suc n) bytes ≡ Some (key, rest)
-    → key_word_of (key_word_at bytes).0 ≡ Some words.Charset → ⊥
-unfolding key_at
-first_no_charset n bytes key rest e h =
-    let each = key_at n in
-    let unopened : past_byte 40 bytes ≡ None = unopened_word bytes words.Charset (past_byte 40 bytes) refl h in
-    let worded : worded_at each (Some words.Charset) (key_word_at bytes) ≡ Some (key, rest) =
-    ap (λ o. worded_at each o (key_word_at bytes)) (sym h) ∙ ap (λ o. either_at each o bytes) (sym unopened) ∙ e in
-    no_charset_key key (key_word_at bytes).1 rest worded
+-- no key begins with this word
+NoKey : KeyWord → Type 0
+NoKey w = (each : Reader) (cut : List ℕ × List ℕ) (key : Key) (rest : List ℕ) → worded_at each (Some w) cut ≡ Some (key, rest) → ⊥
 
-pub keys_no_charset : (key : Key) (bytes : List ℕ) → keys_in bytes ≡ Some key → key_word_of (key_word_at bytes).0 ≡ Some words.Charset → ⊥
+first_never : (w : KeyWord) → NoKey w → (n : ℕ) (bytes : List ℕ) (key : Key) (rest : List ℕ) → key_at (suc n) bytes ≡ Some (key, rest)
+    → key_word_of (key_word_at bytes).0 ≡ Some w → ⊥
+unfolding key_at NoKey
+first_never w none n bytes key rest e h =
+    let each = key_at n in
+    let unopened : past_byte 40 bytes ≡ None = unopened_word bytes w (past_byte 40 bytes) refl h in
+    let worded : worded_at each (Some w) (key_word_at bytes) ≡ Some (key, rest) =
+    ap (λ o. worded_at each o (key_word_at bytes)) (sym h) ∙ ap (λ o. either_at each o bytes) (sym unopened) ∙ e in
+    none each (key_word_at bytes) key rest worded
+
+keys_never : (w : KeyWord) → NoKey w → (key : Key) (bytes : List ℕ) → keys_in bytes ≡ Some key → key_word_of (key_word_at bytes).0 ≡ Some w → ⊥
 unfolding keys_in
-keys_no_charset key bytes e h =
+keys_never w none key bytes e h =
     let i = bind_some (keys_at (key_at 33) bytes) whole_read key e in
     let j = bind_some (key_at 33 bytes) (keys_next (key_at 33)) i.0 i.1 in
-    first_no_charset 32 bytes j.0.0 j.0.1 j.1 h
+    first_never w none 32 bytes j.0.0 j.0.1 j.1 h
+
+pub keys_no_charset : (key : Key) (bytes : List ℕ) → keys_in bytes ≡ Some key → key_word_of (key_word_at bytes).0 ≡ Some words.Charset → ⊥
+unfolding NoKey
+keys_no_charset = keys_never words.Charset (λ each cut key rest e. no_charset_key key cut.1 rest e)
+
+pub keys_no_return : (key : Key) (bytes : List ℕ) → keys_in bytes ≡ Some key → key_word_of (key_word_at bytes).0 ≡ Some words.Return → ⊥
+unfolding NoKey
+keys_no_return = keys_never words.Return (λ each cut key rest e. no_return_key key cut.1 rest e)

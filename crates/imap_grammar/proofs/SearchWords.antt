@@ -64,7 +64,7 @@ key_lowered b h =
     let k = three_not (low == 32) (low == 40) (low == 41) h in
     not_three (b == 32) (b == 40) (b == 41) (other_case 32 b refl k.0) (other_case 40 b refl k.1) (other_case 41 b refl k.2)
 
-key_clean : (text low : List ℕ) → map to_ascii_lowercase text ≡ low → Many is_key_byte low → Many is_key_byte text
+pub key_clean : (text low : List ℕ) → map to_ascii_lowercase text ≡ low → Many is_key_byte low → Many is_key_byte text
 key_clean [] low h m = tt
 key_clean (x ∷ xs) [] h m = absurd cc
 key_clean (x ∷ xs) (y ∷ ys) h m =
@@ -582,6 +582,8 @@ single_sound words.Or key bytes text rest r e h k =
     let f = argument_sound words.Or key bytes text rest r e k in absurd (let bad : None ≡ Some f.single = f.read in cc)
 single_sound words.Charset key bytes text rest r e h k =
     let f = argument_sound words.Charset key bytes text rest r e k in absurd (let bad : None ≡ Some f.single = f.read in cc)
+single_sound words.Return key bytes text rest r e h k =
+    let f = argument_sound words.Return key bytes text rest r e k in absurd (let bad : None ≡ Some f.single = f.read in cc)
 
 pub set_found : (key : Key) (bytes text rest r : List ℕ) → bytes ≡ text ++ rest → option_map with_key (single_at None (text, rest)) ≡ Some (key, r)
     → FoundKey SingleIs key bytes r
@@ -596,3 +598,6 @@ set_found key bytes text rest r e h =
 
 pub no_charset_key : (key : Key) (rest r : List ℕ) → option_map with_key (argument_at words.Charset rest) ≡ Some (key, r) → ⊥
 no_charset_key key rest r h = let f = argument_sound words.Charset key rest [] rest r refl h in let bad : None ≡ Some f.single = f.read in cc
+
+pub no_return_key : (key : Key) (rest r : List ℕ) → option_map with_key (argument_at words.Return rest) ≡ Some (key, r) → ⊥
+no_return_key key rest r h = let f = argument_sound words.Return key rest [] rest r refl h in let bad : None ≡ Some f.single = f.read in cc

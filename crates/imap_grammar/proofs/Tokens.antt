@@ -138,24 +138,24 @@ unquoted_again (plain {b} {value} {text} p q) rest =
 unquoted_again (escaped {b} {value} {text} p q) rest = ap (λ (l : List ℕ). b ∷ l) (unquoted_again q rest)
 
 -- a quoted string that was found behind its first quote; after a backslash is `escaped`
-record FoundQuoted (bytes : List ℕ) (n : ℕ) : Type 0 where
-  value : List ℕ
-  content : List ℕ
-  rest : List ℕ
-  parts : bytes ≡ content ++ 34 ∷ rest
-  is : Quoted value content
-  size : n ≡ length content + 1
+pub record FoundQuoted (bytes : List ℕ) (n : ℕ) : Type 0 where
+  pub value : List ℕ
+  pub content : List ℕ
+  pub rest : List ℕ
+  pub parts : bytes ≡ content ++ 34 ∷ rest
+  pub is : Quoted value content
+  pub size : n ≡ length content + 1
 
-record FoundEscaped (bytes : List ℕ) (n : ℕ) : Type 0 where
-  byte : ℕ
-  more : List ℕ
-  special : is_special byte ≡ true
-  whole : bytes ≡ byte ∷ more
-  count : ℕ
-  found : FoundQuoted more count
-  sized : n ≡ suc count
+pub record FoundEscaped (bytes : List ℕ) (n : ℕ) : Type 0 where
+  pub byte : ℕ
+  pub more : List ℕ
+  pub special : is_special byte ≡ true
+  pub whole : bytes ≡ byte ∷ more
+  pub count : ℕ
+  pub found : FoundQuoted more count
+  pub sized : n ≡ suc count
 
-abbrev Found : Bool → List ℕ → ℕ → Type 0
+abbrev pub Found : Bool → List ℕ → ℕ → Type 0
 Found false bytes n = FoundQuoted bytes n
 Found true bytes n = FoundEscaped bytes n
 
@@ -188,7 +188,7 @@ backslash : (b : ℕ) (bs : List ℕ) (m n : ℕ) (t : Bool) → (b == 92) ≡ t
 backslash b bs m n true e p s f = subst (λ (x : ℕ). FoundQuoted (x ∷ bs) n) (sym ((Decides-eqb b 92).0 e)) (one_escaped bs m n s f)
 backslash b bs m n false e p s f = one_plain b bs m n (sym (ap (λ (t : Bool). t || is_quotable b) e) ∙ p) s f
 
-quoted_sound : (e : Bool) (bytes : List ℕ) (n : ℕ) → quoted_len e bytes ≡ Some n → Found e bytes n
+pub quoted_sound : (e : Bool) (bytes : List ℕ) (n : ℕ) → quoted_len e bytes ≡ Some n → Found e bytes n
 quoted_sound true [] n h = absurd cc
 quoted_sound false [] n h = absurd cc
 quoted_sound true (b ∷ bs) n h =

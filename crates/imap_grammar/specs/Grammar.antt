@@ -9,14 +9,18 @@ use Rattle.change_ring.specs.declared.flag_op.FlagOp.{FlagOp}
 use Rattle.change_ring.specs.declared.flag_op.FlagOp.TheVariants.{Set, Insert, Remove}
 use Rattle.envelope.specs.Grammar.{Rule, ◌⨾◌, Exactly, Keyword, Some1, Spaces, Gap, AfterGap, Anything}
 use Rattle.mail_date.specs.Grammar as dates
+use Rattle.mail_date.specs.InternalBack.{internal_date}
+use Rattle.mail_date.specs.declared.stamp.Stamp.{Stamp}
 use Rattle.imap_grammar.specs.Bytes.{is_tag, is_atom, is_pattern, is_digit, is_quotable, is_special, is_field_byte, is_base64}
 use Rattle.imap_grammar.specs.Numbers.{most_size, number_of}
 use Rattle.imap_grammar.specs.declared.command.Literal.{Literal}
+use Rattle.imap_grammar.specs.declared.command.SearchReturns.{SearchReturns}
 use Rattle.imap_grammar.specs.declared.dates.Day.{Day}
 use Rattle.imap_grammar.specs.Items.{fast_items, flags_among}
 use Rattle.imap_grammar.specs.Keys.{Key, Always, Never, Has, Lacks, Larger, Smaller, Before, On, Since}
 use Rattle.imap_grammar.specs.Keys.{InField, InBody, InText, Positions, Uids, Not, Or, all_of, flag_word, field_name}
 use Rattle.imap_grammar.specs.declared.key_words.HeaderField.{HeaderField}
+use Rattle.imap_grammar.specs.Returns.{is_return, returns_among}
 use Rattle.imap_grammar.specs.Verbs.{word_of, stands_behind_uid, is_left_out, verb_of}
 use Rattle.imap_grammar.specs.declared.set.SeqNumber.{SeqNumber}
 use Rattle.imap_grammar.specs.declared.set.SeqNumber.TheVariants.{Number, Star}
@@ -95,9 +99,13 @@ section_word Whole = []
 section_word Header = codes "HEADER"
 section_word Text = codes "TEXT"
 
--- the name of a header field
+-- between quotes. No byte of a field's name is one that has a backslash before it there
+abbrev pub QuotedField : Rule
+QuotedField = Exactly (codes "\"") ⨾ Some1 is_field_byte ⨾ Exactly (codes "\"")
+
+-- the name of a header field as it stands in the line, in quotes or without (RFC 9051, 9: header-fld-name)
 abbrev pub FieldName : List ℕ → Rule
-FieldName name text = Exactly name text × Some1 is_field_byte text
+FieldName word text = Exactly word text × (Some1 is_field_byte text ⊎ QuotedField text)
 
 -- a section, or names of header fields in parentheses, with a space between two of them
 abbrev pub PartIs : BodyPart → Rule
@@ -188,13 +196,18 @@ ChangeIs silent change =
 abbrev pub GivenFlags : Flags → Rule
 GivenFlags flags text = ((flags ≡ no_flags) × Exactly [] text) ⊎ (FlagList flags ⨾ Gap) text
 
--- a quoted string, whatever it says
-abbrev pub AnyQuoted : Rule
-AnyQuoted text = (value : List ℕ) × (Exactly (codes "\"") ⨾ Quoted value ⨾ Exactly (codes "\"")) text
+-- what stands between the quotes of a quoted string, as it is spelled there
+abbrev pub SpelledInQuotes : List ℕ → Rule
+SpelledInQuotes inner text = Exactly inner text × ((value : List ℕ) × Quoted value text)
 
--- the date and time of a new message, and a gap; or nothing
-abbrev pub GivenDate : Rule
-GivenDate text = Exactly [] text ⊎ (AnyQuoted ⨾ Gap) text
+abbrev pub QuotedText : List ℕ → Rule
+QuotedText inner = Exactly (codes "\"") ⨾ SpelledInQuotes inner ⨾ Exactly (codes "\"")
+
+-- The date and time of a new message, and a gap; or nothing. A quoted string that is no date, or one that the calendar or the clock hasn't, is as good as none.
+abbrev pub GivenDate : Option Stamp → Rule
+GivenDate date text =
+    ((date ≡ None) × Exactly [] text)
+    ⊎ ((inner : List ℕ) × (internal_date inner ≡ date) × (QuotedText inner ⨾ Gap) text)
 
 -- digits that say how many bytes: those that say more than the most count as the most
 abbrev pub SizeIs : ℕ → Rule
@@ -289,6 +302,20 @@ KeyIs (suc levels) key text = SingleIs key text ⊎ AroundIs (KeyIs levels) key 
 abbrev pub most_levels : ℕ
 most_levels = 32
 
+-- what a search may be asked for
+abbrev pub ReturnWord : List ℕ → Rule
+ReturnWord word text = Exactly word text × (is_return word ≡ true)
+
+-- words in parentheses, or none of them
+abbrev pub ReturnWords : List (List ℕ) → Rule
+ReturnWords words text = Separated Gap ReturnWord words text ⊎ ((words ≡ []) × Exactly [] text)
+
+-- what a search is to return, and a gap; or nothing
+abbrev pub ReturnsAre : Option SearchReturns → Rule
+ReturnsAre None text = Exactly [] text
+ReturnsAre (Some returns) text =
+    (words : List (List ℕ)) × (returns_among words ≡ returns) × (Keyword (codes "RETURN") ⨾ Gap ⨾ Parenthesized (ReturnWords words) ⨾ Gap) text
+
 -- a charset in which keys are read here. There is no key whose text depends on it
 abbrev pub is_known_charset : List ℕ → Bool
 is_known_charset name = is_same name (codes "US-ASCII") || is_same name (codes "UTF-8")
@@ -325,8 +352,8 @@ ArgumentsOf (say.UidExpunge set) = Gap ⨾ SetIs set
 ArgumentsOf (say.Fetch fetch) = Gap ⨾ SetIs fetch.set ⨾ Gap ⨾ ItemsAre fetch.items
 ArgumentsOf (say.Store store) = Gap ⨾ SetIs store.set ⨾ Gap ⨾ ChangeIs store.silent store.change
 ArgumentsOf (say.Copy copy) = Gap ⨾ SetIs copy.set ⨾ Gap ⨾ Name copy.name
-ArgumentsOf (say.Append append) = Gap ⨾ Name append.name ⨾ Gap ⨾ GivenFlags append.flags ⨾ GivenDate ⨾ LiteralIs append.literal
-ArgumentsOf (say.Search search) = Gap ⨾ CharsetIs search.known_charset ⨾ KeysOf (KeyIs most_levels) search.keys
+ArgumentsOf (say.Append append) = Gap ⨾ Name append.name ⨾ Gap ⨾ GivenFlags append.flags ⨾ GivenDate append.date ⨾ LiteralIs append.literal
+ArgumentsOf (say.Search search) = Gap ⨾ ReturnsAre search.returns ⨾ CharsetIs search.known_charset ⨾ KeysOf (KeyIs most_levels) search.keys
 ArgumentsOf (say.Lsub reference pattern) = Gap ⨾ Name reference ⨾ Gap ⨾ Pattern pattern
 ArgumentsOf (say.Subscribe name) = Gap ⨾ Name name
 ArgumentsOf (say.Unsubscribe name) = Gap ⨾ Name name

@@ -1,5 +1,5 @@
 -- Items of FETCH and STATUS, and flags: how their words are read.
-use Rattle.std.specs.Prelude.{ℕ, Bool, true, false, codes, List, [], ◌∷◌, length, Option, Some, None, ◌==◌, ◌&&◌, not, if◌then◌else◌}
+use Rattle.std.specs.Prelude.{ℕ, Bool, true, false, codes, List, [], ◌∷◌, length, Option, Some, None, is_some, ◌==◌, ◌&&◌, ◌||◌, not, if◌then◌else◌}
 use Rattle.std.specs.List.{list_all, list_any, filter_map, slice_split}
 use Rattle.std.specs.Str.{str_eq_ignore_ascii_case as is_same}
 use Rattle.change_ring.specs.declared.change.Flags.{Flags}
@@ -32,11 +32,30 @@ section_of text =
     else if is_same text (codes "TEXT") then Some Text
     else None
 
+-- the name that stands between quotes
+abbrev pub quoted_name : List ℕ → Option (List ℕ)
+quoted_name word = do
+  inner ← past_byte 34 word
+  cut ← cut_at 34 inner
+  if (length cut.1 == 0) && is_word_of is_field_byte cut.0 then Some cut.0 else None
+
+-- the name of a header field, in quotes or without
+abbrev pub is_field_name : List ℕ → Bool
+is_field_name word = is_word_of is_field_byte word || is_some (quoted_name word)
+
+abbrev pub name_or : Option (List ℕ) → List ℕ → List ℕ
+name_or (Some name) word = name
+name_or None word = word
+
+-- the name that such a word says: without its quotes
+abbrev pub name_said : List ℕ → List ℕ
+name_said word = name_or (quoted_name word) word
+
 -- the names of header fields, from behind the parenthesis that opens; one space stands between two of them
 abbrev pub fields_of : Bool → List ℕ → Option BodyPart
 fields_of others text = do
   cut ← cut_at 41 text
-  if (length cut.1 == 0) && list_all (is_word_of is_field_byte) (slice_split is_space cut.0) then Some (parts.Fields others (slice_split is_space cut.0)) else None
+  if (length cut.1 == 0) && list_all is_field_name (slice_split is_space cut.0) then Some (parts.Fields others (slice_split is_space cut.0)) else None
 
 abbrev pub fields_or : Option (List ℕ) → Option (List ℕ) → List ℕ → Option BodyPart
 fields_or (Some rest) other text = fields_of false rest

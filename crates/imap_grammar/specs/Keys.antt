@@ -2,7 +2,7 @@
 use Rattle.std.specs.Prelude.{ℕ, Bool, true, false, codes, List, [], ◌∷◌, length, nat_lt, not, ◌==◌, ◌&&◌, ◌||◌}
 use Rattle.change_ring.specs.declared.change.Flags.{Flags}
 use Rattle.mail_date.specs.declared.stamp.Stamp.{Stamp}
-use Rattle.mail_date.specs.Fields.{message_date}
+use Rattle.delivery_token.specs.Text.{Text, date_of}
 use Rattle.imap_grammar.specs.Contains.{body, contains, in_field}
 use Rattle.imap_grammar.specs.Sets.{is_named}
 use Rattle.imap_grammar.specs.declared.dates.Day.{Day}
@@ -74,19 +74,19 @@ abbrev pub is_before : Day → Day → Bool
 is_before a b = nat_lt a.year b.year || ((a.year == b.year) && (nat_lt a.month b.month || ((a.month == b.month) && nat_lt a.day b.day)))
 
 -- the key is so of this message, which has these flags and this text; `last` is the last message of the view
-abbrev pub matches : Key → (last : Named) → (message : Named) → Flags → (text : List ℕ) → Bool
+abbrev pub matches : Key → (last : Named) → (message : Named) → Flags → Text → Bool
 matches Always last message flags text = true
 matches Never last message flags text = false
 matches (Has flag) last message flags text = has_flag flag flags
 matches (Lacks flag) last message flags text = not (has_flag flag flags)
-matches (Larger n) last message flags text = nat_lt n (length text)
-matches (Smaller n) last message flags text = nat_lt (length text) n
-matches (Before day) last message flags text = is_before (day_of (message_date text)) day
-matches (On day) last message flags text = is_same_day (day_of (message_date text)) day
-matches (Since day) last message flags text = not (is_before (day_of (message_date text)) day)
-matches (InField name words) last message flags text = in_field name words text
-matches (InBody words) last message flags text = contains words (body text)
-matches (InText words) last message flags text = contains words text
+matches (Larger n) last message flags text = nat_lt n (length text.bytes)
+matches (Smaller n) last message flags text = nat_lt (length text.bytes) n
+matches (Before day) last message flags text = is_before (day_of (date_of text)) day
+matches (On day) last message flags text = is_same_day (day_of (date_of text)) day
+matches (Since day) last message flags text = not (is_before (day_of (date_of text)) day)
+matches (InField name words) last message flags text = in_field name words text.bytes
+matches (InBody words) last message flags text = contains words (body text.bytes)
+matches (InText words) last message flags text = contains words text.bytes
 matches (Positions set) last message flags text = is_named set last.position message.position
 matches (Uids set) last message flags text = is_named set last.uid message.uid
 matches (Not key) last message flags text = not (matches key last message flags text)

@@ -8,6 +8,7 @@ pub mod Strings
 pub mod Contains
 pub mod Keys
 pub mod Items
+pub mod Returns
 pub mod Verbs
 pub mod Grammar
 pub mod SearchReading

@@ -1,15 +1,14 @@
 -- Reading a line from left to right. The contract of `read_line` says that this is the one reading that the
 -- grammar allows; nobody has to believe this file.
-use Rattle.std.specs.Prelude.{ℕ, zero, suc, Bool, true, false, codes, List, [], ◌∷◌, length, take, drop, Option, Some, None, is_some, Result, Ok, Err, ◌==◌, ◌&&◌, ◌||◌, not, if◌then◌else◌, ◌-◌, slice_index, min}
+use Rattle.std.specs.Prelude.{ℕ, zero, suc, Bool, true, false, codes, List, [], ◌∷◌, length, take, drop, Option, Some, None, is_some, Result, Ok, Err, ◌==◌, ◌&&◌, not, if◌then◌else◌, ◌-◌, slice_index, min}
 use Rattle.std.specs.List.{list_all, prefix_len}
 use Rattle.std.specs.Str.{str_eq_ignore_ascii_case as is_same}
 use Rattle.change_ring.specs.declared.change.Flags.{Flags}
 use Rattle.change_ring.specs.declared.flag_op.FlagOp.{FlagOp}
 use Rattle.change_ring.specs.declared.flag_op.FlagOp.TheVariants.{Set, Insert, Remove}
 use Rattle.envelope.specs.Bytes.{is_not_space}
-use Rattle.envelope.specs.Directory.{value_of}
 use Rattle.envelope.specs.Reading.{◌>>=◌, first_is, some_len, words, after_spaces, past_byte, past_keyword}
-use Rattle.imap_grammar.specs.Bytes.{is_tag, is_atom, is_pattern, is_quotable, is_special, is_digit, is_field_byte, is_key_byte, is_base64}
+use Rattle.imap_grammar.specs.Bytes.{is_tag, is_atom, is_pattern, is_digit, is_field_byte, is_key_byte, is_base64}
 use Rattle.change_ring.specs.Log.{no_flags}
 use Rattle.imap_grammar.specs.Cuts.{cut_at}
 use Rattle.imap_grammar.specs.Brackets.{outside_len, item_word_at, item_words}
@@ -19,13 +18,17 @@ use Rattle.imap_grammar.specs.Front.{past_gap, is_blank}
 use Rattle.imap_grammar.specs.Grammar.{is_known_charset}
 use Rattle.imap_grammar.specs.SearchReading.{key_word_at, key_word_of, keys_in}
 use Rattle.imap_grammar.specs.declared.key_words.KeyWord.{KeyWord}
-use Rattle.imap_grammar.specs.declared.key_words.KeyWord.TheVariants.{Charset}
+use Rattle.imap_grammar.specs.declared.key_words.KeyWord.TheVariants.{Charset, Return}
+use Rattle.mail_date.specs.InternalBack.{internal_date}
+use Rattle.mail_date.specs.declared.stamp.Stamp.{Stamp}
 use Rattle.imap_grammar.specs.Sets.{set_at}
 pub use Rattle.imap_grammar.specs.Strings.{quoted_len, string_len, string_at}
 use Rattle.imap_grammar.specs.Items.{fetch_item_of, fetch_items_of, fast_items, status_item_of, status_items_of, is_flag, is_word_of, flags_among}
+use Rattle.imap_grammar.specs.Returns.{is_return, returns_among}
 use Rattle.imap_grammar.specs.Verbs.{word_of, is_left_out, offered, left_out, behind_uid, alone}
 use Rattle.imap_grammar.specs.declared.items.FetchItem.{FetchItem}
 use Rattle.imap_grammar.specs.declared.items.StatusItem.{StatusItem}
+use Rattle.imap_grammar.specs.declared.command.SearchReturns.{SearchReturns}
 use Rattle.imap_grammar.specs.declared.command.Verb.{Verb}
 use Rattle.imap_grammar.specs.declared.command.Verb.TheVariants as verbs
 use Rattle.imap_grammar.specs.declared.command.Command.{Command}
@@ -197,14 +200,16 @@ flag_list_at bytes = do
 abbrev pub given_flags_at : List ℕ → Option (Flags × List ℕ)
 given_flags_at bytes = if first_is 40 bytes then flag_list_at bytes else Some (no_flags, bytes)
 
-abbrev pub past_quoted : List ℕ → Option (List ℕ)
-past_quoted bytes = do
-  read ← string_at is_atom bytes
-  past_gap read.1
+-- a quoted string that may be a date, and what comes after it and a gap
+abbrev pub quoted_date_at : List ℕ → Option (Option Stamp × List ℕ)
+quoted_date_at bytes = do
+  n ← quoted_len false (drop 1 bytes)
+  rest ← past_gap (drop n (drop 1 bytes))
+  Some (internal_date (take (n - 1) (drop 1 bytes)), rest)
 
--- what comes after the date and time of a new message
-abbrev pub past_date : List ℕ → Option (List ℕ)
-past_date bytes = if first_is 34 bytes then past_quoted bytes else Some bytes
+-- the date and time of a new message, and what comes after it
+abbrev pub given_date_at : List ℕ → Option (Option Stamp × List ℕ)
+given_date_at bytes = if first_is 34 bytes then quoted_date_at bytes else Some (None, bytes)
 
 -- `}` or `+}`: whether the client waits to be asked, and what comes after it
 abbrev pub literal_end : List ℕ → Option (Bool × List ℕ)
@@ -227,9 +232,9 @@ append_at bytes = do
   name ← string_at is_atom start
   next ← past_gap name.1
   flags ← given_flags_at next
-  rest ← past_date flags.1
-  literal ← literal_at rest
-  if_end (say.Append (record { name = name.0; flags = flags.0; literal = literal.0 })) literal.1
+  date ← given_date_at flags.1
+  literal ← literal_at date.1
+  if_end (say.Append (record { name = name.0; flags = flags.0; date = date.0; literal = literal.0 })) literal.1
 
 -- from behind CHARSET: whether it is known, and what comes after it and a gap
 abbrev pub charset_named : List ℕ → Option (Bool × List ℕ)
@@ -247,12 +252,34 @@ charset_or _ rest bytes = Some (true, bytes)
 abbrev pub charset_at : List ℕ → Option (Bool × List ℕ)
 charset_at bytes = charset_or (key_word_of (key_word_at bytes).0) (key_word_at bytes).1 bytes
 
+-- words that all ask for something, and none of them too
+abbrev pub returns_in : List ℕ → Option SearchReturns
+returns_in text = if list_all is_return (words text) then Some (returns_among (words text)) else None
+
+-- from behind RETURN: what is asked for, and what comes after it and a gap
+abbrev pub returns_named : List ℕ → Option (Option SearchReturns × List ℕ)
+returns_named bytes = do
+  start ← past_gap bytes
+  cut ← parens_at start
+  returns ← returns_in cut.0
+  rest ← past_gap cut.1
+  Some (Some returns, rest)
+
+abbrev pub returns_or : Option KeyWord → List ℕ → List ℕ → Option (Option SearchReturns × List ℕ)
+returns_or (Some Return) rest bytes = returns_named rest
+returns_or _ rest bytes = Some (None, bytes)
+
+-- what a search is to return, which may be left out, and what comes after it
+abbrev pub returns_at : List ℕ → Option (Option SearchReturns × List ℕ)
+returns_at bytes = returns_or (key_word_of (key_word_at bytes).0) (key_word_at bytes).1 bytes
+
 abbrev pub search_at : Bool → List ℕ → Option Command
 search_at by_uid bytes = do
   start ← past_gap bytes
-  charset ← charset_at start
+  returns ← returns_at start
+  charset ← charset_at returns.1
   keys ← keys_in charset.1
-  Some (say.Search (record { by_uid = by_uid; known_charset = charset.0; keys = keys }))
+  Some (say.Search (record { by_uid = by_uid; returns = returns.0; known_charset = charset.0; keys = keys }))
 
 -- the word, if it is of this class
 abbrev pub word_if : (ℕ → Bool) → List ℕ → Option (List ℕ)

@@ -20,7 +20,7 @@ use Rattle.imap_grammar.specs.declared.key_words.SystemFlag.TheVariants.{Answere
 use Rattle.imap_grammar.specs.declared.key_words.KeyWord.{KeyWord}
 use Rattle.imap_grammar.specs.declared.key_words.KeyWord.TheVariants.{All, Old, New, Recent, Has, Lacks, Keyword, Unkeyword}
 use Rattle.imap_grammar.specs.declared.key_words.KeyWord.TheVariants.{Larger, Smaller, Before, On, Since, Uid}
-use Rattle.imap_grammar.specs.declared.key_words.KeyWord.TheVariants.{Header, Field, Body, Text, Not, Or, Charset}
+use Rattle.imap_grammar.specs.declared.key_words.KeyWord.TheVariants.{Header, Field, Body, Text, Not, Or, Charset, Return}
 use Rattle.imap_grammar.specs.declared.key_words.SingleKey.{SingleKey}
 use Rattle.imap_grammar.specs.declared.key_words.SingleKey.TheVariants as single
 
@@ -48,6 +48,7 @@ spelling Uid = codes "UID"
 spelling Not = codes "NOT"
 spelling Or = codes "OR"
 spelling Charset = codes "CHARSET"
+spelling Return = codes "RETURN"
 
 abbrev pub flag_words : List KeyWord
 flag_words =
@@ -55,7 +56,7 @@ flag_words =
     ∷ Lacks Answered ∷ Lacks Deleted ∷ Lacks Draft ∷ Lacks Flagged ∷ Lacks Seen ∷ []
 
 abbrev pub other_words : List KeyWord
-other_words = All ∷ Old ∷ New ∷ Recent ∷ Keyword ∷ Unkeyword ∷ Larger ∷ Smaller ∷ Before ∷ On ∷ Since ∷ Uid ∷ Not ∷ Or ∷ Charset ∷ []
+other_words = All ∷ Old ∷ New ∷ Recent ∷ Keyword ∷ Unkeyword ∷ Larger ∷ Smaller ∷ Before ∷ On ∷ Since ∷ Uid ∷ Not ∷ Or ∷ Charset ∷ Return ∷ []
 
 abbrev pub text_words : List KeyWord
 text_words = Header ∷ Field Subject ∷ Field From ∷ Field To ∷ Field Cc ∷ Field Bcc ∷ Body ∷ Text ∷ []

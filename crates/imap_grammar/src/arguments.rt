@@ -6,7 +6,7 @@ ghost use Rattle.std.specs.List.{list_all};
 ghost use Rattle.std.specs.Option.{option_copied, option_map};
 ghost use Rattle.envelope.specs.Reading.{first_is, some_len};
 ghost use Rattle.imap_grammar.specs.Grammar.{is_known_charset};
-ghost use Rattle.imap_grammar.specs.Reading.{is_of, in_parentheses, items_in_parentheses, fetch_items_at, flags_at, operation_of, change_with, name_alone, pair_at, status_at, fetch_at, store_at, copy_at, set_alone, if_end, parens_at, flag_list_at, given_flags_at, past_quoted, past_date, literal_end, literal_at, append_at, charset_named, charset_at, search_at, word_if, initial_at, authenticate_at, enable_at, past_string, past_value, past_field, past_all_fields, past_list, past_parameters, id_at};
+ghost use Rattle.imap_grammar.specs.Reading.{is_of, in_parentheses, items_in_parentheses, fetch_items_at, flags_at, operation_of, change_with, name_alone, pair_at, status_at, fetch_at, store_at, copy_at, set_alone, if_end, parens_at, flag_list_at, given_flags_at, quoted_date_at, given_date_at, literal_end, literal_at, append_at, charset_named, charset_at, search_at, word_if, initial_at, authenticate_at, enable_at, past_string, past_value, past_field, past_all_fields, past_list, past_parameters, id_at};
 ghost use Rattle.imap_grammar.specs.Bytes.{is_atom, is_pattern, is_digit};
 ghost use Rattle.imap_grammar.specs.declared.command.Command.TheVariants as say;
 
@@ -21,11 +21,13 @@ use crate::key_words::{KeyWord, key_word, key_word_at};
 use crate::keys::SearchKeys;
 use crate::name::Name;
 use crate::number::capped_number;
+use crate::returns::returns_at;
 use crate::set::SeqSet;
-use crate::strings::string_at;
+use crate::strings::{quoted_len, string_at};
 use crate::words::{are_atoms, flags_in, is_word_of};
 use change_ring::{FlagOp, Flags};
 use envelope::{past_byte, past_keyword};
+use mail_date::{Stamp, read_internal_date};
 
 /// What stands in parentheses, if nothing but spaces comes after them.
 fn in_parentheses(bytes: &[u8]) -> Option<&[u8]>
@@ -281,7 +283,7 @@ pub fn uid_expunge(bytes: &[u8]) -> Option<Command<'_>>
 }
 
 /// What stands in parentheses at the front, and what follows them.
-fn parens_at(bytes: &[u8]) -> Option<(&[u8], &[u8])>
+pub(crate) fn parens_at(bytes: &[u8]) -> Option<(&[u8], &[u8])>
     ensures { option_map (λ x. (x.0.now, x.1.now)) result ≡ parens_at bytes.now }
 {
     let start = past_byte(b'(', bytes)?;
@@ -321,11 +323,14 @@ fn given_flags_at(bytes: &[u8]) -> Option<(Flags, &[u8])>
 }
 
 /// What follows a quoted string and a gap.
-fn past_quoted(bytes: &[u8]) -> Option<&[u8]>
-    ensures { option_copied result ≡ past_quoted bytes.now }
+/// A quoted string that may be a date, and what follows it and a gap.
+fn quoted_date_at(bytes: &[u8]) -> Option<(Option<Stamp>, &[u8])>
+    ensures { option_map (λ x. (x.0, x.1.now)) result ≡ quoted_date_at bytes.now }
 {
-    let (_said, rest) = string_at(Class::Atom, bytes)?;
-    past_gap(rest)
+    let start = bytes.get(1..)?;
+    let len = quoted_len(start)?;
+    let rest = past_gap(&start[len..])?;
+    Some((read_internal_date(&start[..len - 1]), rest))
 }
 
 fn begins_quoted(bytes: &[u8]) -> bool
@@ -334,14 +339,14 @@ fn begins_quoted(bytes: &[u8]) -> bool
     matches!(bytes, [b'"', ..])
 }
 
-/// What follows the date and time of a new message, which may be left out.
-fn past_date(bytes: &[u8]) -> Option<&[u8]>
-    ensures { option_copied result ≡ past_date bytes.now }
+/// The date and time of a new message, which may be left out, and what follows it.
+fn given_date_at(bytes: &[u8]) -> Option<(Option<Stamp>, &[u8])>
+    ensures { option_map (λ x. (x.0, x.1.now)) result ≡ given_date_at bytes.now }
 {
     if begins_quoted(bytes) {
-        past_quoted(bytes)
+        quoted_date_at(bytes)
     } else {
-        Some(bytes)
+        Some((None, bytes))
     }
 }
 
@@ -394,12 +399,13 @@ pub fn append(bytes: &[u8]) -> Option<Command<'_>>
     let (name, rest) = string_at(Class::Atom, start)?;
     let rest = past_gap(rest)?;
     let (flags, rest) = given_flags_at(rest)?;
-    let rest = past_date(rest)?;
+    let (date, rest) = given_date_at(rest)?;
     let (literal, rest) = literal_at(rest)?;
     if_end(
         Command::Append(Append {
             name,
             flags,
+            date,
             literal,
         }),
         rest,
@@ -439,10 +445,12 @@ pub fn search(by_uid: bool, bytes: &[u8]) -> Option<Command<'_>>
     ensures { result ≡ search_at by_uid bytes.now }
 {
     let start = past_gap(bytes)?;
-    let (known_charset, rest) = charset_at(start)?;
+    let (returns, rest) = returns_at(start)?;
+    let (known_charset, rest) = charset_at(rest)?;
     let keys = SearchKeys::of(rest)?;
     Some(Command::Search(Search {
         by_uid,
+        returns,
         known_charset,
         keys,
     }))

@@ -10,6 +10,7 @@ use crate::keys::SearchKeys;
 use crate::name::Name;
 use crate::set::SeqSet;
 use change_ring::{FlagOp, Flags};
+use mail_date::Stamp;
 use std::marker::Model;
 
 /// What a client calls its command (RFC 9051, 2.2.1): in contracts its bytes.
@@ -209,15 +210,30 @@ pub struct Literal {
     pub waits: bool,
 }
 
-/// APPEND (RFC 9051, 6.3.12), as far as its line goes. Its date and time are dropped.
+/// APPEND (RFC 9051, 6.3.12), as far as its line goes.
 #[derive(Drop)]
 pub struct Append<'a> {
     /// The name of the mailbox that it is for.
     pub name: Name<'a>,
     /// The flags that it is to have: none where the line has no list of them.
     pub flags: Flags,
+    /// The date and time that it is to have: none where the line has no quoted string, or one that is no date.
+    pub date: Option<Stamp>,
     /// Its bytes, as the line announces them.
     pub literal: Literal,
+}
+
+/// What a search is to return, where its line says so (RFC 9051, 6.4.4: search-return-opts).
+#[derive(Clone, Copy, Debug, PartialEq, Eq)]
+pub struct SearchReturns {
+    /// The lowest number of a message that was found.
+    pub min: bool,
+    /// The highest.
+    pub max: bool,
+    /// How many were found.
+    pub count: bool,
+    /// All of them: so too where the parentheses behind RETURN are empty.
+    pub all: bool,
 }
 
 /// SEARCH and UID SEARCH (RFC 9051, 6.4.4).
@@ -225,6 +241,8 @@ pub struct Append<'a> {
 pub struct Search<'a> {
     /// The UIDs of the messages are asked for, and not their positions.
     pub by_uid: bool,
+    /// What its client asks to be told of them, or None where the line has no RETURN.
+    pub returns: Option<SearchReturns>,
     /// The line names no charset, or US-ASCII or UTF-8.
     pub known_charset: bool,
     /// Which messages.

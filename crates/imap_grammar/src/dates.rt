@@ -3,13 +3,13 @@
 
 ghost use Rattle.std.specs.Prelude.{◌≡◌};
 ghost use Rattle.std.specs.Option.{option_map};
-ghost use Rattle.mail_date.specs.Fields.{message_date};
+ghost use Rattle.mail_date.specs.Fields.{date_or};
 ghost use Rattle.mail_date.specs.InternalBack.{four_at};
 ghost use Rattle.imap_grammar.specs.Keys.{day_of, is_before, is_same_day};
 ghost use Rattle.imap_grammar.specs.SearchReading.{date_at, date_in, if_date, quoted_date};
 
 use envelope::past_byte;
-use mail_date::{day_at, message_date, month_at, two_at};
+use mail_date::{Stamp, day_at, month_at, received, two_at};
 
 /// A day of a month of a year. Which months and days there are is for whoever makes one.
 #[derive(Clone, Copy, Debug, PartialEq, Eq)]
@@ -20,11 +20,11 @@ pub struct Day {
     pub day: u8,
 }
 
-/// The day on which a message was received, in the zone that its date has.
-pub(crate) fn day_of_message(text: &[u8]) -> Day
-    ensures { result ≡ day_of (message_date text.now) }
+/// The day on which a message came, in the zone that its date has: of the date that came with it, or else of the one that its header says.
+pub(crate) fn day_received(given: Option<Stamp>, text: &[u8]) -> Day
+    ensures { result ≡ day_of (date_or given text.now) }
 {
-    let date = message_date(text);
+    let date = received(given, text);
     Day {
         year: date.year,
         month: date.month,

@@ -3,11 +3,11 @@
 
 ghost use Rattle.std.specs.Prelude.{◌≡◌, ◌++◌, ◌∷◌, [], IfOk, MatchOption, OnOk, codes, is_some, not, option_to_list};
 ghost use Rattle.std.specs.List.{list_all, list_any, slice_split};
+ghost use Rattle.std.specs.Option.{option_copied};
 ghost use Rattle.envelope.specs.Bytes.{is_space};
 ghost use Rattle.imap_grammar.specs.Brackets.{item_words};
-ghost use Rattle.imap_grammar.specs.Bytes.{is_field_byte};
 ghost use Rattle.envelope.specs.Reading.{past_keyword, words};
-ghost use Rattle.imap_grammar.specs.Items.{is_word_of, section_of, fields_of, part_of, span_between, span_of, partial_of, body_of, body_or_peek, fetch_item_of, fetch_items_of, is_header, is_compatible, marks_seen, is_recent, status_item_of, status_items_of};
+ghost use Rattle.imap_grammar.specs.Items.{section_of, quoted_name, is_field_name, name_said, fields_of, part_of, span_between, span_of, partial_of, body_of, body_or_peek, fetch_item_of, fetch_items_of, is_header, is_compatible, marks_seen, is_recent, status_item_of, status_items_of};
 ghost use Rattle.imap_grammar.specs.declared.items.FetchItem.TheVariants as fetch;
 
 use crate::bytes::Class;
@@ -30,7 +30,7 @@ pub enum Section {
     Text,
 }
 
-/// The names of header fields, as they stand in a line: in contracts the list of them.
+/// The names of header fields, as they stand in a line, in quotes or without (RFC 9051, 9: header-fld-name): in contracts the list of them.
 #[derive(Drop)]
 pub struct FieldNames<'a> {
     spelled: &'a [u8],
@@ -152,12 +152,41 @@ fn section_of(text: &[u8]) -> Option<Section>
     }
 }
 
+/// The name that stands between quotes.
+fn quoted_name(word: &[u8]) -> Option<&[u8]>
+    ensures { option_copied result ≡ quoted_name word.now }
+{
+    let inner = past_byte(b'"', word)?;
+    let (name, rest) = cut_at(b'"', inner)?;
+    if rest.is_empty() && is_word_of(Class::Field, name) {
+        Some(name)
+    } else {
+        None
+    }
+}
+
+// Whether this is the name of a field, in quotes or without.
+fn is_field_name(word: &[u8]) -> bool
+    ensures { result ≡ is_field_name word.now }
+{
+    is_word_of(Class::Field, word) || quoted_name(word).is_some()
+}
+
+/// The name of a header field that a word of `FieldNames` says: without its quotes, where it has them.
+pub fn field_name(word: &[u8]) -> &[u8]
+    ensures { result.now ≡ name_said word.now }
+{
+    match quoted_name(word) {
+        Some(name) => name,
+        None => word,
+    }
+}
+
 // Whether each of these is the name of a field, with a space between two of them.
 fn are_field_names(text: &[u8]) -> bool
-    ensures { result ≡ list_all (is_word_of is_field_byte) (slice_split is_space text.now) }
+    ensures { result ≡ list_all is_field_name (slice_split is_space text.now) }
 {
-    text.split(|b| *b == b' ')
-        .all(|name| is_word_of(Class::Field, name))
+    text.split(|b| *b == b' ').all(|word| is_field_name(word))
 }
 
 /// The fields that names say, from behind the parenthesis that opens.

@@ -35,7 +35,7 @@ pub(crate) enum HeaderField {
     Bcc,
 }
 
-/// The words with which keys begin, and that with which a charset does.
+/// The words with which keys begin, and those with which a charset does and what is to be returned.
 #[derive(Clone, Copy)]
 pub(crate) enum KeyWord {
     All,
@@ -59,6 +59,7 @@ pub(crate) enum KeyWord {
     Not,
     Or,
     Charset,
+    Return,
 }
 
 /// A key that has no other key in it.
@@ -141,6 +142,8 @@ fn other_word(word: &[u8]) -> Option<KeyWord>
         Some(KeyWord::Or)
     } else if word.eq_ignore_ascii_case(b"CHARSET") {
         Some(KeyWord::Charset)
+    } else if word.eq_ignore_ascii_case(b"RETURN") {
+        Some(KeyWord::Return)
     } else {
         None
     }

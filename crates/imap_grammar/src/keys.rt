@@ -9,12 +9,14 @@ ghost use Rattle.imap_grammar.specs.inner.Asking.{so, single_and_rest, so_and_re
 
 use crate::bytes::{is_blank, past_gap};
 use crate::containing::{body, contains, in_field};
-use crate::dates::{day_of_message, is_before, is_same_day};
+use crate::dates::{day_received, is_before, is_same_day};
 use crate::key_words::{KeyWord, SingleKey, SystemFlag, key_word, key_word_at, single_at};
 use crate::letters::Folds;
 use crate::view::Named;
 use change_ring::Flags;
+use delivery_token::Text;
 use envelope::past_byte;
+use mail_date::Stamp;
 use std::marker::Model;
 
 /// A message of which keys are asked, and the last one of its view.
@@ -23,6 +25,8 @@ pub(crate) struct Asked<'t> {
     pub(crate) last: Named,
     pub(crate) message: Named,
     pub(crate) flags: Flags,
+    // The date that came with it, where one did.
+    pub(crate) date: Option<Stamp>,
     pub(crate) text: &'t [u8],
 }
 
@@ -48,9 +52,9 @@ fn is_so(key: &SingleKey<'_>, asked: Asked<'_>) -> bool
         SingleKey::Lacks(flag) => !has_flag(*flag, asked.flags),
         SingleKey::Larger(n) => *n < asked.text.len() as u64,
         SingleKey::Smaller(n) => (asked.text.len() as u64) < *n,
-        SingleKey::Before(day) => is_before(day_of_message(asked.text), *day),
-        SingleKey::On(day) => is_same_day(day_of_message(asked.text), *day),
-        SingleKey::Since(day) => !is_before(day_of_message(asked.text), *day),
+        SingleKey::Before(day) => is_before(day_received(asked.date, asked.text), *day),
+        SingleKey::On(day) => is_same_day(day_received(asked.date, asked.text), *day),
+        SingleKey::Since(day) => !is_before(day_received(asked.date, asked.text), *day),
         SingleKey::InField(name, words) => in_field(name, words, asked.text),
         SingleKey::InBody(words) => contains(Folds::Kept, words, body(asked.text)),
         SingleKey::InText(words) => contains(Folds::Kept, words, asked.text),
@@ -209,6 +213,7 @@ fn are_keys(text: &[u8]) -> bool
             seen: false,
             draft: false,
         },
+        date: None,
         text: &[],
     };
     keys_so(text, asked).is_some()
@@ -252,14 +257,15 @@ impl<'a> SearchKeys<'a> {
     /// Whether the keys are so of a message with these flags and this text, where `last` is the last message of the view.
     /// It takes no memory, and the time that it takes to read the keys. Each BEFORE, ON and SINCE among them reads the date of the message anew, and each
     /// key that asks for words the message's fields or its text: at worst as many steps as the words and the text have bytes, multiplied.
-    pub fn matches(&self, last: Named, message: Named, flags: Flags, text: &[u8]) -> bool
+    pub fn matches(&self, last: Named, message: Named, flags: Flags, text: &Text) -> bool
         ensures { result ≡ matches self.now last message flags text.now }
     {
         let asked = Asked {
             last,
             message,
             flags,
-            text,
+            date: text.given_date(),
+            text: text.as_slice(),
         };
         match keys_so(self.spelled, asked) {
             Some(so) => so,

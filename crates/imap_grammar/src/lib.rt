@@ -21,19 +21,20 @@ mod number;
 mod positions;
 mod ranges;
 mod reading;
+mod returns;
 mod set;
 mod strings;
 mod view;
 mod words;
 
 pub use command::{
-    Append, Authenticate, Command, CopyMessages, Fetch, ImapFault, Literal, Search, Store, Tag,
-    Verb, Word, copy_verb,
+    Append, Authenticate, Command, CopyMessages, Fetch, ImapFault, Literal, Search, SearchReturns,
+    Store, Tag, Verb, Word, copy_verb,
 };
 pub use cut::cut_at;
 pub use dates::Day;
 pub use items::{
-    BodyPart, FetchItem, FetchItems, FieldNames, Section, Span, StatusItem, StatusItems,
+    BodyPart, FetchItem, FetchItems, FieldNames, Section, Span, StatusItem, StatusItems, field_name,
 };
 pub use key_words::SystemFlag;
 pub use keys::SearchKeys;

@@ -24,9 +24,10 @@ fn is_quotable(b: u8) -> bool
 
 /// How many bytes a quoted string has from behind its first quote on.
 #[tactic(auto, using(crate::proofs::Steps::quoted_step))]
-fn quoted_len(bytes: &[u8]) -> Option<usize>
+pub(crate) fn quoted_len(bytes: &[u8]) -> Option<usize>
     ensures value { result ≡ quoted_len false bytes.now }
     ensures bound { IfSome result (λ n. n ≤ length bytes.now) }
+    ensures some { IfSome result (λ n. 1 ≤ n) }
 {
     let mut escaped = false;
     for (i, b) in bytes.iter().enumerate() {

@@ -76,7 +76,8 @@ fn are_flags(text: &[u8]) -> bool
         .all(|word| is_flag(word))
 }
 
-fn has_word(word: &[u8], text: &[u8]) -> bool
+/// Whether this is one of the words, in upper or lower case.
+pub fn has_word(word: &[u8], text: &[u8]) -> bool
     ensures { result ≡ has_word word.now (words text.now) }
 {
     text.split(|b| *b == b' ')

@@ -2,6 +2,8 @@
 use Rattle.std.specs.Prelude.{nat_lt, if◌then◌else◌}
 use Rattle.std.proofs.lemmas.Bool.Decides.{nat_tests}
 use Rattle.std.proofs.Common.{◌≡◌, ◌<◌, ◌≤◌, ◌+◌, arith, ℕ, Bool, true, false, Option, List, [], ◌∷◌, ◌++◌, None, Some, ap, sym, ◌∙◌, append-nil, length, refl, subst}
+use Rattle.mail_date.specs.declared.stamp.Stamp.{Stamp}
+use Rattle.delivery_token.specs.Text.{Text}
 use Rattle.imap_session.specs.declared.standing.After.TheVariants.{Go, Bye, Literal}
 use Rattle.imap_session.specs.Exchange.{Argument, Asked, Coming, Dropped, Exchange, Origin, Unasked, continuing, Folder, Message, Purpose, ForLiteral, ForNothing, ForVerdict, Standing, Starved, Wait, Waiting, after_waiting, bye, most_in_place, played, tagged, text_before, waiting}
 use Rattle.change_ring.specs.declared.change.Flags.{Flags}
@@ -50,14 +52,14 @@ leads_wanting_waits tag bytes waits now next x before text e w same =
     subst (λ (n : Standing). Leads tag now x before text (after_waiting waits) n) (sym same)
     ([], bytes ++ [], ap (λ y. played tag now y []) e, w ∙ ap (λ t. before ++ t) (sym (append-nil bytes)))
 
-pub submitted_again : {s now : Standing} (origin : Origin) (mailbox : ℕ) (own flags : Flags) (t u tag : List ℕ) → own ≡ flags → t ≡ u → s ≡ now
+pub submitted_again : {s now : Standing} (origin : Origin) (mailbox : ℕ) (own flags : Flags) (t u : Text) (tag : List ℕ) → own ≡ flags → t ≡ u → s ≡ now
     → waiting tag (ForVerdict origin mailbox own t) s ≡ waiting tag (ForVerdict origin mailbox flags u) now
 submitted_again {s} {now} origin mailbox own flags t u tag same e f =
     ap (λ (y : Flags). waiting tag (ForVerdict origin mailbox y t) s) same
-    ∙ ap (λ (y : List ℕ). waiting tag (ForVerdict origin mailbox flags y) s) e ∙ ap (λ (x : Standing). waiting tag (ForVerdict origin mailbox flags u) x) f
+    ∙ ap (λ (y : Text). waiting tag (ForVerdict origin mailbox flags y) s) e ∙ ap (λ (x : Standing). waiting tag (ForVerdict origin mailbox flags u) x) f
 
 -- the same under a tag that was copied
-pub submitted_under : {s now : Standing} (origin : Origin) (mailbox : ℕ) (flags : Flags) (text t tag : List ℕ) → t ≡ tag → s ≡ now
+pub submitted_under : {s now : Standing} (origin : Origin) (mailbox : ℕ) (flags : Flags) (text : Text) (t tag : List ℕ) → t ≡ tag → s ≡ now
     → waiting t (ForVerdict origin mailbox flags text) s ≡ waiting tag (ForVerdict origin mailbox flags text) now
 submitted_under {s} {now} origin mailbox flags text t tag e f =
     ap (λ (y : List ℕ). waiting y (ForVerdict origin mailbox flags text) s) e ∙ ap (λ (x : Standing). waiting tag (ForVerdict origin mailbox flags text) x) f
@@ -82,16 +84,16 @@ pub not_less : (a b : ℕ) → b ≤ a → nat_lt a b ≡ false
 not_less a b l = grind (arith, nat_tests)
 
 -- memory is refused for a literal that comes unasked: its bytes are dropped, or, where the tag is too long to be kept, the session ends
-pub leads_dropping : (tag : List ℕ) (mailbox : Option ℕ) (flags : Flags) (size : ℕ) (now next : Standing) (before text : List ℕ) → text ≡ before → next ≡ waiting tag (ForLiteral Dropped (Message None flags) size) now
-    → Leads tag now (coming mailbox flags size) before text (Literal size) next
-leads_dropping tag mailbox flags size now next before text w same =
-    subst (λ (n : Standing). Leads tag now (coming mailbox flags size) before text (Literal size) n) (sym same)
+pub leads_dropping : (tag : List ℕ) (mailbox : Option ℕ) (flags : Flags) (date : Option Stamp) (size : ℕ) (now next : Standing) (before text : List ℕ) → text ≡ before → next ≡ waiting tag (ForLiteral Dropped (Message None flags date) size) now
+    → Leads tag now (coming mailbox flags date size) before text (Literal size) next
+leads_dropping tag mailbox flags date size now next before text w same =
+    subst (λ (n : Standing). Leads tag now (coming mailbox flags date size) before text (Literal size) n) (sym same)
     (Starved 0 ∷ [], [], refl, w ∙ sym (append-nil before))
 
-pub leads_parting : (tag : List ℕ) (mailbox : Option ℕ) (flags : Flags) (size : ℕ) (now next : Standing) (before text : List ℕ) → most_in_place < length tag → text ≡ before ++ bye (response_text texts.ByeOutOfMemory)
-    → next ≡ record now { ended = true } → Leads tag now (coming mailbox flags size) before text Bye next
-leads_parting tag mailbox flags size now next before text long w same =
-    subst (λ (n : Standing). Leads tag now (coming mailbox flags size) before text Bye n) (sym same) (
+pub leads_parting : (tag : List ℕ) (mailbox : Option ℕ) (flags : Flags) (date : Option Stamp) (size : ℕ) (now next : Standing) (before text : List ℕ) → most_in_place < length tag → text ≡ before ++ bye (response_text texts.ByeOutOfMemory)
+    → next ≡ record now { ended = true } → Leads tag now (coming mailbox flags date size) before text Bye next
+leads_parting tag mailbox flags date size now next before text long w same =
+    subst (λ (n : Standing). Leads tag now (coming mailbox flags date size) before text Bye n) (sym same) (
       Starved 1 ∷ [],
       bye (response_text texts.ByeOutOfMemory) ++ [],
       ap (λ (b : Bool). if b then Some (record { events = []; bytes = bye (response_text texts.ByeOutOfMemory) ++ []; after = Bye; standing = record now { ended = true } }) else None) (less_true most_in_place (length tag) long),
@@ -100,13 +102,13 @@ leads_parting tag mailbox flags size now next before text long w same =
 
 -- a literal that is asked for
 abbrev pub asked_at : Option ℕ → Append → Option ℕ → Exchange
-asked_at most a o = on_found (λ mailbox. if is_over most a.literal.size then over most else asking mailbox a.flags a.literal.size) nowhere o
+asked_at most a o = on_found (λ mailbox. if is_over most a.literal.size then over most else asking mailbox a.flags a.date a.literal.size) nowhere o
 
 pub asked : (most : Option ℕ) (folders : List Folder) (a : Append) → a.literal.waits ≡ true → appending most folders a ≡ wanting (asked_at most a (number_named a.name folders))
 asked most folders a e = rw e refl
 
 abbrev pub sent_at : Option ℕ → Append → Option ℕ → Exchange
-sent_at most a o = if nat_lt most_unasked a.literal.size then Wait (bye (response_text texts.LiteralTooBig)) ForNothing else coming o a.flags a.literal.size
+sent_at most a o = if nat_lt most_unasked a.literal.size then Wait (bye (response_text texts.LiteralTooBig)) ForNothing else coming o a.flags a.date a.literal.size
 
 pub unasked : (most : Option ℕ) (folders : List Folder) (a : Append) → a.literal.waits ≡ false → appending most folders a ≡ sent_at most a (number_named a.name folders)
 unasked most folders a e = rw e refl
@@ -119,7 +121,7 @@ pub asked_nowhere : (most : Option ℕ) (folders : List Folder) (a : Append) →
 asked_nowhere most folders a e none = asked most folders a e ∙ ap (λ o. wanting (asked_at most a o)) none
 
 if_fits : Option ℕ → Append → ℕ → Bool → Exchange
-if_fits most a number big = wanting (if big then over most else asking number a.flags a.literal.size)
+if_fits most a number big = wanting (if big then over most else asking number a.flags a.date a.literal.size)
 
 pub asked_over : (most : Option ℕ) (number : ℕ) (folders : List Folder) (a : Append) → a.literal.waits ≡ true → number_named a.name folders ≡ Some number → is_over most a.literal.size ≡ true → appending most folders a ≡ wanting (over most)
 unfolding if_fits
@@ -127,13 +129,13 @@ asked_over most number folders a e some big =
     asked most folders a e ∙ ap (λ o. wanting (asked_at most a o)) some ∙ ap (if_fits most a number) big
 
 if_asked : Option ℕ → Append → Option ℕ → Bool → Exchange
-if_asked most a o big = if big then Wait (bye (response_text texts.LiteralTooBig)) ForNothing else coming o a.flags a.literal.size
+if_asked most a o big = if big then Wait (bye (response_text texts.LiteralTooBig)) ForNothing else coming o a.flags a.date a.literal.size
 
 pub sent_too_big : (most : Option ℕ) (folders : List Folder) (a : Append) → a.literal.waits ≡ false → most_unasked < a.literal.size → appending most folders a ≡ Wait (bye (response_text texts.LiteralTooBig)) ForNothing
 unfolding if_asked
 sent_too_big most folders a e big = unasked most folders a e ∙ ap (if_asked most a (number_named a.name folders)) (less_true most_unasked a.literal.size big)
 
-pub sent_fits : (most : Option ℕ) (folders : List Folder) (a : Append) → a.literal.waits ≡ false → a.literal.size ≤ most_unasked → appending most folders a ≡ coming (number_named a.name folders) a.flags a.literal.size
+pub sent_fits : (most : Option ℕ) (folders : List Folder) (a : Append) → a.literal.waits ≡ false → a.literal.size ≤ most_unasked → appending most folders a ≡ coming (number_named a.name folders) a.flags a.date a.literal.size
 unfolding if_asked
 sent_fits most folders a e fits = unasked most folders a e ∙ ap (if_asked most a (number_named a.name folders)) (not_less most_unasked a.literal.size fits)
 

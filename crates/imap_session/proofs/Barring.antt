@@ -87,11 +87,11 @@ arguments_refuse Standard verb = by (standard_lacks verb) (lacking_refuses verb)
 arguments_refuse Compatible verb = refl
 
 -- a command is carried out, or it is refused
-pub answering_has : (P : Exchange → Type 0) (now : Standing) (command : Command) → ((text : ResponseText) → refuses text ≡ true → P (says (response_text text))) → P (on_command now command)
-    → P (answering now command)
-answering_has P now command refused done = by (barred now command) (barred_refuses now.login now.profile command)
+pub answering_has : (P : Exchange → Type 0) (tag : List ℕ) (now : Standing) (command : Command) → ((text : ResponseText) → refuses text ≡ true → P (says (response_text text))) → P (on_command tag now command)
+    → P (answering tag now command)
+answering_has P tag now command refused done = by (barred now command) (barred_refuses now.login now.profile command)
   where
-    by : (o : Option ResponseText) → Refuses o → P (on_found (λ text. says (response_text text)) (on_command now command) o)
+    by : (o : Option ResponseText) → Refuses o → P (on_found (λ text. says (response_text text)) (on_command tag now command) o)
     by None h = done
     by (Some text) h = refused text h
 
@@ -99,13 +99,13 @@ answering_has P now command refused done = by (barred now command) (barred_refus
 pub line_has : (Q : Option Turn → Type 0) (now : Standing) (tag : List ℕ) (command : Command) (answers : List Answer)
     → (logs_in_as now.login command ≡ true → Q (played tag (logged_in now) (completed command) answers))
     → ((text : ResponseText) → refuses text ≡ true → Q (played tag now (says (response_text text)) answers))
-    → Q (played tag now (on_command now command) answers)
+    → Q (played tag now (on_command tag now command) answers)
     → Q (on_line (logs_in_as now.login command) now tag command answers)
 line_has Q now tag command answers right refused done = by (logs_in_as now.login command) refl
   where
     by : (b : Bool) → logs_in_as now.login command ≡ b → Q (on_line b now tag command answers)
     by true e = right e
-    by false e = answering_has (λ x. Q (played tag now x answers)) now command refused done
+    by false e = answering_has (λ x. Q (played tag now x answers)) tag now command refused done
 
 -- only LOGIN and AUTHENTICATE log a client in
 pub logs_in : (login : Option (List ℕ)) (command : Command) → logs_in_as login command ≡ true → (verb_of command ≡ verbs.Login) ⊎ (verb_of command ≡ verbs.Authenticate)

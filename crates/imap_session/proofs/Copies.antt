@@ -10,6 +10,7 @@ use Rattle.mailbox.specs.declared.clients.MailFault.TheVariants.{NoMemory}
 use Rattle.imap_grammar.specs.declared.command.CopyMessages.{CopyMessages}
 use Rattle.delivery_token.specs.declared.Verdict.{Verdict}
 use Rattle.delivery_token.specs.declared.Verdict.TheVariants.{Stored, Refused}
+use Rattle.delivery_token.specs.Text.{Text}
 use Rattle.imap_session.specs.declared.copying.Found.{Found}
 use Rattle.imap_session.specs.declared.copying.Found.TheVariants.{Said}
 use Rattle.imap_session.specs.declared.standing.After.{After}
@@ -87,7 +88,7 @@ passed_at mailing copy mailbox named i uids left = gathering mailing copy mailbo
 
 abbrev pub read_at : Mailing → CopyMessages → (mailbox : ℕ) → (named : List ℕ) → (i : ℕ) → (uids : List ℕ) → (left : List Row) → Exchange
 read_at mailing copy mailbox named i uids left =
-    ex.Read (get_or named i 0) false (on_found (λ row. if is_over (most_copied mailing.most) (length row.text) then over (most_copied mailing.most) else taken_at mailing copy mailbox named i uids left row)
+    ex.Read (get_or named i 0) false (on_found (λ row. if is_over (most_copied mailing.most) (length row.text.bytes) then over (most_copied mailing.most) else taken_at mailing copy mailbox named i uids left row)
     (if copy.by_uid then passed_at mailing copy mailbox named i uids left else says (response_text texts.MessagesGone)))
 
 -- what is left is to read the next message
@@ -143,7 +144,7 @@ pub spent_next : (m : Mailing) (b : Batch) (mailbox : ℕ) (done : Exchange) (ro
 spent_next m b mailbox done row left is spent = rw (is, spent) refl
 
 -- the standing of a session that submitted one of these
-pub sent_under : {s now : Standing} (tag : List ℕ) (a b : Batch) (mailbox : ℕ) (flags : Flags) (text : List ℕ) → a ≡ b → s ≡ now
+pub sent_under : {s now : Standing} (tag : List ℕ) (a b : Batch) (mailbox : ℕ) (flags : Flags) (text : Text) → a ≡ b → s ≡ now
     → waiting tag (ForVerdict (Copied a) mailbox flags text) s ≡ waiting tag (ForVerdict (Copied b) mailbox flags text) now
 sent_under {s} {now} tag a b mailbox flags text e f =
     ap (λ (x : Batch). waiting tag (ForVerdict (Copied x) mailbox flags text) s) e ∙ ap (λ (t : Standing). waiting tag (ForVerdict (Copied b) mailbox flags text) t) f

@@ -86,16 +86,16 @@ standing_of folders profile login selected idling ended mailing =
 -- a command that was carried out behind its first line, and its last line
 pub plays_command : {S : Type 0} (step : S → Call → Answer → S → Type 0) (now : Standing) (folders : List Folder) (profile : Profile) (login : Option (List ℕ)) (from to : Option Selected) (idling : Option (List ℕ)) (ended : Bool) (mailing : Mailing) (command : Command) (old new : S) (before mid : Response) (final : List ℕ) (r : Result ResponseText MailFault) (after how : After)
     → (let s : Standing = record { folders = folders; profile = profile; login = login; selected = from; idling = idling; ended = ended; mailing = mailing } in s) ≡ now → now.ended ≡ false → now.idling ≡ None
-    → Moves step from to (behind_first_line (record { folders = folders; profile = profile; login = login; selected = from; idling = None; ended = false; mailing = mailing }) command) (ending (after_command command)) old new before mid r
+    → Moves step from to (behind_first_line before.tag (record { folders = folders; profile = profile; login = login; selected = from; idling = None; ended = false; mailing = mailing }) command) (ending (after_command command)) old new before mid r
     → after ≡ after_command command → final ≡ mid.text ++ last_words mid.tag r → how ≡ after_result after r
-    → Plays step before.tag now (record now { selected = to }) (behind_first_line now command) old new before.text final how
+    → Plays step before.tag now (record now { selected = to }) (behind_first_line before.tag now command) old new before.text final how
 unfolding standing_of
 plays_command step now folders profile login from to idling ended mailing command old new before mid final r after how e going awake m a f h =
-    let P : Standing → Type 0 = λ s. Plays step before.tag s (record s { selected = to }) (behind_first_line s command) old new before.text final how in
+    let P : Standing → Type 0 = λ s. Plays step before.tag s (record s { selected = to }) (behind_first_line before.tag s command) old new before.text final how in
     let open_now : false ≡ ended = sym (ap (λ (s : Standing). s.ended) e ∙ going) in
     let awake_now : None ≡ idling = sym (ap (λ (s : Standing). s.idling) e ∙ awake) in
     let same : standing_of folders profile login from None false mailing ≡ now = ap (λ b. standing_of folders profile login from None b mailing) open_now ∙ ap (λ i. standing_of folders profile login from i ended mailing) awake_now ∙ e in
-    subst P same (rw (h, a) (plays_moved step (standing_of folders profile login from None false mailing) to (after_command command) (behind_first_line (standing_of folders profile login from None false mailing) command) old new before mid final r m f))
+    subst P same (rw (h, a) (plays_moved step (standing_of folders profile login from None false mailing) to (after_command command) (behind_first_line before.tag (standing_of folders profile login from None false mailing) command) old new before mid final r m f))
 
 -- the same with the first line
 plays_put : {S : Type 0} (step : S → Call → Answer → S → Type 0) (tag line : List ℕ) (now next : Standing) (x : Exchange) (old new : S) (before mid final : List ℕ) (how : After)
@@ -118,22 +118,22 @@ plays_noticed step tag now next (Some words) x old new before mid final how e p 
     plays_put step tag (notice_line (Some words)) now next x old new before mid final how e p
 
 -- each command but LOGOUT is its notice, and then what is behind it
-abbrev SaidFirst : Standing → Command → Type 0
-SaidFirst now commands.Logout = Unit {0}
-SaidFirst now command = on_command now command ≡ noticing (notice now.profile command) (behind_first_line now command)
+abbrev SaidFirst : (tag : List ℕ) → Standing → Command → Type 0
+SaidFirst tag now commands.Logout = Unit {0}
+SaidFirst tag now command = on_command tag now command ≡ noticing (notice now.profile command) (behind_first_line tag now command)
 
-said_first : (now : Standing) (command : Command) → SaidFirst now command
-said_first now commands.Logout = tt
-said_first now _ = refl
+said_first : (tag : List ℕ) (now : Standing) (command : Command) → SaidFirst tag now command
+said_first tag now commands.Logout = tt
+said_first tag now _ = refl
 
 pub plays_first_line : {S : Type 0} (step : S → Call → Answer → S → Type 0) (tag : List ℕ) (now next : Standing) (command : Command) (old new : S) (before mid final : List ℕ) (how : After)
-    → mid ≡ before ++ first_line now.profile command → Plays step tag now next (behind_first_line now command) old new mid final how
-    → Plays step tag now next (on_command now command) old new before final how
+    → mid ≡ before ++ first_line now.profile command → Plays step tag now next (behind_first_line tag now command) old new mid final how
+    → Plays step tag now next (on_command tag now command) old new before final how
 plays_first_line step tag now next commands.Logout old new before mid final how e p =
     plays_put step tag (first_line now.profile commands.Logout) now next (ex.Done (response_text (texts.Completed verbs.Logout)) Bye) old new before mid final how e p
 plays_first_line step tag now next command old new before mid final how e p =
-    subst (λ (x : Exchange). Plays step tag now next x old new before final how) (sym (said_first now command))
-    (plays_noticed step tag now next (notice now.profile command) (behind_first_line now command) old new before mid final how e p)
+    subst (λ (x : Exchange). Plays step tag now next x old new before final how) (sym (said_first tag now command))
+    (plays_noticed step tag now next (notice now.profile command) (behind_first_line tag now command) old new before mid final how e p)
 
 -- ---- last words that stand nowhere before
 

@@ -11,6 +11,7 @@ use Rattle.mailbox.specs.declared.clients.MailFault.TheVariants.{NoMemory}
 use Rattle.mailbox.specs.declared.clients.Opening.{Opening}
 use Rattle.mailbox.specs.declared.clients.Row.{Row}
 use Rattle.mailbox.specs.declared.mailbox.Status.{Status}
+use Rattle.delivery_token.specs.Text.{Text}
 use Rattle.imap_session.specs.declared.standing.After.{After}
 use Rattle.imap_session.specs.declared.standing.After.TheVariants.{Go, Bye}
 use Rattle.imap_session.specs.declared.standing.After.TheVariants as afters
@@ -48,7 +49,7 @@ SubmitsSo P tag number (ex.Discard mailbox uids x) = SubmitsSo P tag number x
 
 -- of each message that may be submitted it is so
 pub all_submit : (P : ℕ → Option Sent → Type 0) (tag : List ℕ) (number : ℕ)
-    → ((origin : Origin) (mailbox : ℕ) (flags : Flags) (text : List ℕ) → WaitsSo P tag number (ForVerdict origin mailbox flags text)) → (x : Exchange) → SubmitsSo P tag number x
+    → ((origin : Origin) (mailbox : ℕ) (flags : Flags) (text : Text) → WaitsSo P tag number (ForVerdict origin mailbox flags text)) → (x : Exchange) → SubmitsSo P tag number x
 all_submit P tag number each (ex.Done words how) = tt
 all_submit P tag number each (ex.Wait bytes ForDone) = tt
 all_submit P tag number each (ex.Wait bytes (ForLiteral coming purpose size)) = tt

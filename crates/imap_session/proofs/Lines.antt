@@ -113,10 +113,10 @@ is_taken now command first login also_login profile wants right bars first_at as
 )
 
 taken_turn : (now : Standing) (line tag : List ℕ) (command : Command) (answers : List Answer) → read line ≡ Ok (tag, command) → IsTaken now command
-    → on_text_line now line answers ≡ played tag now (on_command now command) answers
+    → on_text_line now line answers ≡ played tag now (on_command tag now command) answers
 taken_turn now line tag command answers h taken =
     read_turn now line tag command answers h taken.0 ∙ ap (λ b. on_line b now tag command answers) taken.1
-    ∙ ap (λ o. played tag now (on_found (λ text. says (response_text text)) (on_command now command) o) answers) taken.2
+    ∙ ap (λ o. played tag now (on_found (λ text. says (response_text text)) (on_command tag now command) o) answers) taken.2
 
 -- the client logs in
 pub answers_login : {S : Type 0} (step : S → Call → Answer → S → Type 0) (now next : Standing) (line tag : List ℕ) (command : Command) (verb : Verb) (s : S) (before after : List ℕ)
@@ -145,13 +145,13 @@ answers_barred step now next line tag command text s before after h whole other 
       events = [];
       bytes = words ++ [];
       played = read_turn now line tag command [] h whole ∙ ap (λ b. on_line b now tag command []) other
-          ∙ ap (λ o. played tag now (on_found (λ t. says (response_text t)) (on_command now command) o) []) barred;
+          ∙ ap (λ o. played tag now (on_found (λ t. says (response_text t)) (on_command tag now command) o) []) barred;
       met = refl;
       wrote = wrote ∙ ap (λ t. before ++ t) (sym (append-nil words));
     })
 
 pub answers_command : {S : Type 0} (step : S → Call → Answer → S → Type 0) (now mid next : Standing) (line tag : List ℕ) (command : Command) (old new : S) (before after : List ℕ) (how : After)
-    → read line ≡ Ok (tag, command) → IsTaken now command → Plays step tag now mid (on_command now command) old new before after how → next ≡ (closed mid how).standing
+    → read line ≡ Ok (tag, command) → IsTaken now command → Plays step tag now mid (on_command tag now command) old new before after how → next ≡ (closed mid how).standing
     → AnswersText step now line old new before after how next
 answers_command {S} step now mid next line tag command old new before after how h taken p is =
     subst (λ (s : Standing). AnswersText step now line old new before after how s) (sym is) (record {
@@ -172,7 +172,7 @@ answers_append step now next line tag command a s before after how h taken is p 
   answers = p.0;
   events = [];
   bytes = p.1;
-  played = taken_turn now line tag command p.0 h taken ∙ ap (λ c. played tag now (on_command now c) p.0) is ∙ p.2;
+  played = taken_turn now line tag command p.0 h taken ∙ ap (λ c. played tag now (on_command tag now c) p.0) is ∙ p.2;
   met = refl;
   wrote = p.3;
 }
@@ -180,13 +180,13 @@ answers_append step now next line tag command a s before after how h taken is p 
 -- ---- COPY and MOVE
 
 pub answers_copy : {S : Type 0} (step : S → Call → Answer → S → Type 0) (now next : Standing) (line tag : List ℕ) (command : Command) (copy : CopyMessages) (old new : S) (before after : List ℕ) (how : After)
-    → read line ≡ Ok (tag, command) → IsTaken now command → command ≡ commands.Copy copy → Had (played tag now (on_command now (commands.Copy copy))) step old new before after how next
+    → read line ≡ Ok (tag, command) → IsTaken now command → command ≡ commands.Copy copy → Had (played tag now (on_command tag now (commands.Copy copy))) step old new before after how next
     → AnswersText step now line old new before after how next
 answers_copy step now next line tag command copy old new before after how h taken is p = record {
   answers = p.answers;
   events = p.events;
   bytes = p.bytes;
-  played = taken_turn now line tag command p.answers h taken ∙ ap (λ c. played tag now (on_command now c) p.answers) is ∙ p.played;
+  played = taken_turn now line tag command p.answers h taken ∙ ap (λ c. played tag now (on_command tag now c) p.answers) is ∙ p.played;
   met = p.met;
   wrote = p.wrote;
 }
@@ -205,7 +205,7 @@ already_without now alone awake = sym (without_again now now alone (ap (λ i. re
 
 message_is : (p : Purpose) (a : PendingLiteral) (now : Standing) (line : List ℕ) (answers : List Answer) → is_message p ≡ true
     → on_rest_of p a now line answers ≡ played a.tag (without_begun now) (on_rest now.mailing a (length line == 0)) answers
-message_is (Message mailbox flags) a now line answers e = refl
+message_is (Message mailbox flags date) a now line answers e = refl
 message_is (Argument before) a now line answers e = absurd cc
 message_is (ForResponse before) a now line answers e = absurd cc
 
@@ -228,7 +228,7 @@ message_rest step now mid next a line s before held after how alone of same at p
 
 part_same : (p : Purpose) (a : PendingLiteral) (one other : Standing) (line : List ℕ) (answers : List Answer) → is_message p ≡ false → without_begun one ≡ without_begun other
     → on_rest_of p a one line answers ≡ on_rest_of p a other line answers
-part_same (Message mailbox flags) a one other line answers e same = absurd cc
+part_same (Message mailbox flags date) a one other line answers e same = absurd cc
 part_same (Argument before) a one other line answers e same = ap (λ m. on_behind a.tag m (option_map (λ text. before ++ quoted text ++ line) a.text) line answers) same
 part_same (ForResponse before) a one other line answers e same = ap (λ m. on_behind a.tag m (option_map (λ text. before ++ codes " " ++ response_in line) a.text) line answers) same
 
@@ -264,7 +264,7 @@ part_joined step now next a line_with text whole rest old new before after how i
 
 part_dropped : (p : Purpose) (a : PendingLiteral) (now : Standing) (rest : List ℕ) (answers : List Answer) → is_message p ≡ false → a.text ≡ None → without_begun now ≡ now
     → on_rest_of p a now rest answers ≡ played a.tag now (given_up rest texts.OutOfMemory texts.ByeOutOfMemory) answers
-part_dropped (Message mailbox flags) a now rest answers e none same = absurd cc
+part_dropped (Message mailbox flags date) a now rest answers e none same = absurd cc
 part_dropped (Argument before) a now rest answers e none same =
     ap (λ m. on_behind a.tag m (option_map (λ text. before ++ quoted text ++ rest) a.text) rest answers) same
     ∙ ap (λ t. on_behind a.tag now (option_map (λ text. before ++ quoted text ++ rest) t) rest answers) none
@@ -323,7 +323,7 @@ answers_idle step now next line response command s before after Idle h taken kep
       answers = [];
       events = [];
       bytes = continuing (response_text texts.Idling);
-      played = taken_turn now line response.tag command [] h taken ∙ ap (λ c. played response.tag now (on_command now c) []) (idle_is command i);
+      played = taken_turn now line response.tag command [] h taken ∙ ap (λ c. played response.tag now (on_command response.tag now c) []) (idle_is command i);
       met = refl;
       wrote = (begun refl).1 ∙ ap (λ t. t ++ continuing (response_text texts.Idling)) kept;
     })
@@ -332,7 +332,7 @@ answers_idle step now next line response command s before after Go h taken kept 
       answers = Starved zero ∷ [];
       events = [];
       bytes = tagged response.tag (response_text texts.OutOfMemory) ++ [];
-      played = taken_turn now line response.tag command (Starved zero ∷ []) h taken ∙ ap (λ c. played response.tag now (on_command now c) (Starved zero ∷ [])) (idle_is command i)
+      played = taken_turn now line response.tag command (Starved zero ∷ []) h taken ∙ ap (λ c. played response.tag now (on_command response.tag now c) (Starved zero ∷ [])) (idle_is command i)
           ∙ ap (λ (b : Bool). if b then Some (record { events = []; bytes = tagged response.tag (response_text texts.OutOfMemory) ++ []; after = Go; standing = now }) else None) (lt-ltb 32 (length response.tag) (starved refl).0);
       met = refl;
       wrote = (starved refl).2 ∙ ap (λ t. t ++ tagged response.tag (response_text texts.OutOfMemory)) kept ∙ ap (λ t. before ++ t) (sym (append-nil (tagged response.tag (response_text texts.OutOfMemory))));

@@ -90,7 +90,7 @@ rest_has Q a now line answers message part whole = by a.purpose
     behind line_with (Some text) = joined_has Q a.tag (without_begun now) (line_with text) line answers part (whole _)
 
     by : (purpose : Purpose) → Q (on_rest_of purpose a now line answers)
-    by (Message mailbox flags) = message
+    by (Message mailbox flags date) = message
     by (Argument before) = behind (λ text. before ++ quoted text ++ line) a.text
     by (Response before) = behind (λ text. before ++ codes " " ++ response_in line) a.text
 

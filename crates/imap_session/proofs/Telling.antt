@@ -32,7 +32,7 @@ use Rattle.imap_session.specs.declared.standing.Profile.{Profile}
 use Rattle.imap_session.specs.declared.standing.Profile.TheVariants.{Standard, Compatible}
 use Rattle.imap_session.proofs.Barring.{answering_has}
 use Rattle.imap_session.specs.Exchange.{Batch, Origin, Client, Copied, Discard, PendingLiteral, Exchange, Expunge, Feed, Folder, ForNothing, ForVerdict, Mailing, Standing, Wait, Write, bye, kept_behind, kept_tag, refusal_text}
-use Rattle.imap_session.specs.Commands.{fault_tag, flags_for, mailbox_for, answering, arguments_text, subscribing, telling_recent, appended_words, asking, coming, closing, completed, counting, entering, expunge_set, fault_text, fetch_messages, fetching, folder_of, found_in, if_writable, is_over, last_number, long_rest_text, long_text, most_unasked, messages_done, nowhere, number_named, on_chosen, on_command, on_folder, on_found, on_idle_line, on_rest, on_text, on_verdict, over, refused_text, says, search_done, search_known, search_messages, searching, showing, store_messages, storing, turn_of_long_line, unlimited, wanting, wanting_for, wrong_state, entered_text, copies_of, copy_of, copy_to, copy_messages, empty_batch, gathering, most_copied, most_in_batch, move_done, copied_words, moving, on_stored, submitting_first, taking_back, told_copied, with_copy, with_message, with_validity}
+use Rattle.imap_session.specs.Commands.{fault_tag, date_for, flags_for, mailbox_for, answering, arguments_text, subscribing, telling_recent, appended_words, asking, coming, closing, completed, counting, entering, expunge_set, fault_text, fetch_messages, fetching, folder_of, found_in, if_writable, is_over, last_number, long_rest_text, long_text, most_unasked, messages_done, nowhere, number_named, on_chosen, on_command, on_folder, on_found, on_idle_line, on_rest, on_text, on_verdict, over, refused_text, says, search_done, search_known, search_messages, searching, showing, store_messages, storing, turn_of_long_line, unlimited, wanting, wanting_for, wrong_state, entered_text, copies_of, copy_of, copy_to, copy_messages, empty_batch, gathering, most_copied, most_in_batch, move_done, copied_words, moving, on_stored, submitting_first, taking_back, told_copied, with_copy, with_message, with_validity}
 use Rattle.imap_session.specs.Telling.{LineTellsNoUid, RefusalTellsNoUid, TellsNoUid, VerdictTellsUid, WordsTellWhich, tells_uid, StoredTellsUid}
 use Rattle.imap_session.proofs.Appends.{asked_at, sent_at}
 use Rattle.imap_session.specs.declared.texts.ResponseText.TheVariants as texts
@@ -127,9 +127,9 @@ subscribing_tells_none folders name command = in_folder name folders (λ folder.
 append_tells_none : (most : Option ℕ) (a : Append) (found : Option ℕ) → TellsNoUid (if a.literal.waits then wanting (asked_at most a found) else sent_at most a found)
 append_tells_none most a found =
     in_either a.literal.waits (wanting (asked_at most a found)) (sent_at most a found)
-    (in_found (λ m. if is_over most a.literal.size then over most else asking m a.flags a.literal.size) nowhere
-    (λ m. in_either (is_over most a.literal.size) (over most) (asking m a.flags a.literal.size) (over_tells_none most) tt) refl found)
-    (in_either (nat_lt most_unasked a.literal.size) (Wait (bye (response_text texts.LiteralTooBig)) ForNothing) (coming found a.flags a.literal.size) tt tt)
+    (in_found (λ m. if is_over most a.literal.size then over most else asking m a.flags a.date a.literal.size) nowhere
+    (λ m. in_either (is_over most a.literal.size) (over most) (asking m a.flags a.date a.literal.size) (over_tells_none most) tt) refl found)
+    (in_either (nat_lt most_unasked a.literal.size) (Wait (bye (response_text texts.LiteralTooBig)) ForNothing) (coming found a.flags a.date a.literal.size) tt tt)
 
 back_tells_none : (mailbox : ℕ) (copies : List ℕ) (text : ResponseText) → TellsNoUid (taking_back mailbox copies (says (response_text text)))
 back_tells_none mailbox [] text = row_tells_none text
@@ -146,7 +146,7 @@ gathering_tells_none mailing copy mailbox [] batch =
     submitting_tells_none mailing batch mailbox (completed (commands.Copy copy)) (row_tells_none (texts.Completed (verb_of (commands.Copy copy)))) batch.left
 gathering_tells_none mailing copy mailbox (uid ∷ uids) batch = elim [
   | None ↦ in_either copy.by_uid (gathering mailing copy mailbox uids batch) (says (response_text texts.MessagesGone)) (gathering_tells_none mailing copy mailbox uids batch) refl
-  | Some row ↦ in_either (is_over (most_copied mailing.most) (length row.text)) (over (most_copied mailing.most)) (gathering mailing copy mailbox uids (with_message uid row batch)) (over_tells_none (most_copied mailing.most))
+  | Some row ↦ in_either (is_over (most_copied mailing.most) (length row.text.bytes)) (over (most_copied mailing.most)) (gathering mailing copy mailbox uids (with_message uid row batch)) (over_tells_none (most_copied mailing.most))
       (gathering_tells_none mailing copy mailbox uids (with_message uid row batch))
 ]
 
@@ -155,47 +155,47 @@ copy_tells_none mailing copy mailbox uids =
     in_either (nat_lt most_in_batch (length uids)) (says (response_text texts.TooManyMessages)) (wanting (gathering mailing copy mailbox uids (empty_batch copy))) refl
     (gathering_tells_none mailing copy mailbox uids (empty_batch copy))
 
-pub command_tells_none : (now : Standing) (command : Command) → TellsNoUid (on_command now command)
-command_tells_none now commands.Noop = in_showing now.selected (completed commands.Noop) refl
-command_tells_none now commands.Idle = tt
-command_tells_none now commands.Check = in_showing now.selected (completed commands.Check) refl
-command_tells_none now (commands.Lsub reference pattern) = in_showing now.selected (completed (commands.Lsub reference pattern)) refl
-command_tells_none now (commands.Subscribe name) = subscribing_tells_none now.folders name (commands.Subscribe name)
-command_tells_none now (commands.Unsubscribe name) = subscribing_tells_none now.folders name (commands.Unsubscribe name)
-command_tells_none now (commands.Select name) = selecting_tells_none now false name
-command_tells_none now (commands.Examine name) = selecting_tells_none now true name
-command_tells_none now (commands.List reference pattern) = in_showing now.selected (completed (commands.List reference pattern)) refl
-command_tells_none now (commands.Status name items) =
+pub command_tells_none : (tag : List ℕ) (now : Standing) (command : Command) → TellsNoUid (on_command tag now command)
+command_tells_none tag now commands.Noop = in_showing now.selected (completed commands.Noop) refl
+command_tells_none tag now commands.Idle = tt
+command_tells_none tag now commands.Check = in_showing now.selected (completed commands.Check) refl
+command_tells_none tag now (commands.Lsub reference pattern) = in_showing now.selected (completed (commands.Lsub reference pattern)) refl
+command_tells_none tag now (commands.Subscribe name) = subscribing_tells_none now.folders name (commands.Subscribe name)
+command_tells_none tag now (commands.Unsubscribe name) = subscribing_tells_none now.folders name (commands.Unsubscribe name)
+command_tells_none tag now (commands.Select name) = selecting_tells_none now false name
+command_tells_none tag now (commands.Examine name) = selecting_tells_none now true name
+command_tells_none tag now (commands.List reference pattern) = in_showing now.selected (completed (commands.List reference pattern)) refl
+command_tells_none tag now (commands.Status name items) =
     in_folder name now.folders (counting now.selected name items) (λ folder status. in_showing now.selected (completed (commands.Status name items)) refl)
-command_tells_none now commands.Close = in_found _ wrong_state (λ s. refl) refl now.selected
-command_tells_none now commands.Unselect = in_found _ wrong_state (λ s. refl) refl now.selected
-command_tells_none now commands.Expunge = in_writable now.selected (Expunge None (Feed unlimited (completed commands.Expunge))) refl
-command_tells_none now (commands.UidExpunge set) =
+command_tells_none tag now commands.Close = in_found _ wrong_state (λ s. refl) refl now.selected
+command_tells_none tag now commands.Unselect = in_found _ wrong_state (λ s. refl) refl now.selected
+command_tells_none tag now commands.Expunge = in_writable now.selected (Expunge None (Feed unlimited (completed commands.Expunge))) refl
+command_tells_none tag now (commands.UidExpunge set) =
     in_writable now.selected (expunge_set set)
     (λ view. in_chosen (named_in true set view) (λ uids. wanting_for uids (Expunge (Some uids) (Feed unlimited (completed (commands.UidExpunge set))))) (elim [ [] ↦ refl | uid ∷ uids ↦ refl ]))
-command_tells_none now (commands.Fetch fetch) =
+command_tells_none tag now (commands.Fetch fetch) =
     in_found (fetch_messages fetch) wrong_state
     (λ s view. in_chosen (named_in fetch.by_uid fetch.set view) _
     (λ uids. in_fetching fetch _ view _ (λ gone. in_done (commands.Fetch fetch) fetch.by_uid gone (row_tells_none (texts.Completed (verb_of (commands.Fetch fetch))))) uids false)) refl now.selected
-command_tells_none now (commands.Store store) =
+command_tells_none tag now (commands.Store store) =
     in_writable now.selected (store_messages store)
     (λ view. in_chosen (named_in store.by_uid store.set view) _
     (λ uids. in_storing store view _ (λ gone. in_done (commands.Store store) store.by_uid gone (row_tells_none (texts.Completed (verb_of (commands.Store store))))) uids false))
-command_tells_none now (commands.Search search) =
-    in_found (search_known search) wrong_state
-    (λ s. in_either search.known_charset (search_messages search) (says (response_text texts.BadCharset))
-    (λ view. in_chosen (named_in true all_messages view) (λ uids. wanting (searching search (named_at view (last_uid uids)) view (search_done search) uids []))
-    (λ uids. in_searching search (named_at view (last_uid uids)) view (search_done search) (λ found. in_done (commands.Search search) search.by_uid false (row_tells_none (texts.Completed (verb_of (commands.Search search))))) uids [])) refl) refl now.selected
-command_tells_none now (commands.Copy copy) =
+command_tells_none tag now (commands.Search search) =
+    in_found (search_known tag search) wrong_state
+    (λ s. in_either search.known_charset (search_messages tag search) (says (response_text texts.BadCharset))
+    (λ view. in_chosen (named_in true all_messages view) (λ uids. wanting (searching search (named_at view (last_uid uids)) view (search_done tag search) uids []))
+    (λ uids. in_searching search (named_at view (last_uid uids)) view (search_done tag search) (λ found. in_done (commands.Search search) search.by_uid false (row_tells_none (texts.Completed (verb_of (commands.Search search))))) uids [])) refl) refl now.selected
+command_tells_none tag now (commands.Copy copy) =
     in_found (copy_messages now copy) wrong_state
     (λ s. in_either (copy.moves && s.read_only) (says (response_text texts.ReadOnly)) (wanting (on_found (copy_to now.mailing copy) nowhere (number_named copy.name now.folders))) refl
     (in_found (copy_to now.mailing copy) nowhere (λ m view. in_chosen (named_in copy.by_uid copy.set view) (copy_of now.mailing copy m) (copy_tells_none now.mailing copy m)) refl (number_named copy.name now.folders)))
     refl now.selected
-command_tells_none now (commands.Append append) = append_tells_none now.mailing.most append (number_named append.name now.folders)
-command_tells_none now _ = refl
+command_tells_none tag now (commands.Append append) = append_tells_none now.mailing.most append (number_named append.name now.folders)
+command_tells_none tag now _ = refl
 
-pub answering_tells_none : (now : Standing) (command : Command) → TellsNoUid (answering now command)
-answering_tells_none now command = answering_has TellsNoUid now command (λ text is. row_tells_none text) (command_tells_none now command)
+pub answering_tells_none : (tag : List ℕ) (now : Standing) (command : Command) → TellsNoUid (answering tag now command)
+answering_tells_none tag now command = answering_has TellsNoUid tag now command (λ text is. row_tells_none text) (command_tells_none tag now command)
 
 -- ---- other lines
 
@@ -207,7 +207,7 @@ text_tells_none : (mailing : Mailing) (a : PendingLiteral) (text : List ℕ) (ma
 text_tells_none mailing a text mailbox =
     in_either (is_over mailing.most a.size) (over mailing.most) _ (over_tells_none mailing.most)
     (in_either (list_any (λ b. b == 0) text) (says (response_text texts.NulByte)) _ refl
-    (in_either (nat_le last_number mailing.number) (says (response_text texts.MailboxSpent)) (wanting (Wait [] (ForVerdict Client mailbox (flags_for a.purpose) text))) refl tt))
+    (in_either (nat_le last_number mailing.number) (says (response_text texts.MailboxSpent)) (wanting (Wait [] (ForVerdict Client mailbox (flags_for a.purpose) (record { bytes = text; date = date_for a.purpose })))) refl tt))
 
 pub rest_tells_none : (mailing : Mailing) (a : PendingLiteral) (empty : Bool) → TellsNoUid (on_rest mailing a empty)
 rest_tells_none mailing a empty =

@@ -13,7 +13,7 @@ use Rattle.delivery_token.specs.declared.Refusal.{Refusal}
 use Rattle.delivery_token.specs.declared.Refusal.TheVariants.{Full}
 use Rattle.imap_session.specs.declared.standing.Selected.{Selected}
 use Rattle.imap_session.specs.Exchange.{Batch, Origin, Client, Copied, PendingLiteral, Discard, Exchange, Feed, ForVerdict, Mailing, Standing, Wait, tagged, untagged}
-use Rattle.imap_session.specs.Commands.{appended_words, flags_for, is_over, kept_text, mailbox_for, last_number, nowhere, on_found, on_rest, on_text, on_verdict, refused_text, says, showing, over, taking, wanting, with_bytes, with_copy, with_validity, copied_words, copies_of, copy_code, move_done, moved_words, moving, on_stored, submitting_first, taking_back, told_copied, unlimited}
+use Rattle.imap_session.specs.Commands.{appended_words, date_for, flags_for, is_over, kept_text, mailbox_for, last_number, nowhere, on_found, on_rest, on_text, on_verdict, refused_text, says, showing, over, taking, wanting, with_bytes, with_copy, with_validity, copied_words, copies_of, copy_code, move_done, moved_words, moving, on_stored, submitting_first, taking_back, told_copied, unlimited}
 use Rattle.imap_session.specs.Shows.{IsNoOk, IsRefused, RestShowsNone, ShowsBefore, VerdictShowsInOrder, CopyGoesOn, CopyShows, StoredShows}
 use Rattle.imap_session.specs.declared.texts.ResponseText.TheVariants as texts
 use Rattle.imap_session.specs.Texts.{response_text}
@@ -77,7 +77,7 @@ text_none : (mailing : Mailing) (a : PendingLiteral) (text : List ℕ) (mailbox 
 text_none mailing a text mailbox =
     none_either (is_over mailing.most a.size) (over mailing.most) _ (over_none mailing.most)
     (none_either (list_any (λ b. b == 0) text) (says (response_text texts.NulByte)) _ refl
-    (none_either (nat_le last_number mailing.number) (says (response_text texts.MailboxSpent)) (wanting (Wait [] (ForVerdict Client mailbox (flags_for a.purpose) text))) refl (refl, (refl, refl))))
+    (none_either (nat_le last_number mailing.number) (says (response_text texts.MailboxSpent)) (wanting (Wait [] (ForVerdict Client mailbox (flags_for a.purpose) (record { bytes = text; date = date_for a.purpose })))) refl (refl, (refl, refl))))
 
 named_none : (mailing : Mailing) (a : PendingLiteral) (text : List ℕ) (mailbox : Option ℕ) → RestShowsNone (on_found (on_text mailing a text) nowhere mailbox)
 named_none mailing a text None = refl

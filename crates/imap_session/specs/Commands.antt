@@ -8,6 +8,7 @@ use Rattle.mailbox.specs.declared.clients.Row.{Row}
 use Rattle.cursor_set.specs.Lines.{lines, position}
 use Rattle.mailbox.specs.declared.clients.MailFault.TheVariants.{Lapped, Stranger}
 use Rattle.change_ring.specs.declared.change.Flags.{Flags}
+use Rattle.mail_date.specs.declared.stamp.Stamp.{Stamp}
 use Rattle.imap_grammar.specs.declared.set.SeqRange.{SeqRange}
 use Rattle.imap_grammar.specs.declared.items.StatusItem.{StatusItem}
 use Rattle.imap_grammar.specs.declared.command.Command.{Command}
@@ -34,7 +35,7 @@ use Rattle.imap_grammar.specs.Sets.{last_uid, named_at, named_in}
 use Rattle.imap_grammar.specs.Verbs.{copy_verb, verb_of}
 use Rattle.imap_grammar.specs.Reading.{is_done, read}
 use Rattle.imap_grammar.specs.Items.{is_compatible, is_recent, marks_seen}
-use Rattle.imap_answers.specs.Answers.{flags_answer, is_inbox, list_answer, opening_text, row_answer, search_answer, status_answer, uid_set}
+use Rattle.imap_answers.specs.Answers.{flags_answer, is_inbox, list_answer, opening_text, row_answer, found_answer, status_answer, uid_set}
 use Rattle.imap_session.specs.declared.standing.After.TheVariants.{Go, Bye}
 use Rattle.imap_session.specs.declared.standing.After.TheVariants as afters
 use Rattle.imap_session.specs.declared.standing.Selected.{Selected}
@@ -183,8 +184,8 @@ searching search last view done (uid ∷ uids) found =
     (searching search last view done uids found))
 
 -- tells which were found, on one line
-abbrev pub search_done : Search → List ℕ → Exchange
-search_done search found = Write (search_answer found) (messages_done (commands.Search search) search.by_uid false)
+abbrev pub search_done : (tag : List ℕ) → Search → List ℕ → Exchange
+search_done tag search found = Write (found_answer tag search.by_uid search.returns found) (messages_done (commands.Search search) search.by_uid false)
 
 -- ---- commands
 
@@ -214,12 +215,12 @@ store_messages store =
     storing store view (messages_done (commands.Store store) store.by_uid) uids false)
 
 -- Each message of the view is looked at. Memory is wanted, for the numbers of those that are found.
-abbrev pub search_messages : Search → Exchange
-search_messages search =
-    on_set true all_messages (λ view uids. wanting (searching search (named_at view (last_uid uids)) view (search_done search) uids []))
+abbrev pub search_messages : (tag : List ℕ) → Search → Exchange
+search_messages tag search =
+    on_set true all_messages (λ view uids. wanting (searching search (named_at view (last_uid uids)) view (search_done tag search) uids []))
 
-abbrev pub search_known : Search → Selected → Exchange
-search_known search selected = if search.known_charset then search_messages search else says (response_text texts.BadCharset)
+abbrev pub search_known : (tag : List ℕ) → Search → Selected → Exchange
+search_known tag search selected = if search.known_charset then search_messages tag search else says (response_text texts.BadCharset)
 
 -- The set is resolved on the view before the changes are shown, and what they showed can't come into it. Then memory is wanted, for the UIDs that it names, where it names one.
 abbrev pub expunge_set : List SeqRange → Exchange
@@ -257,12 +258,12 @@ over None = says (response_text texts.NotOffered)
 over (Some most) = says (response_text texts.MessageTooBig)
 
 -- the client is asked for its literal
-abbrev pub asking : (mailbox : ℕ) → Flags → (size : ℕ) → Exchange
-asking mailbox flags size = Wait (continuing (response_text texts.Ready)) (ForLiteral Asked (Message (Some mailbox) flags) size)
+abbrev pub asking : (mailbox : ℕ) → Flags → (date : Option Stamp) → (size : ℕ) → Exchange
+asking mailbox flags date size = Wait (continuing (response_text texts.Ready)) (ForLiteral Asked (Message (Some mailbox) flags date) size)
 
 -- its literal comes without that, and nothing is said
-abbrev pub coming : (mailbox : Option ℕ) → Flags → (size : ℕ) → Exchange
-coming mailbox flags size = Wait [] (ForLiteral Unasked (Message mailbox flags) size)
+abbrev pub coming : (mailbox : Option ℕ) → Flags → (date : Option Stamp) → (size : ℕ) → Exchange
+coming mailbox flags date size = Wait [] (ForLiteral Unasked (Message mailbox flags date) size)
 
 -- a literal that the client sends without being asked has at most so many bytes
 abbrev pub most_unasked : ℕ
@@ -272,23 +273,27 @@ most_unasked = 4096
 abbrev pub appending : Option ℕ → List Folder → Append → Exchange
 appending most folders append =
     if append.literal.waits
-    then wanting (on_found (λ mailbox. if is_over most append.literal.size then over most else asking mailbox append.flags append.literal.size)
+    then wanting (on_found (λ mailbox. if is_over most append.literal.size then over most else asking mailbox append.flags append.date append.literal.size)
     nowhere (number_named append.name folders))
     else (if nat_lt most_unasked append.literal.size then Wait (bye (response_text texts.LiteralTooBig)) ForNothing
-    else coming (number_named append.name folders) append.flags append.literal.size)
+    else coming (number_named append.name folders) append.flags append.date append.literal.size)
 
 -- message numbers have 32 bits, and the last is never given
 abbrev pub last_number : ℕ
 last_number = 4294967295
 
--- the mailbox that a message is for, where it is known, and the flags that it is to have
+-- the mailbox that a message is for, where it is known, and the flags and the date that it is to have
 abbrev pub mailbox_for : Purpose → Option ℕ
-mailbox_for (Message mailbox flags) = mailbox
+mailbox_for (Message mailbox flags date) = mailbox
 mailbox_for purpose = None
 
 abbrev pub flags_for : Purpose → Flags
-flags_for (Message mailbox flags) = flags
+flags_for (Message mailbox flags date) = flags
 flags_for purpose = no_flags
+
+abbrev pub date_for : Purpose → Option Stamp
+date_for (Message mailbox flags date) = date
+date_for purpose = None
 
 -- all bytes are there, and the line ends behind them. Memory is wanted for what the text's copies share
 abbrev pub on_text : Mailing → PendingLiteral → List ℕ → ℕ → Exchange
@@ -296,7 +301,7 @@ on_text mailing a text mailbox =
     if is_over mailing.most a.size then over mailing.most
     else if list_any (λ b. b == 0) text then says (response_text texts.NulByte)
     else if nat_le last_number mailing.number then says (response_text texts.MailboxSpent)
-    else wanting (Wait [] (ForVerdict Client mailbox (flags_for a.purpose) text))
+    else wanting (Wait [] (ForVerdict Client mailbox (flags_for a.purpose) (record { bytes = text; date = date_for a.purpose })))
 
 -- the rest of the line, without its CRLF, behind the literal of a message. A rest that is too long is told as no empty one
 abbrev pub on_rest : Mailing → PendingLiteral → Bool → Exchange
@@ -360,7 +365,7 @@ submitting mailing batch mailbox done = submitting_first mailing batch mailbox d
 abbrev pub gathering : Mailing → CopyMessages → (mailbox : ℕ) → (uids : List ℕ) → Batch → Exchange
 gathering mailing copy mailbox [] batch = submitting mailing batch mailbox (completed (commands.Copy copy))
 gathering mailing copy mailbox (uid ∷ uids) batch =
-    Read uid false (on_found (λ row. if is_over (most_copied mailing.most) (length row.text) then over (most_copied mailing.most) else gathering mailing copy mailbox uids (with_message uid row batch))
+    Read uid false (on_found (λ row. if is_over (most_copied mailing.most) (length row.text.bytes) then over (most_copied mailing.most) else gathering mailing copy mailbox uids (with_message uid row batch))
     (if copy.by_uid then gathering mailing copy mailbox uids batch else says (response_text texts.MessagesGone)))
 
 -- Of these messages to this mailbox. Memory is wanted for what is known of each, and for the tag.
@@ -447,36 +452,36 @@ abbrev pub noticing : Option (List ℕ) → Exchange → Exchange
 noticing None x = x
 noticing (Some words) x = untagged_in_room words x
 
-abbrev pub on_command : Standing → Command → Exchange
-on_command now commands.Noop = showing now.selected (completed commands.Noop)
-on_command now commands.Logout = Put (bye (response_text texts.LoggingOut)) (Done (response_text (texts.Completed verbs.Logout)) Bye)
-on_command now commands.Idle = begins_idling
-on_command now (commands.Login user password) = wrong_state
-on_command now (commands.Authenticate a) = wrong_state
-on_command now commands.StartTls = wrong_state
-on_command now (commands.Select name) = selecting now.profile now.folders now.selected false name
-on_command now (commands.Examine name) = selecting now.profile now.folders now.selected true name
-on_command now (commands.List reference pattern) =
+abbrev pub on_command : (tag : List ℕ) → Standing → Command → Exchange
+on_command tag now commands.Noop = showing now.selected (completed commands.Noop)
+on_command tag now commands.Logout = Put (bye (response_text texts.LoggingOut)) (Done (response_text (texts.Completed verbs.Logout)) Bye)
+on_command tag now commands.Idle = begins_idling
+on_command tag now (commands.Login user password) = wrong_state
+on_command tag now (commands.Authenticate a) = wrong_state
+on_command tag now commands.StartTls = wrong_state
+on_command tag now (commands.Select name) = selecting now.profile now.folders now.selected false name
+on_command tag now (commands.Examine name) = selecting now.profile now.folders now.selected true name
+on_command tag now (commands.List reference pattern) =
     Write (list_answer All reference pattern (map (λ (folder : Folder). folder.name) now.folders))
     (showing now.selected (completed (commands.List reference pattern)))
-on_command now (commands.Lsub reference pattern) =
+on_command tag now (commands.Lsub reference pattern) =
     Write (list_answer Subscribed reference pattern (map (λ (folder : Folder). folder.name) now.folders))
     (showing now.selected (completed (commands.Lsub reference pattern)))
-on_command now (commands.Subscribe name) = wanting (subscribing now.folders name (commands.Subscribe name))
-on_command now (commands.Unsubscribe name) = wanting (subscribing now.folders name (commands.Unsubscribe name))
-on_command now commands.Check = showing now.selected (completed commands.Check)
-on_command now (commands.Status name items) =
+on_command tag now (commands.Subscribe name) = wanting (subscribing now.folders name (commands.Subscribe name))
+on_command tag now (commands.Unsubscribe name) = wanting (subscribing now.folders name (commands.Unsubscribe name))
+on_command tag now commands.Check = showing now.selected (completed commands.Check)
+on_command tag now (commands.Status name items) =
     wanting (on_folder name now.folders (counting now.selected name items))
-on_command now commands.Close = in_selected now (λ selected. Leave (not selected.read_only) (completed commands.Close))
-on_command now commands.Unselect = in_selected now (λ selected. Leave false (completed commands.Unselect))
-on_command now commands.Expunge = in_writable now (Expunge None (Feed unlimited (completed commands.Expunge)))
-on_command now (commands.UidExpunge set) = in_writable now (expunge_set set)
-on_command now (commands.Fetch fetch) = in_selected now (fetch_messages fetch)
-on_command now (commands.Search search) = in_selected now (search_known search)
-on_command now (commands.Store store) = in_writable now (store_messages store)
-on_command now (commands.Copy copy) = in_selected now (copy_messages now copy)
-on_command now (commands.Append append) = appending now.mailing.most now.folders append
-on_command now command = noticing (notice now.profile command) (completed command)
+on_command tag now commands.Close = in_selected now (λ selected. Leave (not selected.read_only) (completed commands.Close))
+on_command tag now commands.Unselect = in_selected now (λ selected. Leave false (completed commands.Unselect))
+on_command tag now commands.Expunge = in_writable now (Expunge None (Feed unlimited (completed commands.Expunge)))
+on_command tag now (commands.UidExpunge set) = in_writable now (expunge_set set)
+on_command tag now (commands.Fetch fetch) = in_selected now (fetch_messages fetch)
+on_command tag now (commands.Search search) = in_selected now (search_known tag search)
+on_command tag now (commands.Store store) = in_writable now (store_messages store)
+on_command tag now (commands.Copy copy) = in_selected now (copy_messages now copy)
+on_command tag now (commands.Append append) = appending now.mailing.most now.folders append
+on_command tag now command = noticing (notice now.profile command) (completed command)
 
 -- ---- what isn't carried out
 
@@ -539,8 +544,8 @@ barred_at (Some user) profile command = without_login command
 abbrev pub barred : Standing → Command → Option ResponseText
 barred now command = barred_at now.login now.profile command
 
-abbrev pub answering : Standing → Command → Exchange
-answering now command = on_found (λ text. says (response_text text)) (on_command now command) (barred now command)
+abbrev pub answering : (tag : List ℕ) → Standing → Command → Exchange
+answering tag now command = on_found (λ text. says (response_text text)) (on_command tag now command) (barred now command)
 
 -- the client logs in as the user as whom it is to. The password isn't looked at: only the machine itself can connect, and who may log in is told by what stands in front
 abbrev pub logs_in_as : Option (List ℕ) → Command → Bool
@@ -576,7 +581,7 @@ only_says text now (answer ∷ more) = None
 -- a command under its tag, which logs the client in or not
 abbrev pub on_line : Bool → Standing → List ℕ → Command → List Answer → Option Turn
 on_line true now tag command answers = played tag (logged_in now) (completed command) answers
-on_line false now tag command answers = played tag now (answering now command) answers
+on_line false now tag command answers = played tag now (answering tag now command) answers
 
 abbrev pub on_read : Standing → Result (List ℕ × Command) ImapFault → List Answer → Option Turn
 on_read now (Ok line) answers = on_line (logs_in_as now.login line.1) now line.0 line.1 answers
@@ -682,7 +687,7 @@ without_sent now = record now { idling = None; mailing = record now.mailing { be
 
 -- The rest of a line behind a literal. One that is an argument is read as the quoted string that says the same, in the literal's place.
 abbrev pub on_rest_of : Purpose → PendingLiteral → Standing → List ℕ → List Answer → Option Turn
-on_rest_of (Message mailbox flags) a now line answers = played a.tag (without_begun now) (on_rest now.mailing a (length line == 0)) answers
+on_rest_of (Message mailbox flags date) a now line answers = played a.tag (without_begun now) (on_rest now.mailing a (length line == 0)) answers
 on_rest_of (Argument before) a now line answers = on_behind a.tag (without_begun now) (option_map (λ text. before ++ quoted text ++ line) a.text) line answers
 on_rest_of (Response before) a now line answers = on_behind a.tag (without_begun now) (option_map (λ text. before ++ codes " " ++ response_in line) a.text) line answers
 

@@ -15,9 +15,9 @@ use Rattle.imap_session.specs.Store.{Answers, AnswersVerdict, IdleTurns, Met, Ta
 abbrev pub most_bytes : ℕ
 most_bytes = 8192
 
--- the room that an answer reserves before anything is done: for a line that is said again and 157 bytes, beside the tag of a command that isn't done yet
+-- the room that an answer reserves before anything is done: for a line that is said again and 165 bytes, beside the tag of a command that isn't done yet
 abbrev pub answer_room : ℕ
-answer_room = 8349
+answer_room = 8357
 
 -- where a client's dialogue stands: where its session does, and the bytes of the line that has not ended yet
 pub record Dialogue : Type 0 where

@@ -2,6 +2,8 @@
 use Rattle.std.specs.Prelude.{ℕ, zero, suc, ◌+◌, Bool, true, false, codes, length, nat_lt, List, [], ◌∷◌, ◌++◌, Option, Some, None, is_some, ◌&&◌, not, if◌then◌else◌}
 use Rattle.std.specs.Option.{option_map}
 use Rattle.change_ring.specs.declared.change.Flags.{Flags}
+use Rattle.mail_date.specs.declared.stamp.Stamp.{Stamp}
+use Rattle.delivery_token.specs.Text.{Text}
 use Rattle.change_ring.specs.declared.change.Change.{Change}
 use Rattle.mailbox.specs.declared.clients.MailFault.{MailFault}
 use Rattle.mailbox.specs.declared.clients.MailFault.TheVariants.{Stranger, Lapped, Spent, NoMemory}
@@ -67,8 +69,8 @@ pub record Folder : Type 0 where
 
 -- what a client sends behind a line, and for what
 pub data Purpose : Type 0 where
-  -- a message that is appended: the mailbox that was named, where there is one, and the flags that it is to have
-  Message : (mailbox : Option ℕ) → Flags → Purpose
+  -- a message that is appended: the mailbox that was named, where there is one, and the flags and the date that it is to have
+  Message : (mailbox : Option ℕ) → Flags → (date : Option Stamp) → Purpose
   -- an argument of the line that began so
   Argument : (line : List ℕ) → Purpose
   -- the response that AUTHENTICATE of this line asks for: it has no bytes, but the rest of the line behind them
@@ -196,7 +198,7 @@ pub data Waiting : Type 0 where
   -- so many bytes of a literal, and the rest of the line behind them
   ForLiteral : Coming → Purpose → (size : ℕ) → Waiting
   -- the verdict on a message, which is submitted under the next number
-  ForVerdict : Origin → (mailbox : ℕ) → Flags → (text : List ℕ) → Waiting
+  ForVerdict : Origin → (mailbox : ℕ) → Flags → Text → Waiting
   -- nothing more: it has ended
   ForNothing : Waiting
 
@@ -304,7 +306,7 @@ most_in_place = 32
 
 -- what is known of the purpose of a literal whose bytes are dropped
 abbrev pub nameless : Purpose → Purpose
-nameless (Message mailbox flags) = Message None flags
+nameless (Message mailbox flags date) = Message None flags date
 nameless (Argument line) = Argument []
 nameless (Response line) = Response []
 

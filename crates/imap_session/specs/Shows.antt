@@ -10,7 +10,7 @@ use Rattle.imap_grammar.specs.declared.command.Command.TheVariants as commands
 use Rattle.imap_grammar.specs.Reading.{is_done}
 use Rattle.delivery_token.specs.declared.Verdict.{Verdict}
 use Rattle.delivery_token.specs.declared.Verdict.TheVariants.{Stored, Refused}
-use Rattle.imap_answers.specs.Answers.{list_answer, opening_text, search_answer}
+use Rattle.imap_answers.specs.Answers.{list_answer, opening_text, found_answer}
 use Rattle.imap_answers.specs.declared.list.Listing.TheVariants.{All, Subscribed}
 use Rattle.imap_session.specs.declared.standing.After.TheVariants.{Submit}
 use Rattle.imap_session.specs.declared.standing.Selected.{Selected}
@@ -59,23 +59,23 @@ IsNotice (Some words) bytes = bytes ≡ untagged words
 -- The kinds of lines that a command says beside its last one and beside the changes that it shows. None of them shows a change: those that
 -- tell of messages are FETCH lines under FETCH and STORE, and the EXISTS line of a mailbox that is entered. A command that isn't here says what it
 -- has to say of the server, or nothing.
-abbrev pub MaySay : Standing → Command → List ℕ → Type 0
-MaySay now commands.Logout bytes = bytes ≡ bye (response_text texts.LoggingOut)
-MaySay now (commands.Select name) bytes = IsOfSelect false bytes
-MaySay now (commands.Examine name) bytes = IsOfSelect true bytes
-MaySay now (commands.List reference pattern) bytes = bytes ≡ list_answer All reference pattern (map (λ (folder : Folder). folder.name) now.folders)
-MaySay now (commands.Lsub reference pattern) bytes = bytes ≡ list_answer Subscribed reference pattern (map (λ (folder : Folder). folder.name) now.folders)
-MaySay now (commands.Subscribe name) bytes = bytes ≡ []
-MaySay now (commands.Unsubscribe name) bytes = bytes ≡ []
-MaySay now (commands.Status name items) bytes = (bytes ≡ []) ⊎ ((rest : List ℕ) × (bytes ≡ codes "* STATUS " ++ rest))
-MaySay now (commands.Fetch fetch) bytes = (bytes ≡ []) ⊎ IsFetchLine bytes
-MaySay now (commands.Store store) bytes = IsFetchLine bytes
-MaySay now (commands.Search search) bytes = (bytes ≡ []) ⊎ ((found : List ℕ) × (bytes ≡ search_answer found))
-MaySay now (commands.UidExpunge set) bytes = bytes ≡ []
-MaySay now (commands.Copy copy) bytes = bytes ≡ []
-MaySay now commands.Idle bytes = bytes ≡ continuing (response_text texts.Idling)
-MaySay now (commands.Append append) bytes = (bytes ≡ []) ⊎ (bytes ≡ continuing (response_text texts.Ready)) ⊎ (bytes ≡ bye (response_text texts.LiteralTooBig))
-MaySay now command bytes = IsNotice (notice now.profile command) bytes
+abbrev pub MaySay : (tag : List ℕ) → Standing → Command → List ℕ → Type 0
+MaySay tag now commands.Logout bytes = bytes ≡ bye (response_text texts.LoggingOut)
+MaySay tag now (commands.Select name) bytes = IsOfSelect false bytes
+MaySay tag now (commands.Examine name) bytes = IsOfSelect true bytes
+MaySay tag now (commands.List reference pattern) bytes = bytes ≡ list_answer All reference pattern (map (λ (folder : Folder). folder.name) now.folders)
+MaySay tag now (commands.Lsub reference pattern) bytes = bytes ≡ list_answer Subscribed reference pattern (map (λ (folder : Folder). folder.name) now.folders)
+MaySay tag now (commands.Subscribe name) bytes = bytes ≡ []
+MaySay tag now (commands.Unsubscribe name) bytes = bytes ≡ []
+MaySay tag now (commands.Status name items) bytes = (bytes ≡ []) ⊎ ((rest : List ℕ) × (bytes ≡ codes "* STATUS " ++ rest))
+MaySay tag now (commands.Fetch fetch) bytes = (bytes ≡ []) ⊎ IsFetchLine bytes
+MaySay tag now (commands.Store store) bytes = IsFetchLine bytes
+MaySay tag now (commands.Search search) bytes = (bytes ≡ []) ⊎ ((found : List ℕ) × (bytes ≡ found_answer tag search.by_uid search.returns found))
+MaySay tag now (commands.UidExpunge set) bytes = bytes ≡ []
+MaySay tag now (commands.Copy copy) bytes = bytes ≡ []
+MaySay tag now commands.Idle bytes = bytes ≡ continuing (response_text texts.Idling)
+MaySay tag now (commands.Append append) bytes = (bytes ≡ []) ⊎ (bytes ≡ continuing (response_text texts.Ready)) ⊎ (bytes ≡ bye (response_text texts.LiteralTooBig))
+MaySay tag now command bytes = IsNotice (notice now.profile command) bytes
 
 -- ---- where
 
@@ -102,8 +102,8 @@ ShowsBefore ok says shows must removes (Leave remove x) = ShowsBefore ok says sh
 ShowsBefore ok says shows must removes (Discard mailbox uids x) = ShowsBefore ok says shows must removes x
 
 -- A command shows changes before it ends, where a mailbox is selected, and there alone. IDLE itself shows none, nor does the line of an APPEND
-abbrev pub ShowsInOrder : Standing → Command → Exchange → Type 0
-ShowsInOrder now command = ShowsBefore (completed command) (MaySay now command) (may_show command) (may_show command && is_some now.selected) (may_remove command)
+abbrev pub ShowsInOrder : (tag : List ℕ) → Standing → Command → Exchange → Type 0
+ShowsInOrder tag now command = ShowsBefore (completed command) (MaySay tag now command) (may_show command) (may_show command && is_some now.selected) (may_remove command)
 
 -- the line that ends an IDLE shows changes where it is DONE and a mailbox is selected, right before the tagged OK. Any other line shows none
 abbrev pub DoneShowsInOrder : Option Selected → List ℕ → Exchange → Type 0

@@ -109,13 +109,13 @@ Starves step old new = (new ≡ old) ⊎ step old (Feed most_changes) (Refused N
 -- The room that is reserved before a line is answered: for its own tag or that of the command that it ends or goes on with, for the lines that end the answer,
 -- and for the line before the last of CAPABILITY, NAMESPACE, ID, ENABLE and LOGOUT, or the one by which SELECT and EXAMINE tell that a mailbox was left.
 abbrev pub room_while : Option (List ℕ) → List ℕ → ℕ
-room_while None line = length line + 157
+room_while None line = length line + 165
 room_while (Some tag) line = length tag + 48
 
 -- behind a literal that is an argument the line may be as long as any
 abbrev pub room_rest : Purpose → ℕ
-room_rest (Message mailbox flags) = 48
-room_rest purpose = most_line + 157
+room_rest (Message mailbox flags date) = 48
+room_rest purpose = most_line + 165
 
 abbrev pub room_behind : Option PendingLiteral → Option (List ℕ) → List ℕ → ℕ
 room_behind None idling line = room_while idling line

@@ -57,7 +57,7 @@ response_text Ready = codes "ready"
 -- the words for what a profile has (RFC 9051, 7.2.2; RFC 2177, 2342, 2971, 3691, 4315, 4959, 5161 and 7888)
 abbrev pub capabilities : Profile → List ℕ
 capabilities Standard = codes "CAPABILITY IMAP4rev2 IDLE"
-capabilities Compatible = codes "CAPABILITY IMAP4rev2 IMAP4rev1 AUTH=PLAIN ENABLE ID IDLE LITERAL- MOVE NAMESPACE SASL-IR UIDPLUS UNSELECT"
+capabilities Compatible = codes "CAPABILITY IMAP4rev2 IMAP4rev1 AUTH=PLAIN ENABLE ESEARCH ID IDLE LITERAL- MOVE NAMESPACE SASL-IR UIDPLUS UNSELECT"
 
 -- what is said of the server, behind a star
 abbrev pub server_text : ServerText → List ℕ

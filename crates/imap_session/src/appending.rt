@@ -79,7 +79,7 @@ impl Session {
         requires unsent { self.old.mailing.sent ≡ None }
         requires size { append.now.literal.size < 2 ^ 32 }
         ensures leads { Leads response.entry.tag self.old
-            (wanting (asking mailbox append.now.flags append.now.literal.size))
+            (wanting (asking mailbox append.now.flags append.now.date append.now.literal.size))
             response.entry.text out.new.items result self.new }
         ensures folders { self.new.folders ≡ self.old.folders }
         ensures sends { result ≡ may_send self.new }
@@ -98,6 +98,7 @@ impl Session {
         let purpose = Purpose::Message {
             mailbox: Some(mailbox),
             flags: append.flags,
+            date: append.date,
         };
         self.begin_literal(own_tag, purpose, size, Some(text))
     }
@@ -180,7 +181,7 @@ impl Session {
         requires size { append.now.literal.size < 2 ^ 32 }
         ensures leads { Leads response.entry.tag self.old
             (coming (number_named append.now.name self.old.folders) append.now.flags
-            append.now.literal.size)
+            append.now.date append.now.literal.size)
             response.entry.text out.new.items result self.new }
         ensures folders { self.new.folders ≡ self.old.folders }
         ensures sends { result ≡ may_send self.new }
@@ -194,15 +195,21 @@ impl Session {
             return After::Bye;
         };
         let flags = append.flags;
+        let date = append.date;
         match prepared {
             Ok((mailbox, text)) => {
-                let purpose = Purpose::Message { mailbox, flags };
+                let purpose = Purpose::Message {
+                    mailbox,
+                    flags,
+                    date,
+                };
                 return self.begin_literal(tag, purpose, size, Some(text));
             }
             Err(_) => {
                 let purpose = Purpose::Message {
                     mailbox: None,
                     flags,
+                    date,
                 };
                 return self.begin_literal(tag, purpose, size, None);
             }
@@ -293,12 +300,13 @@ impl Session {
         } = begun;
         let mailbox = purpose.mailbox();
         let flags = purpose.flags();
+        let date = purpose.date();
         let most = self.mailing.most;
         let message = self.mailing.number;
         match judge(text, mailbox, size, most, message, ends) {
             Err(text) => Err((tag, text)),
             Ok((mailbox, text)) => {
-                let Ok(text) = Text::new(text) else {
+                let Ok(text) = Text::with_date(text, date) else {
                     return Err((tag, ResponseText::OutOfMemory));
                 };
                 self.mailing.number = message + 1;

@@ -22,7 +22,7 @@ use std::marker::Model;
 const MAX_LINE: usize = 8_192;
 
 /// Room for what a line's answer reserves before anything is done, beside the tag of a command that isn't done yet.
-const ANSWER_ROOM: usize = MAX_LINE + 157;
+const ANSWER_ROOM: usize = MAX_LINE + 165;
 
 // What a call took of a piece, and what the client may send next.
 #[derive(Clone, Copy)]
@@ -327,7 +327,7 @@ impl ImapConnection {
     /// Takes a piece to its end, or to the line that ends the session or submits a message: each line that ends in it is answered
     /// (RFC 9051, 2.2), one of more than 8,192 bytes with its CRLF as too long, and the bytes of a literal are kept for the line that announced
     /// it (4.3), wherever they are cut. Where memory is refused before a line is answered, what was taken till then stands, and the rest is for
-    /// the next call. It is refused only where `out` has no room, behind what it has by then, for 8,349 bytes and the tag of the command
+    /// the next call. It is refused only where `out` has no room, behind what it has by then, for 8,357 bytes and the tag of the command
     /// that isn't done, and never over a piece that is empty. A message is submitted only by a byte that was taken; and whatever the connection stands for, the store was asked
     /// some calls, one after the other, or none.
     pub fn take<S: Store>(

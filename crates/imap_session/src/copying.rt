@@ -92,7 +92,7 @@ fn gone(copy: &CopyMessages<'_>) -> Result<Option<Row>, ResponseText>
 // What becomes of a message that is there.
 fn there(most: Option<u32>, row: Row) -> Result<Option<Row>, ResponseText>
     ensures { (taken : RowSpec → Exchange) (passed : Exchange)
-        → (if is_over (most_copied most) (length row.text) then over (most_copied most)
+        → (if is_over (most_copied most) (length row.text.bytes) then over (most_copied most)
         else taken row)
         ≡ picked taken passed result }
 {
@@ -112,7 +112,7 @@ fn read_one<S: Store>(
     ensures { (response : ResponseSpec) (named : ℕ) → uid ≡ named → (mailing : MailingSpec)
         → mailing.most ≡ most → (taken : RowSpec → Exchange) (passed : Exchange) → Does S.step
         (Read named false (on_found
-        (λ row. if is_over (most_copied mailing.most) (length row.text)
+        (λ row. if is_over (most_copied mailing.most) (length row.text.bytes)
         then over (most_copied mailing.most) else taken row)
         (if copy.now.by_uid then passed else says (response_text texts.MessagesGone))))
         (picked taken passed) store.old store.new response response result }
@@ -354,7 +354,7 @@ impl Session {
         requires alone { self.old.mailing.begun ≡ None }
         requires unsent { self.old.mailing.sent ≡ None }
         ensures had { Had
-            (played response.entry.tag self.old (on_command self.old (commands.Copy copy.now))) S.step
+            (played response.entry.tag self.old (on_command response.entry.tag self.old (commands.Copy copy.now))) S.step
             store.old store.new response.entry.text out.new.items result self.new }
         ensures folders { self.new.folders ≡ self.old.folders }
         ensures sends { result ≡ may_send self.new }

@@ -20,8 +20,8 @@ ghost use Rattle.imap_session.specs.declared.texts.ResponseText.{ResponseText};
 /// and UID EXPUNGE remove messages: nowhere else, and no other line that these commands say is of that kind. Where a mailbox is selected no such
 /// tagged OK comes without them. A command that isn't carried out shows none. A plain FETCH and a plain STORE show none (RFC 9051, 7.5.1), and IDLE shows none before its turns.
 pub fn changes_are_shown_in_order()
-    ensures { (now : Standing) (command : Command)
-        → ShowsInOrder now command (answering now command) }
+    ensures { (tag : List ℕ) (now : Standing) (command : Command)
+        → ShowsInOrder tag now command (answering tag now command) }
 {}
 
 /// The line that ends an IDLE shows changes right before its tagged OK where it is DONE. Any other line shows none.
@@ -67,7 +67,8 @@ pub fn only_a_stored_verdict_tells_a_uid()
         (mailbox : ℕ) (verdict : Verdict) → VerdictTellsUid selected origin mailbox verdict (on_verdict mailing selected origin mailbox verdict) }
 
     // No last line of a command, of an IDLE, or behind a literal tells one.
-    ensures commands { (now : Standing) (command : Command) → TellsNoUid (answering now command) }
+    ensures commands { (tag : List ℕ) (now : Standing) (command : Command)
+        → TellsNoUid (answering tag now command) }
     ensures idling { (selected : Option Selected) (line : List ℕ)
         → TellsNoUid (on_idle_line selected line) }
     ensures rest { (mailing : Mailing) (begun : PendingLiteral) (ends : Bool)

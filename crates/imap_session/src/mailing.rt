@@ -5,7 +5,7 @@ ghost use Rattle.std.specs.Prelude.{◌≡◌, ◌^◌, ◌<◌, ◌≤◌, ◌=
 ghost use Rattle.std.specs.Vec.{vec_capacity};
 ghost use Rattle.std.specs.List.{list_any};
 ghost use Rattle.std.specs.Option.{option_map};
-ghost use Rattle.imap_session.specs.Commands.{flags_for, is_over, long_rest_text, mailbox_for, on_rest, over, says, taking, wanting};
+ghost use Rattle.imap_session.specs.Commands.{date_for, flags_for, is_over, long_rest_text, mailbox_for, on_rest, over, says, taking, wanting};
 ghost use Rattle.imap_session.specs.Exchange.{Client, PendingLiteral as PendingSpec, Mailing as MailingSpec, ForVerdict, Wait};
 ghost use Rattle.imap_session.specs.Store.{IsBeyondRoom, most_first_room};
 ghost use Rattle.imap_session.specs.Texts.{response_text};
@@ -19,6 +19,7 @@ use crate::texts::ResponseText;
 use crate::turn::FIRST;
 use crate::unfinished::MOST_LINE;
 use change_ring::{Flags, NO_FLAGS};
+use mail_date::Stamp;
 use std::alloc::{AllocError, Global};
 use std::marker::Model;
 
@@ -31,8 +32,12 @@ const FIRST_ROOM: usize = 4_096;
 /// What a client sends behind a line, and for what.
 #[derive(Drop)]
 pub(crate) enum Purpose {
-    /// A message that is appended: the mailbox that was named, where there is one, and the flags that it is to have.
-    Message { mailbox: Option<u8>, flags: Flags },
+    /// A message that is appended: the mailbox that was named, where there is one, and the flags and the date that it is to have.
+    Message {
+        mailbox: Option<u8>,
+        flags: Flags,
+        date: Option<Stamp>,
+    },
     /// An argument of the line that began so, kept in room for a whole line.
     Argument(Vec<u8>),
     /// The response that AUTHENTICATE of this line asks for, kept in room for a whole line. It has no bytes, but the rest of the line behind them.
@@ -41,7 +46,7 @@ pub(crate) enum Purpose {
 
 impl Purpose {
     ghost use Rattle.std.specs.Prelude.{◌≡◌};
-    ghost use Rattle.imap_session.specs.Commands.{flags_for, mailbox_for};
+    ghost use Rattle.imap_session.specs.Commands.{date_for, flags_for, mailbox_for};
     ghost use Rattle.imap_session.specs.Store.{room_rest};
     ghost use Rattle.imap_session.specs.inner.Lines.{is_message};
     ghost use Rattle.imap_session.specs.inner.Seen.{purpose_of};
@@ -69,6 +74,16 @@ impl Purpose {
     {
         match self {
             Purpose::Message { mailbox, .. } => *mailbox,
+            Purpose::Argument(_) | Purpose::Response(_) => None,
+        }
+    }
+
+    // Of a message the date that came with it, where one did.
+    pub(crate) fn date(&self) -> Option<Stamp>
+        ensures { result ≡ date_for (purpose_of self.now) }
+    {
+        match self {
+            Purpose::Message { date, .. } => *date,
             Purpose::Argument(_) | Purpose::Response(_) => None,
         }
     }
@@ -227,7 +242,8 @@ pub(crate) fn judge(
     ensures ready { IfOk result (λ made. (mailing : MailingSpec) (a : PendingSpec)
         → mailing.most ≡ most → mailing.number ≡ number →
         mailbox_for a.purpose ≡ mailbox → a.size ≡ size → a.text ≡ option_map (λ t. t.items) text →
-        on_rest mailing a empty ≡ wanting (Wait [] (ForVerdict Client made.0 (flags_for a.purpose) made.1.items))) }
+        on_rest mailing a empty ≡ wanting (Wait [] (ForVerdict Client made.0 (flags_for a.purpose)
+        (record { bytes = made.1.items; date = date_for a.purpose })))) }
     ensures numbered { IfOk result (λ made. number < 4294967295) }
 {
     let Some(mut text) = text else {

@@ -2,7 +2,7 @@
 //! What keys there are, and what each says of a message, is told in `imap_grammar`.
 
 ghost use Rattle.std.specs.Prelude.{◌≡◌, ◌+◌, ◌<◌, ◌≤◌, ◌++◌, List, ℕ, [], map, false, vec_capacity, vec_len, OnOk, OnErr, IfErr, option_to_list};
-ghost use Rattle.imap_answers.specs.Answers.{search_answer};
+ghost use Rattle.imap_answers.specs.Answers.{found_answer};
 ghost use Rattle.imap_grammar.specs.Sets.{last_uid, named_at};
 ghost use Rattle.imap_session.specs.Exchange.{Exchange, Read};
 ghost use Rattle.imap_session.specs.Commands.{found_in, messages_done, on_found, search_messages, searching, wanting};
@@ -23,10 +23,7 @@ use std::alloc::Global;
 fn found_in(search: &Search<'_>, last: Named, message: Named, row: &Row) -> Option<usize>
     ensures { option_to_list result ≡ found_in search.now last message row.now }
 {
-    if !search
-        .keys
-        .matches(last, message, row.flags, row.text.as_slice())
-    {
+    if !search.keys.matches(last, message, row.flags, &row.text) {
         None
     } else if search.by_uid {
         Some(message.uid as usize)
@@ -104,14 +101,26 @@ fn search_view<S: Store>(
     search_all(alloc, search, *last, messages, store)
 }
 
-// Writes which messages were found.
-fn write_numbers(numbers: &[usize], response: &mut Response<'_>) -> Result<(), MailFault>
-    ensures text { OnOk result (response.new ≡ adding (search_answer numbers.now) response.old) }
+// Writes which messages were found, as the search asks for it.
+fn write_numbers(
+    search: &Search<'_>,
+    numbers: &[usize],
+    response: &mut Response<'_>,
+) -> Result<(), MailFault>
+    ensures text { OnOk result (response.new ≡ adding
+        (found_answer response.old.tag search.now.by_uid search.now.returns numbers.now)
+        response.old) }
     ensures err { OnErr result (response.new ≡ response.old) }
     ensures fault { IfErr result (λ f. f ≡ MailFault.NoMemory) }
 {
     let start = response.out.len();
-    write_found(numbers, &mut response.out)?;
+    write_found(
+        response.tag,
+        search.by_uid,
+        search.returns,
+        numbers,
+        &mut response.out,
+    )?;
     hold_room(start, response.held, &mut response.out)
 }
 
@@ -140,13 +149,13 @@ pub(crate) fn search_messages<S: Store>(
     store: &mut S,
     response: &mut Response<'_>,
 ) -> Result<ResponseText, MailFault>
-    ensures { Does S.step (search_messages search.now) last store.old store.new response.old
-        response.new result }
+    ensures { Does S.step (search_messages response.old.tag search.now) last store.old store.new
+        response.old response.new result }
 {
     let Some(messages) = store.choose(alloc, &SeqSet::all(), true)? else {
         return Ok(ResponseText::SequenceTooHigh);
     };
     let found = search_view(alloc, search, messages.as_slice(), store)?;
-    write_numbers(found.as_slice(), response)?;
+    write_numbers(search, found.as_slice(), response)?;
     finish_search(search, store, response)
 }

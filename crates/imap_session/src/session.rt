@@ -238,7 +238,7 @@ impl Session {
             ≤ response.held + length (first_line self.old.profile command.now) }
         ensures plays { Plays S.step response.entry.tag self.old
             (record self.old { selected = self.new.selected })
-            (behind_first_line self.old command.now) store.old store.new response.entry.text
+            (behind_first_line response.entry.tag self.old command.now) store.old store.new response.entry.text
             out.new.items result }
         ensures standing { self.new
             ≡ (closed (record self.old { selected = self.new.selected }) result).standing }
@@ -277,7 +277,7 @@ impl Session {
         ensures refused { OnErr result ((self.new ≡ self.old) × (store.new ≡ store.old)
             × (out.new.items ≡ out.old.items)) }
         ensures memory { OnErr result (vec_capacity out.old
-            < vec_len out.old + (length line.now + 157)) }
+            < vec_len out.old + (length line.now + 165)) }
         ensures folders { self.new.folders ≡ self.old.folders }
         ensures sends { IfOk result (λ after. after ≡ may_send self.new) }
     {
@@ -355,7 +355,7 @@ impl Session {
     /// quoted string stands that says the same, and the line may have 8,190 bytes then. So the response goes behind AUTHENTICATE (6.2.2).
     ///
     /// Errors, after which the session, the store and `out` are as they were: `Ended` exactly where the session has ended; `NoMemory` where
-    /// memory was refused, and `out` has no room for the line's length and 157 bytes more; where the line ends an IDLE or an APPEND, for the
+    /// memory was refused, and `out` has no room for the line's length and 165 bytes more; where the line ends an IDLE or an APPEND, for the
     /// length of its tag and 48 more; where it goes on with another command, for the length of its tag and 8,347 more.
     pub fn line<S: Store>(
         &mut self,

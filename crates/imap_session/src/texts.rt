@@ -12,7 +12,7 @@ use imap_grammar::Verb;
 pub const MOST_TEXT: usize = 45;
 
 /// One of the server has at most so many.
-pub const MOST_SERVER_TEXT: usize = 136;
+pub const MOST_SERVER_TEXT: usize = 144;
 
 /// What a line says behind its tag, where no number is in it; and what one that has none says: behind `* `, `* BYE ` or `+ `.
 #[derive(Clone, Copy, Debug, PartialEq, Eq)]
@@ -95,10 +95,10 @@ impl ServerText {
         match self {
             ServerText::Greeting(Profile::Standard) => b"PREAUTH IMAP4rev2 server ready",
             ServerText::Greeting(Profile::Compatible) =>
-                b"OK [CAPABILITY IMAP4rev2 IMAP4rev1 AUTH=PLAIN ENABLE ID IDLE LITERAL- MOVE NAMESPACE SASL-IR UIDPLUS UNSELECT] IMAP4rev2 server ready",
+                b"OK [CAPABILITY IMAP4rev2 IMAP4rev1 AUTH=PLAIN ENABLE ESEARCH ID IDLE LITERAL- MOVE NAMESPACE SASL-IR UIDPLUS UNSELECT] IMAP4rev2 server ready",
             ServerText::Capabilities(Profile::Standard) => b"CAPABILITY IMAP4rev2 IDLE",
             ServerText::Capabilities(Profile::Compatible) =>
-                b"CAPABILITY IMAP4rev2 IMAP4rev1 AUTH=PLAIN ENABLE ID IDLE LITERAL- MOVE NAMESPACE SASL-IR UIDPLUS UNSELECT",
+                b"CAPABILITY IMAP4rev2 IMAP4rev1 AUTH=PLAIN ENABLE ESEARCH ID IDLE LITERAL- MOVE NAMESPACE SASL-IR UIDPLUS UNSELECT",
             ServerText::Namespaces => b"NAMESPACE ((\"\" \"/\")) NIL NIL",
             ServerText::Identity => b"ID (\"name\" \"post_house\" \"version\" \"0.2.0\")",
             ServerText::NoneEnabled => b"ENABLED",

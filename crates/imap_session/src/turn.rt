@@ -23,7 +23,7 @@ use mailbox::MailFault;
 use std::alloc::Global;
 
 /// Room for the line that CAPABILITY, NAMESPACE, ID, ENABLE or LOGOUT writes before its last one, or by which SELECT or EXAMINE tells that a mailbox was left.
-pub(crate) const FIRST: usize = 109;
+pub(crate) const FIRST: usize = 117;
 
 // Writes what is said of a line that is no command, in room that was reserved.
 pub(crate) fn put_fault(profile: Profile, fault: &ImapFault<'_>, out: &mut Vec<u8>)
@@ -158,7 +158,7 @@ pub(crate) fn carry_out<S: Store>(
     requires long { length response.old.tag + (LAST + FIRST)
         ≤ response.old.held + length (first_line profile command.now) }
     ensures { (login : Option (List ℕ)) (mailing : Mailing) → Moves S.step selected.old selected.new
-        (behind_first_line (record {
+        (behind_first_line response.old.tag (record {
           folders = folders.now;
           profile = profile;
           login = login;

@@ -6,6 +6,7 @@ use Rattle.std.proofs.lemmas.List.Elements.{All-head, All-tail}
 use Rattle.std.proofs.lemmas.List.{get_or-set_same, get_or-set_other, map-append, length-take-le}
 use Rattle.change_ring.specs.Log.{no_flags}
 use Rattle.delivery_token.specs.declared.CopyKey.{CopyKey}
+use Rattle.delivery_token.specs.Text.{Text}
 use Rattle.delivery_token.specs.declared.Job.{Job}
 use Rattle.delivery_token.specs.declared.Verdict.{Verdict}
 use Rattle.envelope.specs.Directory.{Directory, shard_of}
@@ -38,19 +39,19 @@ all_at P [] i x under is h = absurd (omega arith)
 all_at P (y ∷ ys) zero x under is h = subst P (sym is) (All-head P y ys h)
 all_at P (y ∷ ys) (suc i) x under is h = all_at P ys i x (omega arith) is (All-tail P y ys h)
 
-pub copies_length : (keys : List CopyKey) (mailboxes : List ℕ) (text : List ℕ) → length mailboxes ≡ length keys → length (copies keys mailboxes text) ≡ length keys
+pub copies_length : (keys : List CopyKey) (mailboxes : List ℕ) (text : Text) → length mailboxes ≡ length keys → length (copies keys mailboxes text) ≡ length keys
 copies_length [] mailboxes text same = refl
 copies_length (k ∷ ks) [] text same = absurd (omega arith)
 copies_length (k ∷ ks) (m ∷ ms) text same = ap suc (copies_length ks ms text (omega arith))
 
-pub copies_next : (keys : List CopyKey) (mailboxes : List ℕ) (text : List ℕ) (k : CopyKey) (m : ℕ) → length mailboxes ≡ length keys
+pub copies_next : (keys : List CopyKey) (mailboxes : List ℕ) (text : Text) (k : CopyKey) (m : ℕ) → length mailboxes ≡ length keys
     → copies (keys ++ k ∷ []) (mailboxes ++ m ∷ []) text ≡ copies keys mailboxes text ++ record { key = k; mailbox = m; text = text; flags = no_flags } ∷ []
 copies_next [] [] text k m same = refl
 copies_next [] (x ∷ xs) text k m same = absurd (omega arith)
 copies_next (y ∷ ys) [] text k m same = absurd (omega arith)
 copies_next (y ∷ ys) (x ∷ xs) text k m same = ap (λ l. record { key = y; mailbox = x; text = text; flags = no_flags } ∷ l) (copies_next ys xs text k m (omega arith))
 
-copies_at : (keys : List CopyKey) (mailboxes : List ℕ) (text : List ℕ) (i : ℕ) (k : CopyKey) (m : ℕ) → i < length keys → i < length mailboxes → k ≡ slice_index_or keys i k → m ≡ slice_index_or mailboxes i m
+copies_at : (keys : List CopyKey) (mailboxes : List ℕ) (text : Text) (i : ℕ) (k : CopyKey) (m : ℕ) → i < length keys → i < length mailboxes → k ≡ slice_index_or keys i k → m ≡ slice_index_or mailboxes i m
     → (i < length (copies keys mailboxes text)) × (slice_index_or (copies keys mailboxes text) i (record { key = k; mailbox = m; text = text; flags = no_flags }) ≡ record { key = k; mailbox = m; text = text; flags = no_flags })
 copies_at [] mailboxes text i k m under within kis mis = absurd (omega arith)
 copies_at (x ∷ keys) [] text i k m under within kis mis = absurd (omega arith)
@@ -60,7 +61,7 @@ copies_at (x ∷ keys) (y ∷ mailboxes) text (suc i) k m under within kis mis =
     let r = copies_at keys mailboxes text i k m (omega arith) (omega arith) kis mis in ((let u = r.0 in omega (arith, u)), r.1)
 
 -- one more verdict was heard, and filled in at the position of its copy
-pub heard_next : (old new : List (Entry Noted)) (keys : List CopyKey) (mailboxes text : List ℕ) (ss ts us : List (Option Verdict)) (shard : ℕ) (n : Noted) → new ≡ old ++ Item shard n ∷ []
+pub heard_next : (old new : List (Entry Noted)) (keys : List CopyKey) (mailboxes : List ℕ) (text : Text) (ss ts us : List (Option Verdict)) (shard : ℕ) (n : Noted) → new ≡ old ++ Item shard n ∷ []
     → FillsIn keys mailboxes n ts us → WereHeard old (copies keys mailboxes text) ss ts → WereHeard new (copies keys mailboxes text) ss us
 heard_next old new keys mailboxes text ss ts us shard n grew f h =
     let cs = copies keys mailboxes text in
@@ -113,7 +114,7 @@ put_next d sents after before shard lane p copy None cs ss B same under at was s
       ∙ ap (λ l. before ++ map (λ job. Item p job) l) (sym (e ∙ ap (λ l. under_way d lane cs ss ++ l) nil ∙ append-nil (under_way d lane cs ss)))
 
 -- the next copy of a message was put
-pub puts_next : (d : Directory) (p q : ℕ) (keys : List CopyKey) (mailboxes : List ℕ) (text : List ℕ) (i : ℕ) (k : CopyKey) (m : ℕ) (before sents after : List (List (Entry Job))) (verdict : Option Verdict)
+pub puts_next : (d : Directory) (p q : ℕ) (keys : List CopyKey) (mailboxes : List ℕ) (text : Text) (i : ℕ) (k : CopyKey) (m : ℕ) (before sents after : List (List (Entry Job))) (verdict : Option Verdict)
     (slots more : List (Option Verdict)) (B : Verdict → Type 0)
     → length mailboxes ≡ length keys → i < length keys → k ≡ slice_index_or keys i k → m ≡ slice_index_or mailboxes i m
     → length slots ≡ i → more ≡ slots ++ verdict ∷ [] → length sents ≡ length before → q ≡ p
@@ -171,7 +172,7 @@ tried_here d rooms p lane here sents c (Some v) A B so h = (
 )
 
 -- the next copy of a message was tried
-pub tries_next : (d : Directory) (rooms : List Room) (p q : ℕ) (keys : List CopyKey) (mailboxes : List ℕ) (text : List ℕ) (i : ℕ) (k : CopyKey) (m : ℕ) (before sents : List (List (Entry Job))) (verdict : Option Verdict)
+pub tries_next : (d : Directory) (rooms : List Room) (p q : ℕ) (keys : List CopyKey) (mailboxes : List ℕ) (text : Text) (i : ℕ) (k : CopyKey) (m : ℕ) (before sents : List (List (Entry Job))) (verdict : Option Verdict)
     (slots more : List (Option Verdict)) (A : Type 0) (B : Verdict → Type 0)
     → length mailboxes ≡ length keys → i < length keys → k ≡ slice_index_or keys i k → m ≡ slice_index_or mailboxes i m
     → length slots ≡ i → more ≡ slots ++ verdict ∷ [] → q ≡ p
@@ -252,7 +253,7 @@ zip_next [] (b ∷ ys) x y same = absurd (omega arith)
 zip_next (a ∷ xs) [] x y same = absurd (omega arith)
 zip_next (a ∷ xs) (b ∷ ys) x y same = ap (λ l. (a, b) ∷ l) (zip_next xs ys x y (omega arith))
 
-pub notes_next : (keys : List CopyKey) (mailboxes : List ℕ) (text : List ℕ) (verdicts : List Verdict) (i : ℕ) (k : CopyKey) (m : ℕ) (v : Verdict) (old was new : List Noted)
+pub notes_next : (keys : List CopyKey) (mailboxes : List ℕ) (text : Text) (verdicts : List Verdict) (i : ℕ) (k : CopyKey) (m : ℕ) (v : Verdict) (old was new : List Noted)
     → length mailboxes ≡ length keys → length verdicts ≡ length keys → i < length verdicts → k ≡ slice_index_or keys i k → m ≡ slice_index_or mailboxes i m → v ≡ slice_index_or verdicts i v
     → new ≡ was ++ record { key = k; mailbox = m; verdict = v } ∷ []
     → was ≡ old ++ map note_of (zip (copies (take i keys) (take i mailboxes) text) (take i verdicts))

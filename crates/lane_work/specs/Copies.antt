@@ -2,6 +2,7 @@
 use Rattle.std.specs.Prelude.{◌≡◌, ◌≤◌, ◌⊎◌, ℕ, length, slice_index_or, List, [], ◌∷◌, ◌++◌, map, zip, flat_map}
 use Rattle.change_ring.specs.Log.{no_flags}
 use Rattle.delivery_token.specs.declared.CopyKey.{CopyKey}
+use Rattle.delivery_token.specs.Text.{Text}
 use Rattle.delivery_token.specs.declared.Job.{Job}
 use Rattle.delivery_token.specs.declared.Verdict.{Verdict}
 use Rattle.delivery_token.specs.declared.Verdict.TheVariants.{Refused}
@@ -36,7 +37,7 @@ abbrev pub FilledAlone : Room → ℕ → List (Entry Job) → Type 0
 FilledAlone room seat sent = room.producers ≡ 1 → seat ≡ 0 → room.capacity ≤ length sent
 
 -- the copies of a message, in the order of its recipients
-abbrev pub copies : List CopyKey → List ℕ → List ℕ → List Job
+abbrev pub copies : List CopyKey → List ℕ → Text → List Job
 copies [] mailboxes text = []
 copies (key ∷ keys) [] text = []
 copies (key ∷ keys) (mailbox ∷ mailboxes) text = record { key = key; mailbox = mailbox; text = text; flags = no_flags } ∷ copies keys mailboxes text

@@ -4,6 +4,7 @@ use Rattle.std.specs.Prelude.{filter_map, IfSome}
 use Rattle.std.proofs.lemmas.List.Elements.{filter_map-append}
 use Rattle.std.proofs.lemmas.Option.{none-some}
 use Rattle.delivery_token.specs.Keys.{Below}
+use Rattle.delivery_token.specs.Text.{Text}
 use Rattle.delivery_token.specs.declared.CopyKey.{CopyKey}
 use Rattle.delivery_token.specs.declared.Verdict.{Verdict}
 use Rattle.delivery_token.specs.declared.log.Noted.{Noted}
@@ -309,7 +310,7 @@ split_last (a ∷ xs) x (f ∷ front) y rest e = by (split_last xs x front y res
     by (inr (more, same)) = inr (more, ap (λ (b : ℕ). b ∷ xs) head ∙ ap (λ (l : List ℕ). f ∷ l) same)
 
 -- the next message of a batch, behind one whose copy was stored
-next_earlier : (first : Came) (sent : List ℕ) (notes : Noted → Sent → Type 0) (message : Sent) (verdict : Verdict) (number to : ℕ) (flags : Flags) (text : List ℕ) (origin : Origin) → CameAs first.standing.folders sent message
+next_earlier : (first : Came) (sent : List ℕ) (notes : Noted → Sent → Type 0) (message : Sent) (verdict : Verdict) (number to : ℕ) (flags : Flags) (text : Text) (origin : Origin) → CameAs first.standing.folders sent message
     → HasHeard first notes verdict message → EarlierNoted first sent notes message message.origin → message.append.message < number → to ≡ message.append.mailbox → IsNextMessage message.origin verdict origin flags text
     → EarlierNoted first sent notes (record { tag = message.tag; append = record { message = number; mailbox = to; text = text; flags = flags }; origin = origin }) origin
 next_earlier first sent notes message verdict number to flags text origin came heard earlier above same n =

@@ -20,7 +20,7 @@ use Rattle.laws_client.proofs.RecordEntering.{only_done, tagged_has}
 pub line_case : (P : Type 0) (now : Standing) (tag : List ℕ) (command : Command) (answers : List Answer) (turn : Turn)
     → (logs_in_as now.login command ≡ true → played tag (logged_in now) (completed command) answers ≡ Some turn → P)
     → ((text : ResponseText) → refuses text ≡ true → played tag now (says (response_text text)) answers ≡ Some turn → P)
-    → (played tag now (on_command now command) answers ≡ Some turn → P)
+    → (played tag now (on_command tag now command) answers ≡ Some turn → P)
     → on_line (logs_in_as now.login command) now tag command answers ≡ Some turn → P
 line_case P now tag command answers turn right refused done = line_has (λ o. o ≡ Some turn → P) now tag command answers right refused done
 

@@ -25,7 +25,7 @@ use Rattle.imap_grammar.specs.declared.command.ImapFault.TheVariants.{NoTag, Unk
 use Rattle.imap_session.specs.declared.standing.After.TheVariants.{Go}
 use Rattle.imap_session.specs.declared.standing.Selected.{Selected}
 use Rattle.imap_session.specs.Exchange.{Answer, PendingLiteral, Exchange, Expunge, Feed, Folder, ForNothing, ForVerdict, Mailing, Sent, Standing, Turn, Wait, Write, bye, kept_behind, tagged, untagged, Origin, Client, Copied, Discard, Batch}
-use Rattle.imap_session.specs.Commands.{appended_words, appending, last_number, long_idle_text, long_rest_text, long_text, most_unasked, nowhere, number_named, on_rest, on_text, on_verdict, is_over, over, turn_with, wanting, wanting_for, without_begun, without_sent, completed, counting, expunge_set, fault_text, fetch_messages, fetched, fetching, folder_of, in_selected, in_writable, messages_done, on_chosen, on_command, on_found, on_idle_line, on_read, on_set, only_says, says, showing, store_messages, stored, storing, subscribing, unlimited, wrong_state, arguments_text, asking, coming, logged_in, refused_text, found_in, search_done, search_known, search_messages, searching, on_text_line, flags_for, mailbox_for, moving, copied_words, on_stored, move_done, with_copy, copies_of}
+use Rattle.imap_session.specs.Commands.{appended_words, appending, last_number, long_idle_text, long_rest_text, long_text, most_unasked, nowhere, number_named, on_rest, on_text, on_verdict, is_over, over, turn_with, wanting, wanting_for, without_begun, without_sent, completed, counting, expunge_set, fault_text, fetch_messages, fetched, fetching, folder_of, in_selected, in_writable, messages_done, on_chosen, on_command, on_found, on_idle_line, on_read, on_set, only_says, says, showing, store_messages, stored, storing, subscribing, unlimited, wrong_state, arguments_text, asking, coming, logged_in, refused_text, found_in, search_done, search_known, search_messages, searching, on_text_line, flags_for, date_for, mailbox_for, moving, copied_words, on_stored, move_done, with_copy, copies_of}
 use Rattle.imap_answers.specs.Answers.{flags_answer, list_answer}
 use Rattle.imap_answers.specs.declared.list.Listing.{Listing}
 use Rattle.imap_answers.specs.declared.list.Listing.TheVariants.{All, Subscribed}
@@ -145,16 +145,16 @@ storing_says tag view store done ends numbered (uid ∷ uids) gone there = by (s
 search_ends : (tag view : List ℕ) (search : Search) → IsTag tag → Says tag view (messages_done (commands.Search search) search.by_uid false)
 search_ends tag view search t = by search.by_uid
   where
-    by : (b : Bool) → Says tag view (messages_done (commands.Search (record { by_uid = b; known_charset = search.known_charset; keys = search.keys })) b false)
+    by : (b : Bool) → Says tag view (messages_done (commands.Search (record { by_uid = b; returns = search.returns; known_charset = search.known_charset; keys = search.keys })) b false)
     by true = λ new. last tag new (texts.Completed verbs.UidSearch) t
     by false = last tag view (texts.Completed verbs.Search) t
 
-searching_says : (tag view : List ℕ) (search : Search) (at : Named) → IsTag tag → (uids found : List ℕ) → Says tag view (searching search at view (search_done search) uids found)
-searching_says tag view search at t [] found = (leaves view _ (found_tells_nothing found), search_ends tag view search t)
+searching_says : (tag view : List ℕ) (search : Search) (at : Named) → IsTag tag → (uids found : List ℕ) → Says tag view (searching search at view (search_done tag search) uids found)
+searching_says tag view search at t [] found = (leaves view _ (found_tells_nothing tag t search.by_uid search.returns found), search_ends tag view search t)
 searching_says tag view search at t (uid ∷ uids) found = by (searching_says tag view search at t uids)
   where
-    by : ((more : List ℕ) → Says tag view (searching search at view (search_done search) uids more)) → (row : Option Row) → IsRowOf uid row
-        → Says tag view (on_found (λ row. searching search at view (search_done search) uids (found ++ found_in search at (named_at view uid) row)) (searching search at view (search_done search) uids found) row)
+    by : ((more : List ℕ) → Says tag view (searching search at view (search_done tag search) uids more)) → (row : Option Row) → IsRowOf uid row
+        → Says tag view (on_found (λ row. searching search at view (search_done tag search) uids (found ++ found_in search at (named_at view uid) row)) (searching search at view (search_done tag search) uids found) row)
     by more None is = more found
     by more (Some row) is = more (found ++ found_in search at (named_at view uid) row)
 
@@ -181,11 +181,11 @@ store_says tag view store t numbered =
     chosen_says tag view store.by_uid store.set (λ view uids. storing store view (messages_done (commands.Store store) store.by_uid) uids false) t
     (λ uids there. storing_says tag view store (messages_done (commands.Store store) store.by_uid) (λ gone. store_done tag view store gone t) numbered uids false there)
 
-search_says : (tag view : List ℕ) (search : Search) (selected : Selected) → IsTag tag → Says tag view (search_known search selected)
+search_says : (tag view : List ℕ) (search : Search) (selected : Selected) → IsTag tag → Says tag view (search_known tag search selected)
 search_says tag view search selected t = by search.known_charset
   where
-    by : (b : Bool) → Says tag view (if b then search_messages search else says (response_text texts.BadCharset))
-    by true = chosen_says tag view true all_messages (λ view uids. wanting (searching search (named_at view (last_uid uids)) view (search_done search) uids [])) t
+    by : (b : Bool) → Says tag view (if b then search_messages tag search else says (response_text texts.BadCharset))
+    by true = chosen_says tag view true all_messages (λ view uids. wanting (searching search (named_at view (last_uid uids)) view (search_done tag search) uids [])) t
         (λ uids there. (nothing_leaves view, searching_says tag view search (named_at view (last_uid uids)) t uids []))
     by false = last tag view texts.BadCharset t
 
@@ -210,7 +210,7 @@ subscribing_says tag view folders name command t = (nothing_leaves view, by (fol
     by None = last tag view texts.NoSuchMailbox t
     by (Some folder) = last tag view (texts.Completed (verb_of command)) t
 
-status_says : (tag view : List ℕ) (now : Standing) (name : List ℕ) (items : List StatusItem) → IsTag tag → AreNames now.folders → Says tag view (on_command now (commands.Status name items))
+status_says : (tag view : List ℕ) (now : Standing) (name : List ℕ) (items : List StatusItem) → IsTag tag → AreNames now.folders → Says tag view (on_command tag now (commands.Status name items))
 status_says tag view now name items t names = (leaves view [] (λ messages. refl), by (folder_of name now.folders) (folder_plain name now.folders names))
   where
     by : (folder : Option Folder) → IfSome folder (λ f. IsPlain f.name)
@@ -233,17 +233,17 @@ over_says tag view (Some most) t = last tag view texts.MessageTooBig t
 append_says : (tag view : List ℕ) (most : Option ℕ) (folders : List Folder) (a : Append) → IsTag tag → Says tag view (appending most folders a)
 append_says tag view most folders a t = by a.literal.waits (is_over most a.literal.size) (nat_lt most_unasked a.literal.size) (number_named a.name folders)
   where
-    fits : (big : Bool) (mailbox : ℕ) → Says tag view (if big then over most else asking mailbox a.flags a.literal.size)
+    fits : (big : Bool) (mailbox : ℕ) → Says tag view (if big then over most else asking mailbox a.flags a.date a.literal.size)
     fits true mailbox = over_says tag view most t
     fits false mailbox = leaves view _ (λ messages. refl)
 
-    found : (big : Bool) (o : Option ℕ) → Says tag view (on_found (λ mailbox. if big then over most else asking mailbox a.flags a.literal.size) nowhere o)
+    found : (big : Bool) (o : Option ℕ) → Says tag view (on_found (λ mailbox. if big then over most else asking mailbox a.flags a.date a.literal.size) nowhere o)
     found big None = nowhere_says tag view t
     found big (Some mailbox) = fits big mailbox
 
     by : (waits big long : Bool) (o : Option ℕ)
-        → Says tag view (if waits then wanting (on_found (λ mailbox. if big then over most else asking mailbox a.flags a.literal.size) nowhere o)
-        else (if long then Wait (bye (response_text texts.LiteralTooBig)) ForNothing else coming o a.flags a.literal.size))
+        → Says tag view (if waits then wanting (on_found (λ mailbox. if big then over most else asking mailbox a.flags a.date a.literal.size) nowhere o)
+        else (if long then Wait (bye (response_text texts.LiteralTooBig)) ForNothing else coming o a.flags a.date a.literal.size))
     by true big long o = (nothing_leaves view, found big o)
     by false big true o = leaves view _ (λ messages. refl)
     by false big false o = nothing_leaves view
@@ -253,7 +253,7 @@ rest_says : (tag view : List ℕ) (mailing : Mailing) (a : PendingLiteral) (empt
 rest_says tag view mailing a empty t = kept a.text
   where
     text_says : (big nul spent : Bool) (text : List ℕ) (mailbox : ℕ)
-        → Says tag view (if big then over mailing.most else if nul then says (response_text texts.NulByte) else if spent then says (response_text texts.MailboxSpent) else wanting (Wait [] (ForVerdict Client mailbox (flags_for a.purpose) text)))
+        → Says tag view (if big then over mailing.most else if nul then says (response_text texts.NulByte) else if spent then says (response_text texts.MailboxSpent) else wanting (Wait [] (ForVerdict Client mailbox (flags_for a.purpose) (record { bytes = text; date = date_for a.purpose }))))
     text_says true nul spent text mailbox = over_says tag view mailing.most t
     text_says false true spent text mailbox = last tag view texts.NulByte t
     text_says false false true text mailbox = last tag view texts.MailboxSpent t
@@ -319,14 +319,14 @@ verdict_says tag view mailing selected origin mailbox (verdicts.Stored uid) t u 
 verdict_says tag view mailing selected origin mailbox (verdicts.Refused why) t u = back_so (Says tag view) (takes_back tag view t) mailbox (copies_of origin) (refused_text why)
 
 -- COPY and MOVE tell nothing before the verdict
-copy_says : (tag view : List ℕ) (now : Standing) (copy : CopyMessages) → IsTag tag → Says tag view (on_command now (commands.Copy copy))
+copy_says : (tag view : List ℕ) (now : Standing) (copy : CopyMessages) → IsTag tag → Says tag view (on_command tag now (commands.Copy copy))
 copy_says tag view now copy t =
     copies_so (Says tag view) (record {
       told = λ text. last tag view text t;
       wanted = λ x p. (nothing_leaves view, p);
       looked = λ by_uid set next p. p view;
       found = λ uid mark next p row is. p row;
-    }) now copy
+    }) tag now copy
     (λ batch mailbox row copied. nothing_leaves view)
 
 -- ---- all of them
@@ -336,7 +336,7 @@ pub capable_tells_nothing : (profile : Profile) → TellsNothing (untagged (serv
 capable_tells_nothing Standard messages = refl
 capable_tells_nothing Compatible messages = refl
 
-command_says : (tag view : List ℕ) (now : Standing) (command : Command) → IsTag tag → MayAsk now view command → Says tag view (on_command now command)
+command_says : (tag view : List ℕ) (now : Standing) (command : Command) → IsTag tag → MayAsk now view command → Says tag view (on_command tag now command)
 command_says tag view now commands.Noop t may =
     shows_then tag view now.selected (completed commands.Noop) (λ new. last tag new (texts.Completed verbs.Noop) t)
 command_says tag view now commands.Logout t may =
@@ -359,7 +359,7 @@ command_says tag view now commands.Expunge t may = writable tag view now.selecte
 command_says tag view now (commands.UidExpunge set) t may = writable tag view now.selected now (expunge_set set) refl t (set_expunged tag view set t)
 command_says tag view now (commands.Fetch fetch) t may = selected_says tag view now.selected now (fetch_messages fetch) refl t (λ selected. fetch_says tag view fetch selected t may.parts may.numbered)
 command_says tag view now (commands.Store store) t may = writable tag view now.selected now (store_messages store) refl t (store_says tag view store t may.numbered)
-command_says tag view now (commands.Search search) t may = selected_says tag view now.selected now (search_known search) refl t (λ selected. search_says tag view search selected t)
+command_says tag view now (commands.Search search) t may = selected_says tag view now.selected now (search_known tag search) refl t (λ selected. search_says tag view search selected t)
 command_says tag view now (commands.Append append) t may = append_says tag view now.mailing.most now.folders append t
 command_says tag view now (commands.Copy copy) t may = copy_says tag view now copy t
 command_says tag view now commands.Capability t may = (leaves view _ (capable_tells_nothing now.profile), last tag view (texts.Completed verbs.Capability) t)
@@ -386,7 +386,7 @@ read_follows now (Ok line) view answers turn new t h e sees =
     line_case (Leads view turn.bytes new) now line.0 line.1 answers turn
     (λ logs d. turn_follows line.0 (refusals line.0 t) view (logged_in now) (completed line.1) answers turn new d (last line.0 view (texts.Completed (verb_of line.1)) t) sees)
     (λ text is d. turn_follows line.0 (refusals line.0 t) view now (says (response_text text)) answers turn new d (last line.0 view text t) sees)
-    (λ d. turn_follows line.0 (refusals line.0 t) view now (on_command now line.1) answers turn new d (command_says line.0 view now line.1 t h) sees) e
+    (λ d. turn_follows line.0 (refusals line.0 t) view now (on_command line.0 now line.1) answers turn new d (command_says line.0 view now line.1 t h) sees) e
 read_follows now (Err fault) view answers turn new t h e sees = fault_follows now fault view answers turn new t e sees
 
 -- ---- the line that ends an IDLE
@@ -431,7 +431,7 @@ pub answer_is_followed : AnswerIsFollowed
 answer_is_followed now line view answers turn new h e sees =
     turn_has (λ whole o. MayCome whole now view → o ≡ Some turn → Leads view turn.bytes new) now line answers
     (λ tag b i may d. let t = idle_tag tag b i in turn_follows tag (refusals tag t) view (record now { idling = None }) (on_idle_line now.selected line) answers turn new d (idle_line_says tag view now.selected line t) sees)
-    (λ a mailbox flags b p may d. let t = begun_tag a b in turn_follows a.tag (refusals a.tag t) view (without_begun now) (on_rest now.mailing a (length line == 0)) answers turn new d (rest_says a.tag view now.mailing a (length line == 0) t) sees)
+    (λ a mailbox flags date b p may d. let t = begun_tag a b in turn_follows a.tag (refusals a.tag t) view (without_begun now) (on_rest now.mailing a (length line == 0)) answers turn new d (rest_says a.tag view now.mailing a (length line == 0) t) sees)
     (λ a x b part may d. let t = begun_tag a b in turn_follows a.tag (refusals a.tag t) view (without_begun now) x answers turn new d (part_says a.tag view x t part) sees)
     (λ whole w may d. text_follows (without_begun now) whole view answers turn new (may_answer now (without_begun now) view (read whole) refl may) d sees) h.1 e
   where

@@ -1,38 +1,21 @@
 -- What is told of copies stands in one line, and tells nothing of the selected mailbox.
-use Rattle.std.proofs.Common.{◌≡◌, ℕ, ◌+◌, ◌==◌, Bool, true, false, List, [], ◌∷◌, ◌++◌, refl, ap, sym, ◌∙◌, append_assoc}
-use Rattle.std.specs.Prelude.{codes, decimal, if◌then◌else◌}
+use Rattle.std.proofs.Common.{◌≡◌, ℕ, true, List, [], ◌∷◌, ◌++◌, refl, ap, sym, ◌∙◌, append_assoc}
+use Rattle.std.specs.Prelude.{codes, decimal}
 use Rattle.std.specs.List.{list_all}
-use Rattle.imap_answers.specs.Answers.{range_text, runs_text, uid_set}
+use Rattle.imap_answers.specs.Answers.{uid_set}
 use Rattle.imap_session.specs.Exchange.{Batch, untagged}
 use Rattle.imap_session.specs.Commands.{copied_words, moved_words}
 use Rattle.laws_client.specs.Beliefs.{TellsNothing}
 use Rattle.laws_client.specs.Client.{Messages, into_first, knowing, reads, status, words_from}
 use Rattle.laws_client.specs.ListTurns.{IsPlain, is_inner}
 use Rattle.laws_client.proofs.Decimals.{decimal_inner}
+use Rattle.laws_client.proofs.UidSets.{set_all}
 use Rattle.laws_client.proofs.Untold.{inner_both, line_tells_nothing}
 
 -- ---- sets of UIDs
 
-range_inner : (first last : ℕ) → list_all is_inner (range_text first last) ≡ true
-range_inner first last = by (first == last)
-  where
-    by : (b : Bool) → list_all is_inner (if b then decimal first else decimal first ++ codes ":" ++ decimal last) ≡ true
-    by true = decimal_inner first
-    by false = inner_both (decimal first ++ codes ":") (decimal last) (inner_both (decimal first) (codes ":") (decimal_inner first) refl) (decimal_inner last)
-
-runs_inner : (first last : ℕ) (uids : List ℕ) → list_all is_inner (runs_text first last uids) ≡ true
-runs_inner first last [] = range_inner first last
-runs_inner first last (uid ∷ uids) = by (uid == last + 1) (runs_inner first uid uids) (runs_inner uid uid uids)
-  where
-    by : (b : Bool) → list_all is_inner (runs_text first uid uids) ≡ true → list_all is_inner (runs_text uid uid uids) ≡ true
-        → list_all is_inner (if b then runs_text first uid uids else range_text first last ++ codes "," ++ runs_text uid uid uids) ≡ true
-    by true on anew = on
-    by false on anew =
-        inner_both (range_text first last ++ codes ",") (runs_text uid uid uids) (inner_both (range_text first last) (codes ",") (range_inner first last) refl) anew
-
 set_inner : (uids : List ℕ) → list_all is_inner (uid_set uids) ≡ true
-set_inner [] = refl
-set_inner (uid ∷ uids) = runs_inner uid uid uids
+set_inner = set_all is_inner (record { digits = decimal_inner; colon = refl; comma = refl })
 
 -- ---- the words
 

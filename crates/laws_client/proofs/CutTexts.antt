@@ -13,7 +13,7 @@ use Rattle.line_io.specs.Wire.{crlf}
 use Rattle.mailbox.specs.declared.clients.Opening.{Opening}
 use Rattle.mailbox.specs.declared.clients.Row.{Row}
 use Rattle.mailbox.specs.declared.mailbox.Status.{Status}
-use Rattle.imap_answers.specs.Answers.{all_flags, answered, asks_for_root, date_item, flags_answer, is_listed, item_text, list_answer, listed, literal, name_answer, opening_text, origin_text, part, part_bytes, part_word, root_answer, row_answer, section, status_answer, status_number, status_text, search_answer, spaced_numbers}
+use Rattle.imap_answers.specs.Answers.{all_flags, answered, asks_for_root, date_item, flags_answer, is_listed, item_text, list_answer, listed, literal, name_answer, opening_text, origin_text, part, part_bytes, part_word, root_answer, row_answer, section, status_answer, status_number, status_text, found_answer, search_answer, spaced_numbers}
 use Rattle.imap_grammar.specs.Grammar.{rfc822_word, status_word}
 use Rattle.imap_grammar.specs.declared.items.FetchItem.{FetchItem}
 use Rattle.imap_grammar.specs.declared.items.FetchItem.TheVariants as fetch
@@ -40,7 +40,8 @@ use Rattle.laws_client.proofs.TextRows.{row_inner, text_plain, server_inner, ser
 use Rattle.imap_answers.specs.declared.list.Listing.{Listing}
 use Rattle.imap_answers.specs.declared.list.Listing.TheVariants.{All, Subscribed}
 use Rattle.imap_session.specs.declared.texts.ServerText.{ServerText}
-use Rattle.laws_client.proofs.Sought.{found_plain}
+use Rattle.imap_grammar.specs.declared.command.SearchReturns.{SearchReturns}
+use Rattle.laws_client.proofs.Sought.{extended_shape, found_plain, returned, returned_plain}
 
 -- ---- lines
 
@@ -160,10 +161,18 @@ status_passes name items s plain =
 
 -- ---- SEARCH
 
-pub found_passes : (numbers : List ℕ) → Passes (search_answer numbers)
-found_passes numbers =
+numbers_pass : (numbers : List ℕ) → Passes (search_answer numbers)
+numbers_pass numbers =
     let p = found_plain numbers in
     star_passes (codes "SEARC") (72 ∷ spaced_numbers numbers) refl (plain_inner (72 ∷ spaced_numbers numbers) p) (plain_name (72 ∷ spaced_numbers numbers) p)
+
+pub found_passes : (tag : List ℕ) → IsWord tag → (by_uid : Bool) (returns : Option SearchReturns) (numbers : List ℕ) → Passes (found_answer tag by_uid returns numbers)
+found_passes tag word by_uid None numbers = numbers_pass numbers
+found_passes tag word by_uid (Some returns) numbers =
+    let behind : List ℕ = 34 ∷ returned by_uid returns numbers in
+    let p = returned_plain by_uid returns numbers in
+    subst Passes (sym (extended_shape tag by_uid returns numbers))
+    (star_passes (codes "ESEARCH (TAG \"" ++ tag) behind (inner_both (codes "ESEARCH (TAG \"") tag refl (tag_inner tag word)) (plain_inner behind p) (plain_name behind p))
 
 -- ---- SELECT
 
@@ -210,24 +219,24 @@ span_inner : (span : Option Span) → list_all is_inner (origin_text span) ≡ t
 span_inner None = refl
 span_inner (Some span) = inner_both (codes "<" ++ decimal span.origin) (codes ">") (inner_both (codes "<") (decimal span.origin) refl (decimal_inner span.origin)) refl
 
-one_item : (row : Row) (item : FetchItem) → length row.text < 2 ^ 64 → IsToldPart item → IsItem (item_text row item)
+one_item : (row : Row) (item : FetchItem) → length row.text.bytes < 2 ^ 64 → IsToldPart item → IsItem (item_text row item)
 one_item row fetch.Uid h told = item_inner (codes "UID " ++ decimal row.uid) (inner_both (codes "UID ") (decimal row.uid) refl (decimal_inner row.uid))
 one_item row fetch.Flags h told =
     item_inner (codes "FLAGS (" ++ spaced (flag_words row.flags) ++ codes ")") (inner_both (codes "FLAGS (" ++ spaced (flag_words row.flags)) (codes ")") (inner_both (codes "FLAGS (") (spaced (flag_words row.flags)) refl (words_inner row.flags)) refl)
-one_item row fetch.Size h told = item_inner (codes "RFC822.SIZE " ++ decimal (length row.text)) (inner_both (codes "RFC822.SIZE ") (decimal (length row.text)) refl (decimal_inner (length row.text)))
+one_item row fetch.Size h told = item_inner (codes "RFC822.SIZE " ++ decimal (length row.text.bytes)) (inner_both (codes "RFC822.SIZE ") (decimal (length row.text.bytes)) refl (decimal_inner (length row.text.bytes)))
 one_item row fetch.InternalDate h told = item_inner (date_item row.text) (date_inner row.text)
 one_item row (fetch.Rfc822 which) h told =
     let front : List ℕ = rfc822_word which ++ codes " " in
-    item_both front (literal (section which row.text)) (item_inner front (rfc822_inner which))
-    (item_literal (section which row.text) (section_small (record row { uid = 0 }) which (record { uid = omega arith; text = h })))
+    item_both front (literal (section which row.text.bytes)) (item_inner front (rfc822_inner which))
+    (item_literal (section which row.text.bytes) (section_small (record row { uid = 0 }) which (record { uid = omega arith; text = h })))
 one_item row (fetch.Body peek which span) h told =
     let front : List ℕ = codes "BODY[" ++ part_word which ++ codes "]" ++ origin_text span ++ codes " " in
-    item_both front (literal (part span (part_bytes which row.text)))
+    item_both front (literal (part span (part_bytes which row.text.bytes)))
     (item_inner front (inner_both (codes "BODY[" ++ part_word which ++ codes "]" ++ origin_text span) (codes " ")
     (inner_both (codes "BODY[" ++ part_word which ++ codes "]") (origin_text span) (inner_both (codes "BODY[" ++ part_word which) (codes "]") (inner_both (codes "BODY[") (part_word which) refl (part_inner which told.0)) refl) (span_inner span)) refl))
-    (item_literal (part span (part_bytes which row.text)) (part_small (record row { uid = 0 }) which span (record { uid = omega arith; text = h })))
+    (item_literal (part span (part_bytes which row.text.bytes)) (part_small (record row { uid = 0 }) which span (record { uid = omega arith; text = h })))
 
-items_go : (row : Row) (items : List FetchItem) → length row.text < 2 ^ 64 → AreToldParts items → IsItem (spaced (map (item_text row) items))
+items_go : (row : Row) (items : List FetchItem) → length row.text.bytes < 2 ^ 64 → AreToldParts items → IsItem (spaced (map (item_text row) items))
 items_go row [] h told = item_inner [] refl
 items_go row (item ∷ []) h told = one_item row item h told.0
 items_go row (item ∷ other ∷ items) h told =
@@ -257,7 +266,7 @@ fetch_passes front text h p begun answers =
     untagged new =
         ap is_tagged (reverse-append (41 ∷ new) (reverse (42 ∷ 32 ∷ front)) ∙ ap (λ (x : List ℕ). x ++ reverse (41 ∷ new)) (reverse-reverse (42 ∷ 32 ∷ front)))
 
-pub row_passes : (k : ℕ) (by_uid : Bool) (items : List FetchItem) (row : Row) → length row.text < 2 ^ 64 → AreToldParts items → Passes (row_answer k by_uid items row)
+pub row_passes : (k : ℕ) (by_uid : Bool) (items : List FetchItem) (row : Row) → length row.text.bytes < 2 ^ 64 → AreToldParts items → Passes (row_answer k by_uid items row)
 row_passes k by_uid items row h told =
     fetch_passes (decimal k ++ codes " FETCH (") (spaced (map (item_text row) (answered by_uid row.newly_seen items))) (inner_both (decimal k) (codes " FETCH (") (decimal_inner k) refl) (items_go row (answered by_uid row.newly_seen items) h (answered_told by_uid row.newly_seen items told))
 

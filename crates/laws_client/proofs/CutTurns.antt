@@ -31,7 +31,7 @@ use Rattle.imap_session.specs.declared.standing.Selected.{Selected}
 use Rattle.imap_session.proofs.Unkept.{unkept_by}
 use Rattle.imap_session.specs.Exchange as ex
 use Rattle.imap_session.specs.Exchange.{Answer, PendingLiteral, Call, Entered, Looked, Found, Counted, Altered, Expunged, Fed, Left, Refused, Starved, Event as Happened, Exchange, Folder, ForVerdict, Mailing, Sent, Standing, Turn, bye, closed, having, is_idling, kept_behind, kept_tag, played, refusal_after, refusal_text, refused, saying, tagged, untagged, Discarded, Origin, Client, Copied, Batch}
-use Rattle.imap_session.specs.Commands.{appended_words, appending, closing, completed, counting, entering, expunge_set, fetch_messages, fetched, fetching, folder_of, idle_turn_in, if_writable, is_over, last_number, long_rest_text, long_text, messages_done, most_unasked, nowhere, number_named, on_chosen, on_command, on_found, on_idle_line, on_read, on_rest, on_text, on_verdict, over, refused_text, says, showing, store_messages, storing, turn_of, turn_with, unlimited, wanting, wanting_for, without_begun, without_sent, wrong_state, arguments_text, entered_text, logged_in, subscribing, telling_recent, found_in, search_done, search_known, search_messages, searching, on_text_line, flags_for, mailbox_for, wants_response, awaiting_response, moving, copied_words, moved_words, on_stored, move_done, with_copy, copies_of}
+use Rattle.imap_session.specs.Commands.{appended_words, appending, closing, completed, counting, entering, expunge_set, fetch_messages, fetched, fetching, folder_of, idle_turn_in, if_writable, is_over, last_number, long_rest_text, long_text, messages_done, most_unasked, nowhere, number_named, on_chosen, on_command, on_found, on_idle_line, on_read, on_rest, on_text, on_verdict, over, refused_text, says, showing, store_messages, storing, turn_of, turn_with, unlimited, wanting, wanting_for, without_begun, without_sent, wrong_state, arguments_text, entered_text, logged_in, subscribing, telling_recent, found_in, search_done, search_known, search_messages, searching, on_text_line, flags_for, date_for, mailbox_for, wants_response, awaiting_response, moving, copied_words, moved_words, on_stored, move_done, with_copy, copies_of}
 use Rattle.laws_client.specs.Commands.{AreNames, HasToldParts, whole_line}
 use Rattle.laws_client.specs.Talks.{Happening, Line, LongLine, Turned, Literal, Heard, leads_to}
 use Rattle.laws_client.specs.ListTurns.{IsPlain, is_inner}
@@ -71,7 +71,7 @@ use Rattle.imap_grammar.specs.declared.command.CopyMessages.{CopyMessages}
 -- a text that is read has a length that can be printed
 abbrev pub IsShort : Option Row → Type 0
 IsShort None = Unit {0}
-IsShort (Some row) = length row.text < 2 ^ 64
+IsShort (Some row) = length row.text.bytes < 2 ^ 64
 
 abbrev pub IsShortAnswer : Answer → Type 0
 IsShortAnswer (Found row) = IsShort row
@@ -367,13 +367,13 @@ in_fetching o fetch told mark view done p (uid ∷ uids) gone =
     by without with None short = without
     by without with (Some row) short = (row_passes (position uid view) fetch.by_uid fetch.items row short told, with)
 
-in_searching : (o : Bool) → (search : Search) (last : Named) (view uids found : List ℕ) → SaysCut o (completed (commands.Search search)) → SaysCut o (searching search last view (search_done search) uids found)
-in_searching o search last view [] found p = (found_passes found, in_done o (commands.Search search) search.by_uid false p)
-in_searching o search last view (uid ∷ uids) found p =
-    λ row short. by (in_searching o search last view uids) row
+in_searching : (o : Bool) (tag : List ℕ) → IsWord tag → (search : Search) (last : Named) (view uids found : List ℕ) → SaysCut o (completed (commands.Search search)) → SaysCut o (searching search last view (search_done tag search) uids found)
+in_searching o tag word search last view [] found p = (found_passes tag word search.by_uid search.returns found, in_done o (commands.Search search) search.by_uid false p)
+in_searching o tag word search last view (uid ∷ uids) found p =
+    λ row short. by (in_searching o tag word search last view uids) row
   where
-    by : ((more : List ℕ) → SaysCut o (completed (commands.Search search)) → SaysCut o (searching search last view (search_done search) uids more)) → (row : Option Row)
-        → SaysCut o (on_found (λ (r : Row). searching search last view (search_done search) uids (found ++ found_in search last (named_at view uid) r)) (searching search last view (search_done search) uids found) row)
+    by : ((more : List ℕ) → SaysCut o (completed (commands.Search search)) → SaysCut o (searching search last view (search_done tag search) uids more)) → (row : Option Row)
+        → SaysCut o (on_found (λ (r : Row). searching search last view (search_done tag search) uids (found ++ found_in search last (named_at view uid) r)) (searching search last view (search_done tag search) uids found) row)
     by more None = more found p
     by more (Some row) = more (found ++ found_in search last (named_at view uid) row) p
 
@@ -415,60 +415,60 @@ append_cut most folders a =
     (passes_none, in_found true _ nowhere (λ (mailbox : ℕ). in_either true (is_over most a.literal.size) (over most) _ (in_over true most) (refl, continuing_passes texts.Ready)) (refl, refl) (number_named a.name folders))
     (in_either true (nat_lt most_unasked a.literal.size) _ _ (refl, bye_passes texts.LiteralTooBig) (refl, passes_none))
 
-copy_cut : (now : Standing) (copy : CopyMessages) → SaysCut true (on_command now (commands.Copy copy))
-copy_cut now copy =
+copy_cut : (tag : List ℕ) (now : Standing) (copy : CopyMessages) → SaysCut true (on_command tag now (commands.Copy copy))
+copy_cut tag now copy =
     copies_so (SaysCut true) (record {
       told = says_cut true;
       wanted = λ x p. (passes_none, p);
       looked = λ by_uid set next p. p;
       found = λ uid mark next p row short. p row;
-    }) now copy
+    }) tag now copy
     (λ batch mailbox row copied. (refl, passes_none))
 
-command_cut : (now : Standing) (command : Command) → HasToldParts command → AreNames now.folders → SaysCut (leaves_open command) (on_command now command)
-command_cut now commands.Noop told names = in_showing false now.selected (completed commands.Noop) (refl, refl)
-command_cut now commands.Logout told names = (bye_passes texts.LoggingOut, (refl, refl))
-command_cut now commands.Idle told names = (refl, continuing_passes texts.Idling)
-command_cut now (commands.Login user password) told names = (refl, refl)
-command_cut now (commands.Authenticate a) told names = (refl, refl)
-command_cut now commands.StartTls told names = (refl, refl)
-command_cut now commands.Capability told names = (server_passes (server.Capabilities now.profile), (refl, refl))
-command_cut now commands.Namespace told names = (server_passes server.Namespaces, (refl, refl))
-command_cut now commands.Id told names = (server_passes server.Identity, (refl, refl))
-command_cut now commands.Enable told names = (server_passes server.NoneEnabled, (refl, refl))
-command_cut now (commands.Select name) told names = in_selecting false now false name names
-command_cut now (commands.Examine name) told names = in_selecting false now true name names
-command_cut now (commands.List reference pattern) told names = (list_passes All reference pattern now.folders names, in_showing false now.selected (completed (commands.List reference pattern)) (refl, refl))
-command_cut now (commands.Lsub reference pattern) told names = (list_passes Subscribed reference pattern now.folders names, in_showing false now.selected (completed (commands.Lsub reference pattern)) (refl, refl))
-command_cut now (commands.Subscribe name) told names = in_subscribing false now.folders name (commands.Subscribe name)
-command_cut now (commands.Unsubscribe name) told names = in_subscribing false now.folders name (commands.Unsubscribe name)
-command_cut now commands.Check told names = in_showing false now.selected (completed commands.Check) (refl, refl)
-command_cut now (commands.Status name items) told names =
+command_cut : (tag : List ℕ) → IsWord tag → (now : Standing) (command : Command) → HasToldParts command → AreNames now.folders → SaysCut (leaves_open command) (on_command tag now command)
+command_cut tag word now commands.Noop told names = in_showing false now.selected (completed commands.Noop) (refl, refl)
+command_cut tag word now commands.Logout told names = (bye_passes texts.LoggingOut, (refl, refl))
+command_cut tag word now commands.Idle told names = (refl, continuing_passes texts.Idling)
+command_cut tag word now (commands.Login user password) told names = (refl, refl)
+command_cut tag word now (commands.Authenticate a) told names = (refl, refl)
+command_cut tag word now commands.StartTls told names = (refl, refl)
+command_cut tag word now commands.Capability told names = (server_passes (server.Capabilities now.profile), (refl, refl))
+command_cut tag word now commands.Namespace told names = (server_passes server.Namespaces, (refl, refl))
+command_cut tag word now commands.Id told names = (server_passes server.Identity, (refl, refl))
+command_cut tag word now commands.Enable told names = (server_passes server.NoneEnabled, (refl, refl))
+command_cut tag word now (commands.Select name) told names = in_selecting false now false name names
+command_cut tag word now (commands.Examine name) told names = in_selecting false now true name names
+command_cut tag word now (commands.List reference pattern) told names = (list_passes All reference pattern now.folders names, in_showing false now.selected (completed (commands.List reference pattern)) (refl, refl))
+command_cut tag word now (commands.Lsub reference pattern) told names = (list_passes Subscribed reference pattern now.folders names, in_showing false now.selected (completed (commands.Lsub reference pattern)) (refl, refl))
+command_cut tag word now (commands.Subscribe name) told names = in_subscribing false now.folders name (commands.Subscribe name)
+command_cut tag word now (commands.Unsubscribe name) told names = in_subscribing false now.folders name (commands.Unsubscribe name)
+command_cut tag word now commands.Check told names = in_showing false now.selected (completed commands.Check) (refl, refl)
+command_cut tag word now (commands.Status name items) told names =
     (passes_none, in_folder false (counting now.selected name items) (λ folder plain status. (status_passes folder.name items status plain, in_showing false now.selected (completed (commands.Status name items)) (refl, refl))) (folder_of name now.folders) (folder_plain name now.folders names))
-command_cut now commands.Close told names = in_found false _ wrong_state (λ (s : Selected). (refl, refl)) (refl, refl) now.selected
-command_cut now commands.Unselect told names = in_found false _ wrong_state (λ (s : Selected). (refl, refl)) (refl, refl) now.selected
-command_cut now commands.Expunge told names = in_writable false now.selected (ex.Expunge None (ex.Feed unlimited (completed commands.Expunge))) (refl, refl)
-command_cut now (commands.UidExpunge set) told names =
+command_cut tag word now commands.Close told names = in_found false _ wrong_state (λ (s : Selected). (refl, refl)) (refl, refl) now.selected
+command_cut tag word now commands.Unselect told names = in_found false _ wrong_state (λ (s : Selected). (refl, refl)) (refl, refl) now.selected
+command_cut tag word now commands.Expunge told names = in_writable false now.selected (ex.Expunge None (ex.Feed unlimited (completed commands.Expunge))) (refl, refl)
+command_cut tag word now (commands.UidExpunge set) told names =
     in_writable false now.selected (expunge_set set)
     (λ view. in_chosen false (named_in true set view) (λ uids. wanting_for uids (ex.Expunge (Some uids) (ex.Feed unlimited (completed (commands.UidExpunge set))))) (elim [ [] ↦ (refl, refl) | uid ∷ uids ↦ (passes_none, (refl, refl)) ]))
-command_cut now (commands.Fetch fetch) told names =
+command_cut tag word now (commands.Fetch fetch) told names =
     in_found false (fetch_messages fetch) wrong_state
     (λ (s : Selected). (
       passes_none,
       λ view. in_chosen false (named_in fetch.by_uid fetch.set view) _
           (λ uids. in_fetching false fetch told _ view (messages_done (commands.Fetch fetch) fetch.by_uid) (λ gone. in_done false (commands.Fetch fetch) fetch.by_uid gone (says_cut false (texts.Completed (verb_of (commands.Fetch fetch))))) uids false),
     )) (refl, refl) now.selected
-command_cut now (commands.Search search) told names =
-    in_found false (search_known search) wrong_state
-    (λ (s : Selected). in_either false search.known_charset (search_messages search) (says (response_text texts.BadCharset))
-    (λ view. in_chosen false (named_in true all_messages view) (λ uids. wanting (searching search (named_at view (last_uid uids)) view (search_done search) uids []))
-    (λ uids. (passes_none, in_searching false search (named_at view (last_uid uids)) view uids [] (says_cut false (texts.Completed (verb_of (commands.Search search))))))) (refl, refl)) (refl, refl) now.selected
-command_cut now (commands.Store store) told names =
+command_cut tag word now (commands.Search search) told names =
+    in_found false (search_known tag search) wrong_state
+    (λ (s : Selected). in_either false search.known_charset (search_messages tag search) (says (response_text texts.BadCharset))
+    (λ view. in_chosen false (named_in true all_messages view) (λ uids. wanting (searching search (named_at view (last_uid uids)) view (search_done tag search) uids []))
+    (λ uids. (passes_none, in_searching false tag word search (named_at view (last_uid uids)) view uids [] (says_cut false (texts.Completed (verb_of (commands.Search search))))))) (refl, refl)) (refl, refl) now.selected
+command_cut tag word now (commands.Store store) told names =
     in_writable false now.selected (store_messages store)
     (λ view. in_chosen false (named_in store.by_uid store.set view) _
     (λ uids. in_storing false store view (messages_done (commands.Store store) store.by_uid) (λ gone. in_done false (commands.Store store) store.by_uid gone (says_cut false (texts.Completed (verb_of (commands.Store store))))) uids false))
-command_cut now (commands.Append append) told names = append_cut now.mailing.most now.folders append
-command_cut now (commands.Copy copy) told names = copy_cut now copy
+command_cut tag word now (commands.Append append) told names = append_cut now.mailing.most now.folders append
+command_cut tag word now (commands.Copy copy) told names = copy_cut tag now copy
 
 -- a turn says one answer, whatever its tag
 abbrev pub TurnOne : Option Turn → Type 0
@@ -488,7 +488,7 @@ text_cut : (mailing : Mailing) (a : PendingLiteral) (text : List ℕ) (mailbox :
 text_cut mailing a text mailbox =
     in_either true (is_over mailing.most a.size) (over mailing.most) _ (in_over true mailing.most)
     (in_either true (list_any (λ b. b == 0) text) (says (response_text texts.NulByte)) _ (refl, refl)
-    (in_either true (nat_le last_number mailing.number) (says (response_text texts.MailboxSpent)) (wanting (ex.Wait [] (ForVerdict Client mailbox (flags_for a.purpose) text))) (refl, refl) (passes_none, (refl, passes_none))))
+    (in_either true (nat_le last_number mailing.number) (says (response_text texts.MailboxSpent)) (wanting (ex.Wait [] (ForVerdict Client mailbox (flags_for a.purpose) (record { bytes = text; date = date_for a.purpose })))) (refl, refl) (passes_none, (refl, passes_none))))
 
 rest_cut : (mailing : Mailing) (a : PendingLiteral) (empty : Bool) → SaysCut true (on_rest mailing a empty)
 rest_cut mailing a empty =
@@ -512,7 +512,7 @@ fault_cut fault now (answer ∷ more) t = tt
 read_cut : (now : Standing) (r : Result (List ℕ × Command) ImapFault) (answers : List Answer) → TaggedOf IsWord r → HasTold r → AreNames now.folders → TurnOne (on_read now r answers)
 read_cut now (Ok line) answers t told names =
     line_has TurnOne now line.0 line.1 answers (λ logs. plain_turn line.0 t false (logged_in now) (completed line.1) answers (says_cut false (texts.Completed (verb_of line.1))))
-    (λ text is. plain_turn line.0 t false now (says (response_text text)) answers (says_cut false text)) (plain_turn line.0 t (leaves_open line.1) now (on_command now line.1) answers (command_cut now line.1 told names))
+    (λ text is. plain_turn line.0 t false now (says (response_text text)) answers (says_cut false text)) (plain_turn line.0 t (leaves_open line.1) now (on_command line.0 now line.1) answers (command_cut line.0 t now line.1 told names))
 read_cut now (Err fault) answers t told names = fault_cut fault now answers t
 
 -- a line that isn't whole yet, or is given up
@@ -532,7 +532,7 @@ line_cut : (now : Standing) (line : List ℕ) (answers : List Answer) → AreTag
 line_cut now line answers t names =
     turn_has (λ whole o. TurnOne o) now line answers
     (λ tag b i. plain_turn tag (subst (λ (o : Option (List ℕ)). IfSome o IsWord) i t.0) true (record now { idling = None }) (on_idle_line now.selected line) answers (idling_cut now.selected line))
-    (λ a mailbox flags b p. plain_turn a.tag (begun_word a b) true (without_begun now) (on_rest now.mailing a (length line == 0)) answers (rest_cut now.mailing a (length line == 0)))
+    (λ a mailbox flags date b p. plain_turn a.tag (begun_word a b) true (without_begun now) (on_rest now.mailing a (length line == 0)) answers (rest_cut now.mailing a (length line == 0)))
     (λ a x b part. plain_turn a.tag (begun_word a b) true (without_begun now) x answers (part_cut x part)) (λ whole w. whole_cut (without_begun now) whole answers names)
   where
     begun_word : (a : PendingLiteral) → now.mailing.begun ≡ Some a → IsWord a.tag
@@ -637,7 +637,7 @@ command_one now line whole tag command answers turn names came reads e short =
     said_has (λ o. o ≡ Some turn → OneOf tag (leaves_open command) turn.bytes) bare whole tag command answers reads
     (λ waits d. subst (λ (b : Bool). OneOf tag b turn.bytes) (sym (wants_opens now.login command waits)) (own true bare (awaiting_response whole) (passes_none, (refl, challenge_passes)) d))
     (λ d. line_case (OneOf tag (leaves_open command) turn.bytes) bare tag command answers turn (λ logs f. own (leaves_open command) (logged_in bare) (completed command) (says_cut (leaves_open command) (texts.Completed (verb_of command))) f)
-    (λ text is f. own (leaves_open command) bare (says (response_text text)) (says_cut (leaves_open command) text) f) (λ f. own (leaves_open command) bare (on_command bare command) (command_cut bare command told names) f) d)
+    (λ text is f. own (leaves_open command) bare (says (response_text text)) (says_cut (leaves_open command) text) f) (λ f. own (leaves_open command) bare (on_command tag bare command) (command_cut tag word bare command told names) f) d)
     (sym (whole_turn now line whole answers came) ∙ e)
   where
     bare : Standing

@@ -96,7 +96,7 @@ IsSenderShort Ended = Unit {0}
 
 abbrev pub AreTextsShort : ℕ → List Submission → Type 0
 AreTextsShort limit [] = Unit {0}
-AreTextsShort limit (s ∷ ss) = (length s.text ≤ limit + most_return_path) × AreTextsShort limit ss
+AreTextsShort limit (s ∷ ss) = (length s.text.bytes ≤ limit + most_return_path) × AreTextsShort limit ss
 
 pub record Fine (setting : Setting) (t : Turn) : Type 0 where
   pub sender : IsSenderShort t.standing.phase

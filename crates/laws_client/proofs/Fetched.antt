@@ -5,6 +5,7 @@ use Rattle.std.specs.List.{list_any}
 use Rattle.change_ring.specs.declared.change.Flags.{Flags}
 use Rattle.cursor_set.specs.Lines.{flag_words, position, spaced}
 use Rattle.mailbox.specs.declared.clients.Row.{Row}
+use Rattle.delivery_token.specs.Text.{undated}
 use Rattle.imap_answers.specs.Answers.{answered, fetch_answer, flags_last, is_flags, is_uid, item_text, row_answer, uid_first, flags_answer}
 use Rattle.imap_grammar.specs.declared.items.FetchItem.{FetchItem}
 use Rattle.imap_grammar.specs.declared.items.FetchItem.TheVariants as fetch
@@ -75,7 +76,7 @@ answered_told by_uid newly_seen list h =
     parts_append (uid_first by_uid list) (list ++ flags_last newly_seen list) (first_told (by_uid && not (list_any is_uid list)))
     (parts_append list (flags_last newly_seen list) h (last_told (newly_seen && not (list_any is_flags list))))
 
-pub row_leaves : (view : List ℕ) (uid : ℕ) (by_uid : Bool) (list : List FetchItem) (row : Row) → IsIn uid view → length view + 1 < 2 ^ 64 → uid < 2 ^ 64 → row.uid ≡ uid → length row.text < 2 ^ 64 → AreToldParts list
+pub row_leaves : (view : List ℕ) (uid : ℕ) (by_uid : Bool) (list : List FetchItem) (row : Row) → IsIn uid view → length view + 1 < 2 ^ 64 → uid < 2 ^ 64 → row.uid ≡ uid → length row.text.bytes < 2 ^ 64 → AreToldParts list
     → Leaves view (row_answer (position uid view) by_uid list row)
 row_leaves view uid by_uid list row there few fits is small parts =
     subst (λ (u : ℕ). Leaves view (row_answer (position u view) by_uid list row)) is
@@ -85,7 +86,7 @@ row_leaves view uid by_uid list row there few fits is small parts =
 -- ---- STORE
 
 abbrev pub row_of : ℕ → Flags → Row
-row_of uid flags = record { uid = uid; flags = flags; text = []; newly_seen = false }
+row_of uid flags = record { uid = uid; flags = flags; text = undated []; newly_seen = false }
 
 abbrev pub store_items : Bool → List FetchItem
 store_items true = fetch.Uid ∷ fetch.Flags ∷ []

@@ -101,6 +101,6 @@ pub line_starts : (now : Standing) (line : List ℕ) (answers : List Answer) (tu
 line_starts now line answers turn e =
     turn_given (λ whole o. o ≡ Some turn → StartsNew now.mailing turn.standing.mailing) now line answers
     (λ tag b i d. inl (ap (λ (x : Mailing). x.sent) (idling_mail tag (record now { idling = None }) now.selected line answers turn d)))
-    (λ a mailbox flags b p d. starts (ForItsVerdict a (length line == 0)) a.tag (without_begun now).mailing turn.standing.mailing (first_appended a (length line == 0)) (rest_mail (without_begun now) now.mailing a (length line == 0) answers turn d))
+    (λ a mailbox flags date b p d. starts (ForItsVerdict a (length line == 0)) a.tag (without_begun now).mailing turn.standing.mailing (first_appended a (length line == 0)) (rest_mail (without_begun now) now.mailing a (length line == 0) answers turn d))
     (λ a told parting b t p d. inl (ap (λ (x : Mailing). x.sent) (given_mail a.tag (without_begun now) line told parting answers turn d)))
     (λ whole w d. text_starts whole now answers turn d) e

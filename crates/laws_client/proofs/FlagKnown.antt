@@ -68,7 +68,7 @@ happening_tells now p (Literal kept bytes) turn q k may e sees = rests_in p (may
 happening_tells now p (Heard verdict answers) turn q k may e sees = verdict_tells now verdict p answers turn q k.2 may e sees
 
 command_flags : (now : Standing) (p : Point) (tag : List ℕ) (command : Command) (answers : List StoreAnswer) (turn : Turn) (q : Point) (client : Option Client)
-    → Stands now → IsTag tag → played tag now (on_command now command) answers ≡ Some turn → SeesAllMoments p turn.events q → HearsAll (counted p) turn.events (counted q) → IsRightOnFlags p client
+    → Stands now → IsTag tag → played tag now (on_command tag now command) answers ≡ Some turn → SeesAllMoments p turn.events q → HearsAll (counted p) turn.events (counted q) → IsRightOnFlags p client
     → (stays command ≡ true → IsRightOnFlags q (reads_on turn.bytes client)) → IsRightOnFlags q (answered (asked_by tag command) turn.bytes client)
 command_flags now p tag (commands.Select name) answers turn q client stands t e sees met right more =
     selects_right tag now (counted p) false name answers turn q t stands.names e met
@@ -117,7 +117,7 @@ line_flags : (now : Standing) (p : Point) (line : List ℕ) (answers : List Stor
     → turn_of now line answers ≡ Some turn → SeesAllMoments p turn.events q → HearsAll (counted p) turn.events (counted q) → IsRightOnFlags p client → IsRightOnFlags q (hears client (told_line (whole_line now line) turn.bytes))
 line_flags now p line answers turn q client stands numbered e sees met right =
     turn_has (λ whole o. o ≡ Some turn → (MayCome whole now (counted p) → IsRightOnFlags q (reads_on turn.bytes client)) → IsRightOnFlags q (hears client (told_line whole turn.bytes))) now line answers
-    (λ tag b i d more. more tt) (λ a mailbox flags b m d more. more tt) (λ a x b part d more. more tt)
+    (λ tag b i d more. more tt) (λ a mailbox flags date b m d more. more tt) (λ a x b part d more. more tt)
     (λ whole w d more. text_flags (without_begun now) p whole answers turn q client (bare_stands now stands) numbered d sees met right (λ may. more (may_answer (without_begun now) now (counted p) (read whole) refl may)))
     e (λ may. happening_flags now p (Line line answers) turn q client stands e sees met right may)
 

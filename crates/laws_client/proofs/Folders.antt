@@ -116,7 +116,7 @@ fault_keeps now text (answer ∷ more) turn e = absurd (none-some turn e)
 read_keeps : (now : Standing) (r : Result (List ℕ × Command) ImapFault) (answers : List Answer) (turn : Turn) → on_read now r answers ≡ Some turn → turn.standing.folders ≡ now.folders
 read_keeps now (Ok line) answers turn e =
     line_case (turn.standing.folders ≡ now.folders) now line.0 line.1 answers turn (λ logs d. folders_stay line.0 (logged_in now) (completed line.1) answers turn d)
-    (λ text is d. folders_stay line.0 now (says (response_text text)) answers turn d) (λ d. folders_stay line.0 now (on_command now line.1) answers turn d) e
+    (λ text is d. folders_stay line.0 now (says (response_text text)) answers turn d) (λ d. folders_stay line.0 now (on_command line.0 now line.1) answers turn d) e
 read_keeps now (Err fault) answers turn e = fault_keeps now (fault_text now.profile fault) answers turn e
 
 text_keeps : (now : Standing) (line : List ℕ) (answers : List Answer) (turn : Turn) → on_text_line now line answers ≡ Some turn → turn.standing.folders ≡ now.folders
@@ -127,7 +127,7 @@ pub line_folders : (now : Standing) (line : List ℕ) (answers : List Answer) (t
 line_folders now line answers turn e =
     turn_has (λ whole o. o ≡ Some turn → turn.standing.folders ≡ now.folders) now line answers
     (λ tag b i d. folders_stay tag (record now { idling = None }) (on_idle_line now.selected line) answers turn d)
-    (λ a mailbox flags b p d. folders_stay a.tag (without_begun now) (on_rest now.mailing a (length line == 0)) answers turn d)
+    (λ a mailbox flags date b p d. folders_stay a.tag (without_begun now) (on_rest now.mailing a (length line == 0)) answers turn d)
     (λ a x b part d. folders_stay a.tag (without_begun now) x answers turn d) (λ whole w d. text_keeps (without_begun now) whole answers turn d) e
 
 heard_keeps : (sent : Option Sent) (now : Standing) (verdict : Verdict) (answers : List Answer) (turn : Turn) → turn_with sent now verdict answers ≡ Some turn → turn.standing.folders ≡ now.folders

@@ -6,8 +6,7 @@ use Rattle.std.proofs.lemmas.Bool.{false≢true}
 use Rattle.change_ring.specs.declared.change.Flags.{Flags}
 use Rattle.cursor_set.specs.Lines.{spaced}
 use Rattle.mailbox.specs.declared.clients.Row.{Row}
-use Rattle.mail_date.proofs.Plain.{message_dated}
-use Rattle.mail_date.specs.Fields.{message_date}
+use Rattle.delivery_token.specs.Text.{date_of}
 use Rattle.imap_answers.specs.Answers.{answered, flags_last, is_uid, part, part_bytes, section, uid_first}
 use Rattle.imap_grammar.specs.declared.items.BodyPart.{BodyPart}
 use Rattle.imap_grammar.specs.declared.items.FetchItem.{FetchItem}
@@ -18,7 +17,7 @@ use Rattle.laws_client.specs.Client.{Known, closing, flag_names, into_first, ite
 use Rattle.laws_client.specs.Fetches.{AreToldParts, IsToldPart}
 use Rattle.laws_client.proofs.Bytes.{decimal_digits, decimal_says}
 use Rattle.laws_client.proofs.Items.{item_closed, body_words, date_other, date_read, date_words, digits_closed, digits_other, flag_list, flag_list_other, is_other, number_words, other_passes, rfc822_other, rfc822_read, rfc822_words, tail, words_append}
-use Rattle.laws_client.proofs.Kept.{IsSmall, body_word, count_kept, item_kept, part_small}
+use Rattle.laws_client.proofs.Kept.{IsSmall, body_word, count_kept, item_kept, part_small, text_dated}
 
 -- ---- words
 
@@ -60,25 +59,25 @@ uid_item P R Q row last f small = subst (λ (ws : List (List ℕ)). LeadOn P R Q
 
 size_item : (P Q : Known → Type 0) (row : Row) (last : Bool) → IsSmall row → LeadOn P P Q (words (item_kept row fetch.Size ++ tail last))
 size_item P Q row last small =
-    let n : ℕ = length row.text in
+    let n : ℕ = length row.text.bytes in
     subst (λ (ws : List (List ℕ)). LeadOn P P Q (codes "RFC822.SIZE" ∷ ws)) (sym (number_words n last small.text))
     (others_lead P Q (codes "RFC822.SIZE" ∷ (decimal n ++ tail last) ∷ []) (rw (digits_other (decimal n) last (decimal_digits n small.text)) refl))
 
 body_item : (P Q : Known → Type 0) (row : Row) (peek : Bool) (which : BodyPart) (span : Option Span) (last : Bool) → IsSmall row → IsToldPart (fetch.Body peek which span) → LeadOn P P Q (words (item_kept row (fetch.Body peek which span) ++ tail last))
 body_item P Q row peek which span last small told =
-    let bytes : List ℕ = part span (part_bytes which row.text) in
+    let bytes : List ℕ = part span (part_bytes which row.text.bytes) in
     subst (λ (ws : List (List ℕ)). LeadOn P P Q ws) (sym (body_words which span bytes last told.0 told.1 (part_small row which span small)))
     (others_lead P Q (body_word which span ∷ (count_kept bytes ++ tail last) ∷ []) refl)
 
 date_leads : (P Q : Known → Type 0) (row : Row) (last : Bool) → LeadOn P P Q (words (item_kept row fetch.InternalDate ++ tail last))
 date_leads P Q row last =
     subst (λ (ws : List (List ℕ)). LeadOn P P Q ws) (sym (date_read row.text last))
-    (others_lead P Q (date_words (message_date row.text) last) (date_other (message_date row.text) last (message_dated row.text)))
+    (others_lead P Q (date_words (date_of row.text) last) (date_other (date_of row.text) last (text_dated row.text)))
 
 rfc822_leads : (P Q : Known → Type 0) (row : Row) (which : Section) (last : Bool) → IsSmall row → LeadOn P P Q (words (item_kept row (fetch.Rfc822 which) ++ tail last))
 rfc822_leads P Q row which last small =
     subst (λ (ws : List (List ℕ)). LeadOn P P Q ws) (sym (rfc822_read row which last small))
-    (others_lead P Q (rfc822_words which (section which row.text) last) (rfc822_other which (section which row.text) last))
+    (others_lead P Q (rfc822_words which (section which row.text.bytes) last) (rfc822_other which (section which row.text.bytes) last))
 
 -- an item by which nothing is lost
 item_leads : (P Q : Known → Type 0) (row : Row) (item : FetchItem) (last : Bool) → ((m : Known) → P m → P (with_uid (Some row.uid) m)) → LeavesFlagsOpen P → IsSmall row → IsToldPart item

@@ -135,7 +135,7 @@ read_keeps : (P : List ℕ → Type 0) → (now : Standing) (r : Result (List �
 read_keeps P now (Ok line) answers turn t k e =
     line_case (Kept (AreTagsOf P) turn) now line.0 line.1 answers turn (λ logs d. played_keeps (AreTagsOf P) line.0 (tags_keep P line.0 t) (logged_in now) (completed line.1) answers turn k d)
     (λ text is d. played_keeps (AreTagsOf P) line.0 (tags_keep P line.0 t) now (says (response_text text)) answers turn k d)
-    (λ d. played_keeps (AreTagsOf P) line.0 (tags_keep P line.0 t) now (on_command now line.1) answers turn k d) e
+    (λ d. played_keeps (AreTagsOf P) line.0 (tags_keep P line.0 t) now (on_command line.0 now line.1) answers turn k d) e
 read_keeps P now (Err fault) answers turn t k e = fault_keeps P now (fault_text now.profile fault) answers turn k e
 
 text_keeps : (P : List ℕ → Type 0) → ((tag : List ℕ) → is_word_of is_tag tag ≡ true → P tag) → (now : Standing) (line : List ℕ) (answers : List Answer) (turn : Turn) → AreTagsOf P now → on_text_line now line answers ≡ Some turn → Kept (AreTagsOf P) turn
@@ -149,7 +149,7 @@ pub line_keeps : (P : List ℕ → Type 0) → ((tag : List ℕ) → is_word_of 
 line_keeps P make now line answers turn k e =
     turn_has (λ whole o. o ≡ Some turn → Kept (AreTagsOf P) turn) now line answers
     (λ tag b i d. played_keeps (AreTagsOf P) tag (tags_keep P tag (subst (λ (o : Option (List ℕ)). IfSome o P) i k.0)) (record now { idling = None }) (on_idle_line now.selected line) answers turn (tt, k.1, k.2) d)
-    (λ a mailbox flags b p d. played_keeps (AreTagsOf P) a.tag (tags_keep P a.tag (begun_tag a b)) (without_begun now) (on_rest now.mailing a (length line == 0)) answers turn (tt, tt, k.2) d)
+    (λ a mailbox flags date b p d. played_keeps (AreTagsOf P) a.tag (tags_keep P a.tag (begun_tag a b)) (without_begun now) (on_rest now.mailing a (length line == 0)) answers turn (tt, tt, k.2) d)
     (λ a x b part d. played_keeps (AreTagsOf P) a.tag (tags_keep P a.tag (begun_tag a b)) (without_begun now) x answers turn (tt, tt, k.2) d)
     (λ whole w d. text_keeps P make (without_begun now) whole answers turn (tt, tt, k.2) d) e
   where

@@ -8,9 +8,9 @@ use Rattle.std.proofs.lemmas.List.Folds.{list_all-append}
 use Rattle.change_ring.specs.declared.change.Flags.{Flags}
 use Rattle.cursor_set.specs.Lines.{flag_words, spaced}
 use Rattle.mailbox.specs.declared.clients.Row.{Row}
-use Rattle.mail_date.proofs.Plain.{date_plain, is_date_byte, message_dated, time_digit_first, time_plain, zone_plain}
+use Rattle.mail_date.proofs.Plain.{date_plain, is_date_byte, time_digit_first, time_plain, zone_plain}
 use Rattle.mail_date.specs.Dates.{is_date}
-use Rattle.mail_date.specs.Fields.{message_date}
+use Rattle.delivery_token.specs.Text as stored
 use Rattle.mail_date.specs.Internal.{date_text, internal_text, sign, time_text, two_digits, zone_text}
 use Rattle.mail_date.specs.declared.stamp.Stamp.{Stamp}
 use Rattle.imap_answers.specs.Answers.{date_item, flags_text, origin_text, part, part_bytes, part_word, section}
@@ -23,7 +23,6 @@ use Rattle.imap_grammar.specs.declared.items.Span.{Span}
 use Rattle.std.proofs.lemmas.Bool.Decides.{Decides-eqb}
 use Rattle.envelope.specs.Grammar.{Many}
 use Rattle.imap_grammar.specs.Brackets.{in_bracket}
-use Rattle.imap_grammar.specs.Bytes.{is_field_byte}
 use Rattle.imap_grammar.specs.declared.items.BodyPart.{BodyPart}
 use Rattle.imap_grammar.specs.declared.items.BodyPart.TheVariants as parts
 use Rattle.imap_grammar.proofs.Cuts.{is_other as is_not}
@@ -32,9 +31,9 @@ use Rattle.imap_grammar.proofs.Outside.{both_behind, both_outside, outside_plain
 use Rattle.imap_grammar.proofs.Tokens.{excludes, not_true}
 use Rattle.laws_client.specs.Client.{Known, words, words_from, into_first, is_digit, number, closing, items, with_uid, unopened}
 use Rattle.laws_client.specs.Beliefs.{IsOf}
-use Rattle.laws_client.specs.Fetches.{AreToldNames, IsToldPart, IsToldSpan, AreToldParts}
+use Rattle.laws_client.specs.Fetches.{AreToldNames, IsToldPart, IsToldSpan, AreToldParts, is_name_byte}
 use Rattle.laws_client.proofs.Bytes.{both, is_word, decimal_word, decimal_digits, decimal_says, first_of, rest_of}
-use Rattle.laws_client.proofs.Kept.{body_word, both_all, count_kept, each_date_byte, each_field_byte, item_kept, IsSmall, part_small, section_small}
+use Rattle.laws_client.proofs.Kept.{body_word, both_all, count_kept, each_date_byte, each_name_byte, item_kept, IsSmall, part_small, section_small, text_dated}
 
 -- ---- words
 
@@ -282,8 +281,8 @@ origin_whole None h = refl
 origin_whole (Some span) h =
     both_all (λ b. not (b == 32)) (codes "<" ++ decimal span.origin) (codes ">") (both_all (λ b. not (b == 32)) (codes "<") (decimal span.origin) refl (number_whole span.origin h)) refl
 
-field_byte_open : (b : ℕ) → is_field_byte b ≡ true → no_close b ≡ true
-field_byte_open b h = excludes is_field_byte 93 refl b h
+name_byte_open : (b : ℕ) → is_name_byte b ≡ true → no_close b ≡ true
+name_byte_open b h = excludes is_name_byte 93 refl b h
 
 part_open : (which : BodyPart) → AreToldNames which → list_all no_close (part_word which) ≡ true
 part_open (parts.Section Whole) told = refl
@@ -291,10 +290,10 @@ part_open (parts.Section Header) told = refl
 part_open (parts.Section Text) told = refl
 part_open (parts.Fields true names) told =
     both_all no_close (codes "HEADER.FIELDS.NOT (" ++ spaced names) (codes ")")
-    (both_all no_close (codes "HEADER.FIELDS.NOT (") (spaced names) refl (each_field_byte no_close field_byte_open refl names told)) refl
+    (both_all no_close (codes "HEADER.FIELDS.NOT (") (spaced names) refl (each_name_byte no_close name_byte_open refl names told)) refl
 part_open (parts.Fields false names) told =
     both_all no_close (codes "HEADER.FIELDS (" ++ spaced names) (codes ")")
-    (both_all no_close (codes "HEADER.FIELDS (") (spaced names) refl (each_field_byte no_close field_byte_open refl names told)) refl
+    (both_all no_close (codes "HEADER.FIELDS (") (spaced names) refl (each_name_byte no_close name_byte_open refl names told)) refl
 
 -- what stands before a literal: spaces stand within brackets alone, and these are closed
 record IsName (name : List ℕ) : Type 0 where
@@ -326,8 +325,8 @@ abbrev pub rfc822_words : Section → List ℕ → Bool → List (List ℕ)
 rfc822_words which bytes last = rfc822_word which ∷ (count_kept bytes ++ tail last) ∷ []
 
 -- what a client reads of a part of a text that RFC822 names, and no word of it is UID or FLAGS
-pub rfc822_read : (row : Row) (which : Section) (last : Bool) → IsSmall row → words (item_kept row (fetch.Rfc822 which) ++ tail last) ≡ rfc822_words which (section which row.text) last
-rfc822_read row which last small = let n = rfc822_name which in named_words (rfc822_word which) (section which row.text) last n.whole n.closed (section_small row which small)
+pub rfc822_read : (row : Row) (which : Section) (last : Bool) → IsSmall row → words (item_kept row (fetch.Rfc822 which) ++ tail last) ≡ rfc822_words which (section which row.text.bytes) last
+rfc822_read row which last small = let n = rfc822_name which in named_words (rfc822_word which) (section which row.text.bytes) last n.whole n.closed (section_small row which small)
 
 pub rfc822_other : (which : Section) (bytes : List ℕ) (last : Bool) → list_all is_other (rfc822_words which bytes last) ≡ true
 rfc822_other Whole bytes last = refl
@@ -350,10 +349,10 @@ abbrev pub date_words : Stamp → Bool → List (List ℕ)
 date_words s last = codes "INTERNALDATE" ∷ (34 ∷ date_text s) ∷ time_text s ∷ ((zone_text s ++ codes "\"") ++ tail last) ∷ []
 
 -- what a client reads of a date, and no word of it is UID or FLAGS
-pub date_read : (text : List ℕ) (last : Bool) → words (date_item text ++ tail last) ≡ date_words (message_date text) last
+pub date_read : (text : stored.Text) (last : Bool) → words (date_item text ++ tail last) ≡ date_words (stored.date_of text) last
 date_read text last =
-    let s : Stamp = message_date text in
-    let dated : is_date s ≡ true = message_dated text in
+    let s : Stamp = stored.date_of text in
+    let dated : is_date s ≡ true = text_dated text in
     let day : List ℕ = date_text s in
     let time : List ℕ = time_text s in
     let zone : List ℕ = (zone_text s ++ codes "\"") ++ tail last in
@@ -385,17 +384,17 @@ item_harmless row fetch.Uid last small told =
     subst (λ (ws : List (List ℕ)). Harmless row.uid (codes "UID" ∷ ws)) (sym (number_words row.uid last small.uid)) (uid_harmless row.uid last small.uid)
 item_harmless row fetch.Flags last small told = flags_harmless row.uid row.flags last
 item_harmless row fetch.Size last small told =
-    let n : ℕ = length row.text in
+    let n : ℕ = length row.text.bytes in
     subst (λ (ws : List (List ℕ)). Harmless row.uid (codes "RFC822.SIZE" ∷ ws)) (sym (number_words n last small.text))
     (others_harmless row.uid (codes "RFC822.SIZE" ∷ (decimal n ++ tail last) ∷ []) (rw (digits_other (decimal n) last (decimal_digits n small.text)) refl))
 item_harmless row fetch.InternalDate last small told =
     subst (λ (ws : List (List ℕ)). Harmless row.uid ws) (sym (date_read row.text last))
-    (others_harmless row.uid (date_words (message_date row.text) last) (date_other (message_date row.text) last (message_dated row.text)))
+    (others_harmless row.uid (date_words (stored.date_of row.text) last) (date_other (stored.date_of row.text) last (text_dated row.text)))
 item_harmless row (fetch.Rfc822 which) last small told =
     subst (λ (ws : List (List ℕ)). Harmless row.uid ws) (sym (rfc822_read row which last small))
-    (others_harmless row.uid (rfc822_words which (section which row.text) last) (rfc822_other which (section which row.text) last))
+    (others_harmless row.uid (rfc822_words which (section which row.text.bytes) last) (rfc822_other which (section which row.text.bytes) last))
 item_harmless row (fetch.Body peek which span) last small told =
-    let bytes : List ℕ = part span (part_bytes which row.text) in
+    let bytes : List ℕ = part span (part_bytes which row.text.bytes) in
     subst (λ (ws : List (List ℕ)). Harmless row.uid ws) (sym (body_words which span bytes last told.0 told.1 (part_small row which span small)))
     (others_harmless row.uid (body_word which span ∷ (count_kept bytes ++ tail last) ∷ []) refl)
 
@@ -435,10 +434,10 @@ flags_closed false false false true false = refl
 flags_closed false false false false true = refl
 flags_closed false false false false false = refl
 
-date_closed : (text : List ℕ) → open_behind false (date_item text) ≡ false
+date_closed : (text : stored.Text) → open_behind false (date_item text) ≡ false
 date_closed text =
-    let s : Stamp = message_date text in
-    let dated : is_date s ≡ true = message_dated text in
+    let s : Stamp = stored.date_of text in
+    let dated : is_date s ≡ true = text_dated text in
     let day = each_date_byte no_bracket date_byte_open (date_text s) (date_plain s dated) in
     let time = each_date_byte no_bracket date_byte_open (time_text s) (time_plain s dated) in
     let zone = each_date_byte no_bracket date_byte_open (zone_text s) (zone_plain s dated) in
@@ -458,13 +457,13 @@ pub item_closed : (row : Row) (item : FetchItem) → IsSmall row → IsToldPart 
 item_closed row fetch.Uid small told = closed_all (codes "UID " ++ decimal row.uid) (both_all no_bracket (codes "UID ") (decimal row.uid) refl (number_open row.uid small.uid))
 item_closed row fetch.Flags small told = flags_closed row.flags.answered row.flags.flagged row.flags.deleted row.flags.seen row.flags.draft
 item_closed row fetch.Size small told =
-    closed_all (codes "RFC822.SIZE " ++ decimal (length row.text)) (both_all no_bracket (codes "RFC822.SIZE ") (decimal (length row.text)) refl (number_open (length row.text) small.text))
+    closed_all (codes "RFC822.SIZE " ++ decimal (length row.text.bytes)) (both_all no_bracket (codes "RFC822.SIZE ") (decimal (length row.text.bytes)) refl (number_open (length row.text.bytes) small.text))
 item_closed row fetch.InternalDate small told = date_closed row.text
 item_closed row (fetch.Rfc822 which) small told =
-    let bytes : List ℕ = section which row.text in
+    let bytes : List ℕ = section which row.text.bytes in
     closed_all (rfc822_word which ++ codes " " ++ count_kept bytes) (both_all no_bracket (rfc822_word which ++ codes " ") (count_kept bytes) (rfc822_open which) (count_open bytes (section_small row which small)))
 item_closed row (fetch.Body peek which span) small told =
-    let bytes : List ℕ = part span (part_bytes which row.text) in
+    let bytes : List ℕ = part span (part_bytes which row.text.bytes) in
     let name : List ℕ = body_word which span in
     let front : open_behind false (name ++ codes " ") ≡ false = both_behind false name (codes " ") false (body_name which span told.0 told.1).closed in
     both_behind false (name ++ codes " ") (count_kept bytes) false front ∙ closed_all (count_kept bytes) (count_open bytes (part_small row which span small))

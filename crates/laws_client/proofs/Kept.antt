@@ -9,12 +9,12 @@ use Rattle.cursor_set.specs.Lines.{spaced}
 use Rattle.mailbox.specs.declared.clients.Row.{Row}
 use Rattle.mail_date.proofs.Plain.{date_plain, is_date_byte, message_dated, time_plain, zone_plain}
 use Rattle.mail_date.specs.Dates.{is_date}
-use Rattle.mail_date.specs.Fields.{message_date}
+use Rattle.delivery_token.specs.Text as stored
+use Rattle.mail_date.specs.Fields.{date_or, message_date}
 use Rattle.mail_date.specs.Internal.{date_text, internal_text, time_text, zone_text}
 use Rattle.mail_date.specs.declared.stamp.Stamp.{Stamp}
 use Rattle.imap_grammar.proofs.Tokens.{excludes, not_true}
 use Rattle.imap_answers.specs.Answers.{crlf, date_item, is_crlf, flags_text, fields_from, header, header_from, item_text, literal, origin_text, part, part_bytes, part_word, section, takes_field}
-use Rattle.imap_grammar.specs.Bytes.{is_field_byte}
 use Rattle.imap_grammar.specs.Grammar.{rfc822_word}
 use Rattle.imap_grammar.specs.declared.items.BodyPart.{BodyPart}
 use Rattle.imap_grammar.specs.declared.items.BodyPart.TheVariants as parts
@@ -25,7 +25,7 @@ use Rattle.imap_grammar.specs.declared.items.Section.TheVariants.{Whole, Header,
 use Rattle.imap_grammar.specs.declared.items.Span.{Span}
 use Rattle.laws_client.specs.Client.{Client, Messages, knowing, within, reads, line_ends, literal_of, told}
 use Rattle.laws_client.specs.ListTurns.{is_inner}
-use Rattle.laws_client.specs.Fetches.{AreToldNames, IsToldPart, IsToldSpan, AreToldParts}
+use Rattle.laws_client.specs.Fetches.{AreToldNames, IsToldPart, IsToldSpan, AreToldParts, is_name_byte}
 use Rattle.mail_date.specs.Bytes.{is_folded}
 use Rattle.laws_client.proofs.Bytes.{both, first_of, rest_of, reads-append, inner_byte, inner_text, words_are_inner, decimal_word}
 use Rattle.laws_client.proofs.LinesRead.{flags_inner, flags_part}
@@ -67,15 +67,15 @@ body_word which span = codes "BODY[" ++ part_word which ++ codes "]" ++ origin_t
 abbrev pub item_kept : Row → FetchItem → List ℕ
 item_kept row fetch.Uid = codes "UID " ++ decimal row.uid
 item_kept row fetch.Flags = flags_text row.flags
-item_kept row fetch.Size = codes "RFC822.SIZE " ++ decimal (length row.text)
+item_kept row fetch.Size = codes "RFC822.SIZE " ++ decimal (length row.text.bytes)
 item_kept row fetch.InternalDate = date_item row.text
-item_kept row (fetch.Rfc822 which) = rfc822_word which ++ codes " " ++ count_kept (section which row.text)
-item_kept row (fetch.Body peek which span) = body_word which span ++ codes " " ++ count_kept (part span (part_bytes which row.text))
+item_kept row (fetch.Rfc822 which) = rfc822_word which ++ codes " " ++ count_kept (section which row.text.bytes)
+item_kept row (fetch.Body peek which span) = body_word which span ++ codes " " ++ count_kept (part span (part_bytes which row.text.bytes))
 
 -- the numbers of a row can be printed
 pub record IsSmall (row : Row) : Type 0 where
   pub uid : row.uid < 2 ^ 64
-  pub text : length row.text < 2 ^ 64
+  pub text : length row.text.bytes < 2 ^ 64
 
 -- ---- dates
 
@@ -99,33 +99,45 @@ stamp_inner s h =
     (both_all is_inner (date_text s ++ codes " " ++ time_text s) (codes " ")
     (both_all is_inner (date_text s ++ codes " ") (time_text s) (both_all is_inner (date_text s) (codes " ") day refl) time) refl) zone
 
+-- the date of a message is one that the calendar and the clock have, whether it came with it or its header says it
+pub text_dated : (text : stored.Text) → is_date (stored.date_of text) ≡ true
+text_dated text = by text.date
+  where
+    given : (date : Stamp) (valid : Bool) → is_date date ≡ valid → is_date (if valid then date else message_date text.bytes) ≡ true
+    given date true e = e
+    given date false e = message_dated text.bytes
+
+    by : (date : Option Stamp) → is_date (date_or date text.bytes) ≡ true
+    by None = message_dated text.bytes
+    by (Some date) = given date (is_date date) refl
+
 -- no date ends a line
-pub date_inner : (text : List ℕ) → list_all is_inner (date_item text) ≡ true
+pub date_inner : (text : stored.Text) → list_all is_inner (date_item text) ≡ true
 date_inner text =
-    let date : List ℕ = internal_text (message_date text) in
+    let date : List ℕ = internal_text (stored.date_of text) in
     both_all is_inner (codes "INTERNALDATE \"" ++ date) (codes "\"")
-    (both_all is_inner (codes "INTERNALDATE \"") date refl (stamp_inner (message_date text) (message_dated text))) refl
+    (both_all is_inner (codes "INTERNALDATE \"") date refl (stamp_inner (stored.date_of text) (text_dated text))) refl
 
 -- ---- names of header fields
 
 -- what is so of a space and of each byte of a name is so of all names
-pub each_field_byte : (q : ℕ → Bool) → ((b : ℕ) → is_field_byte b ≡ true → q b ≡ true) → q 32 ≡ true → (names : List (List ℕ)) → list_all (list_all is_field_byte) names ≡ true → list_all q (spaced names) ≡ true
-each_field_byte q f s [] h = refl
-each_field_byte q f s (n ∷ []) h = name_bytes n (both (list_all is_field_byte n) true h).0
+pub each_name_byte : (q : ℕ → Bool) → ((b : ℕ) → is_name_byte b ≡ true → q b ≡ true) → q 32 ≡ true → (names : List (List ℕ)) → list_all (list_all is_name_byte) names ≡ true → list_all q (spaced names) ≡ true
+each_name_byte q f s [] h = refl
+each_name_byte q f s (n ∷ []) h = name_bytes n (both (list_all is_name_byte n) true h).0
   where
-    name_bytes : (text : List ℕ) → list_all is_field_byte text ≡ true → list_all q text ≡ true
+    name_bytes : (text : List ℕ) → list_all is_name_byte text ≡ true → list_all q text ≡ true
     name_bytes [] e = refl
-    name_bytes (b ∷ bs) e = rw (f b (first_of is_field_byte b bs e), name_bytes bs (rest_of is_field_byte b bs e)) refl
-each_field_byte q f s (n ∷ m ∷ names) h =
-    let k = both (list_all is_field_byte n) (list_all (list_all is_field_byte) (m ∷ names)) h in
-    both_all q n (32 ∷ spaced (m ∷ names)) (name_bytes n k.0) (rw (s, each_field_byte q f s (m ∷ names) k.1) refl)
+    name_bytes (b ∷ bs) e = rw (f b (first_of is_name_byte b bs e), name_bytes bs (rest_of is_name_byte b bs e)) refl
+each_name_byte q f s (n ∷ m ∷ names) h =
+    let k = both (list_all is_name_byte n) (list_all (list_all is_name_byte) (m ∷ names)) h in
+    both_all q n (32 ∷ spaced (m ∷ names)) (name_bytes n k.0) (rw (s, each_name_byte q f s (m ∷ names) k.1) refl)
   where
-    name_bytes : (text : List ℕ) → list_all is_field_byte text ≡ true → list_all q text ≡ true
+    name_bytes : (text : List ℕ) → list_all is_name_byte text ≡ true → list_all q text ≡ true
     name_bytes [] e = refl
-    name_bytes (b ∷ bs) e = rw (f b (first_of is_field_byte b bs e), name_bytes bs (rest_of is_field_byte b bs e)) refl
+    name_bytes (b ∷ bs) e = rw (f b (first_of is_name_byte b bs e), name_bytes bs (rest_of is_name_byte b bs e)) refl
 
-field_byte_inner : (b : ℕ) → is_field_byte b ≡ true → is_inner b ≡ true
-field_byte_inner b h = rw (not_true (b == 10) (excludes is_field_byte 10 refl b h)) refl
+name_byte_inner : (b : ℕ) → is_name_byte b ≡ true → is_inner b ≡ true
+name_byte_inner b h = rw (not_true (b == 10) (excludes is_name_byte 10 refl b h)) refl
 
 pub part_inner : (which : BodyPart) → AreToldNames which → list_all is_inner (part_word which) ≡ true
 part_inner (parts.Section Whole) told = refl
@@ -133,10 +145,10 @@ part_inner (parts.Section Header) told = refl
 part_inner (parts.Section Text) told = refl
 part_inner (parts.Fields true names) told =
     both_all is_inner (codes "HEADER.FIELDS.NOT (" ++ spaced names) (codes ")")
-    (both_all is_inner (codes "HEADER.FIELDS.NOT (") (spaced names) refl (each_field_byte is_inner field_byte_inner refl names told)) refl
+    (both_all is_inner (codes "HEADER.FIELDS.NOT (") (spaced names) refl (each_name_byte is_inner name_byte_inner refl names told)) refl
 part_inner (parts.Fields false names) told =
     both_all is_inner (codes "HEADER.FIELDS (" ++ spaced names) (codes ")")
-    (both_all is_inner (codes "HEADER.FIELDS (") (spaced names) refl (each_field_byte is_inner field_byte_inner refl names told)) refl
+    (both_all is_inner (codes "HEADER.FIELDS (") (spaced names) refl (each_name_byte is_inner name_byte_inner refl names told)) refl
 
 front_inner : (which : BodyPart) → AreToldNames which → list_all is_inner (codes "BODY[" ++ part_word which ++ codes "]") ≡ true
 front_inner which told =
@@ -195,11 +207,11 @@ bytes_most : (which : BodyPart) (text : List ℕ) → length (part_bytes which t
 bytes_most (parts.Section which) text = section_most which text
 bytes_most (parts.Fields others names) text = omega (arith, fields_most (takes_field others names) true false false (header text), header_most true text)
 
-pub part_small : (row : Row) (which : BodyPart) (span : Option Span) → IsSmall row → length (part span (part_bytes which row.text)) < 2 ^ 64
-part_small row which span small = omega (arith, small.text, part_most span (part_bytes which row.text), bytes_most which row.text)
+pub part_small : (row : Row) (which : BodyPart) (span : Option Span) → IsSmall row → length (part span (part_bytes which row.text.bytes)) < 2 ^ 64
+part_small row which span small = omega (arith, small.text, part_most span (part_bytes which row.text.bytes), bytes_most which row.text.bytes)
 
-pub section_small : (row : Row) (which : Section) → IsSmall row → length (section which row.text) < 2 ^ 64
-section_small row which small = omega (arith, small.text, section_most which row.text)
+pub section_small : (row : Row) (which : Section) → IsSmall row → length (section which row.text.bytes) < 2 ^ 64
+section_small row which small = omega (arith, small.text, section_most which row.text.bytes)
 
 flags_all : (text : List ℕ) → list_all is_inner (text ++ 41 ∷ []) ≡ true → list_all is_inner text ≡ true
 flags_all text h = by (list_all is_inner text) (sym (list_all-append is_inner text (41 ∷ [])) ∙ h)
@@ -218,15 +230,15 @@ item_keeping row fetch.Uid small told = both_keeping (codes "UID ") (codes "UID 
 item_keeping row fetch.Flags small told =
     inner_keeping (flags_part row.flags) (flags_all (flags_part row.flags) (flags_inner row.flags.answered row.flags.flagged row.flags.deleted row.flags.seen row.flags.draft))
 item_keeping row fetch.Size small told =
-    both_keeping (codes "RFC822.SIZE ") (codes "RFC822.SIZE ") (decimal (length row.text)) (decimal (length row.text)) (inner_keeping (codes "RFC822.SIZE ") refl) (number_keeping (length row.text) small.text)
+    both_keeping (codes "RFC822.SIZE ") (codes "RFC822.SIZE ") (decimal (length row.text.bytes)) (decimal (length row.text.bytes)) (inner_keeping (codes "RFC822.SIZE ") refl) (number_keeping (length row.text.bytes) small.text)
 item_keeping row fetch.InternalDate small told = inner_keeping (date_item row.text) (date_inner row.text)
 item_keeping row (fetch.Rfc822 which) small told =
     let front : List ℕ = rfc822_word which ++ codes " " in
-    let bytes : List ℕ = section which row.text in
+    let bytes : List ℕ = section which row.text.bytes in
     both_keeping front front (literal bytes) (count_kept bytes) (inner_keeping front (rfc822_inner which)) (literal_keeping bytes (section_small row which small))
 item_keeping row (fetch.Body peek which span) small told =
     let front : List ℕ = codes "BODY[" ++ part_word which ++ codes "]" in
-    let bytes : List ℕ = part span (part_bytes which row.text) in
+    let bytes : List ℕ = part span (part_bytes which row.text.bytes) in
     both_keeping (body_word which span ++ codes " ") (body_word which span ++ codes " ") (literal bytes) (count_kept bytes)
     (both_keeping (body_word which span) (body_word which span) (codes " ") (codes " ")
     (both_keeping front front (origin_text span) (origin_text span) (inner_keeping front (front_inner which told.0)) (origin_keeping span told.1)) (inner_keeping (codes " ") refl))

@@ -6,7 +6,7 @@ use Rattle.delivery_token.specs.declared.Refusal.{Refusal}
 use Rattle.delivery_token.specs.declared.Refusal.TheVariants as refusals
 use Rattle.imap_session.specs.Exchange as ex
 use Rattle.imap_session.specs.Exchange.{Asked, ForLiteral, bye, Answer, PendingLiteral, Exchange, ForVerdict, Mailing, Standing, played, Argument, Response, continuing, ForNothing, Unasked, Looked, Found, Refused, Call, Turn, having, Client}
-use Rattle.imap_session.specs.Commands.{is_over, last_number, long_rest_text, long_text, nowhere, on_found, on_rest, on_text, over, refused_text, says, turn_of_long_line, wanting, flags_for, mailbox_for}
+use Rattle.imap_session.specs.Commands.{is_over, last_number, long_rest_text, long_text, nowhere, on_found, on_rest, on_text, over, refused_text, says, turn_of_long_line, wanting, flags_for, date_for, mailbox_for}
 use Rattle.laws_client.proofs.IdleTags.{AreTagsOf}
 use Rattle.laws_client.proofs.LastLines.{bye_apart, plus_apart, untagged_apart, Apart, IsWord, SaysApart, Spares, TurnFine, fine, fine_wait, fine_wanting, played_apart, star_apart, tagged_apart, refused_apart}
 use Rattle.imap_session.specs.declared.texts.ResponseText.{ResponseText}
@@ -69,9 +69,9 @@ text_fine : (tells : List ℕ → Bool) → Spares tells → (mailing : Mailing)
 text_fine tells spares mailing a text mailbox =
     either_fine tells (is_over mailing.most a.size) (over mailing.most) _ (says_fine tells spares (over mailing.most) (over_apart tells spares mailing.most))
     (either_fine tells (list_any (λ b. b == 0) text) (says (response_text texts.NulByte)) _ (says_fine tells spares (says (response_text texts.NulByte)) (refl, spares.no (behind 3 texts.NulByte)))
-    (either_fine tells (nat_le last_number mailing.number) (says (response_text texts.MailboxSpent)) (wanting (ex.Wait [] (ForVerdict Client mailbox (flags_for a.purpose) text)))
+    (either_fine tells (nat_le last_number mailing.number) (says (response_text texts.MailboxSpent)) (wanting (ex.Wait [] (ForVerdict Client mailbox (flags_for a.purpose) (record { bytes = text; date = date_for a.purpose }))))
     (says_fine tells spares (says (response_text texts.MailboxSpent)) (refl, spares.no (behind 3 texts.MailboxSpent)))
-    (λ tag t now answers. fine_wanting tells spares tag t now (ex.Wait [] (ForVerdict Client mailbox (flags_for a.purpose) text)) (fine_wait tells spares tag t now (ForVerdict Client mailbox (flags_for a.purpose) text)) answers)))
+    (λ tag t now answers. fine_wanting tells spares tag t now (ex.Wait [] (ForVerdict Client mailbox (flags_for a.purpose) (record { bytes = text; date = date_for a.purpose }))) (fine_wait tells spares tag t now (ForVerdict Client mailbox (flags_for a.purpose) (record { bytes = text; date = date_for a.purpose }))) answers)))
 
 pub rest_fine : (tells : List ℕ → Bool) → Spares tells → (mailing : Mailing) (a : PendingLiteral) (empty : Bool) → EndsFine tells (on_rest mailing a empty)
 rest_fine tells spares mailing a empty =

@@ -11,6 +11,7 @@ use Rattle.change_ring.specs.declared.change.Flags.{Flags}
 use Rattle.change_ring.specs.Log.{shown}
 use Rattle.cursor_set.specs.Lines.{flag_words, line, lines, position, spaced}
 use Rattle.delivery_token.specs.declared.Verdict.{Verdict}
+use Rattle.delivery_token.specs.Text.{Text}
 use Rattle.delivery_token.specs.declared.Verdict.TheVariants as verdicts
 use Rattle.mailbox.specs.declared.clients.MailFault.TheVariants.{Stranger, Lapped, Spent, NoMemory}
 use Rattle.world.specs.World.{Config, World}
@@ -234,7 +235,7 @@ back_says tag words mailbox (uid ∷ uids) now (Refused fault ∷ []) turn e = i
 back_says tag words mailbox (uid ∷ uids) now (_ ∷ rest) turn e = absurd (none-some turn e)
 
 -- the next message is submitted, and nothing is said
-pub awaits_silent : (tag : List ℕ) (origin : Origin) (mailbox : ℕ) (flags : Flags) (text : List ℕ) (now : Standing) (answers : List Answer) (turn : Turn)
+pub awaits_silent : (tag : List ℕ) (origin : Origin) (mailbox : ℕ) (flags : Flags) (text : Text) (now : Standing) (answers : List Answer) (turn : Turn)
     → played tag now (ex.Wait [] (ex.ForVerdict origin mailbox flags text)) answers ≡ Some turn → turn.bytes ≡ []
 awaits_silent tag origin mailbox flags text now [] turn e = sym (ap (λ (x : Turn). x.bytes) (ap (the_turn turn) e))
 awaits_silent tag origin mailbox flags text now (ex.Starved zero ∷ []) turn e = absurd (none-some turn e)

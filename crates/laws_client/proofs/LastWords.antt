@@ -97,10 +97,10 @@ in_fetching fetch mark view done p [] gone = p gone
 in_fetching fetch mark view done p (uid ∷ uids) gone =
     elim [ None ↦ in_fetching fetch mark view done p uids true | Some row ↦ (fetched_whole fetch view uid row, in_fetching fetch mark view done p uids gone) ]
 
-in_searching : (search : Search) (last : Named) (view uids found : List ℕ) → SaysApart tells_stored (searching search last view (search_done search) uids found)
-in_searching search last view [] found = (found_whole found, in_done (commands.Search search) search.by_uid false (says_apart (texts.Completed (verb_of (commands.Search search)))))
-in_searching search last view (uid ∷ uids) found =
-    elim [ None ↦ in_searching search last view uids found | Some row ↦ in_searching search last view uids (found ++ found_in search last (named_at view uid) row) ]
+in_searching : (tag : List ℕ) (search : Search) (last : Named) (view uids found : List ℕ) → SaysApart tells_stored (searching search last view (search_done tag search) uids found)
+in_searching tag search last view [] found = (found_whole tag search.by_uid search.returns found, in_done (commands.Search search) search.by_uid false (says_apart (texts.Completed (verb_of (commands.Search search)))))
+in_searching tag search last view (uid ∷ uids) found =
+    elim [ None ↦ in_searching tag search last view uids found | Some row ↦ in_searching tag search last view uids (found ++ found_in search last (named_at view uid) row) ]
 
 in_silence : (silent : Bool) (text : List ℕ) (x : Exchange) → IsWhole text → SaysApart tells_stored x → SaysApart tells_stored (if silent then x else ex.Write text x)
 in_silence true text x w p = p
@@ -134,71 +134,71 @@ in_over (Some most) = (refl, refl)
 append_fine : (most : Option ℕ) (folders : List Folder) (a : Append) → EndsFine tells_stored (appending most folders a)
 append_fine most folders a =
     either_fine tells_stored a.literal.waits _ _
-    (says_fine tells_stored uid_spares (wanting (on_found (λ mailbox. if is_over most a.literal.size then over most else asking mailbox a.flags a.literal.size) nowhere (number_named a.name folders)))
+    (says_fine tells_stored uid_spares (wanting (on_found (λ mailbox. if is_over most a.literal.size then over most else asking mailbox a.flags a.date a.literal.size) nowhere (number_named a.name folders)))
     (inl refl, in_found _ nowhere (λ (mailbox : ℕ). in_either (is_over most a.literal.size) (over most) _ (in_over most) (plus_apart tells_stored texts.Ready, tt)) (refl, refl) (number_named a.name folders)))
     (either_fine tells_stored (nat_lt most_unasked a.literal.size) _ _ (says_fine tells_stored uid_spares (ex.Wait (bye (response_text texts.LiteralTooBig)) ex.ForNothing) (bye_apart tells_stored texts.LiteralTooBig, tt))
-    (λ tag t now answers. fine_wait tells_stored uid_spares tag t now (ex.ForLiteral ex.Unasked (ex.Message (number_named a.name folders) a.flags) a.literal.size) answers))
+    (λ tag t now answers. fine_wait tells_stored uid_spares tag t now (ex.ForLiteral ex.Unasked (ex.Message (number_named a.name folders) a.flags a.date) a.literal.size) answers))
 
-copy_fine : (now : Standing) (copy : CopyMessages) → EndsFine tells_stored (on_command now (commands.Copy copy))
-copy_fine now copy =
+copy_fine : (tag : List ℕ) (now : Standing) (copy : CopyMessages) → EndsFine tells_stored (on_command tag now (commands.Copy copy))
+copy_fine tag now copy =
     copies_so (EndsFine tells_stored) (record {
       told = λ text. says_fine tells_stored uid_spares (says (response_text text)) (says_apart text);
       wanted = λ x p tag t now answers. fine_wanting tells_stored uid_spares tag t now x (p tag t now) answers;
       looked = look_fine tells_stored uid_spares;
       found = row_fine tells_stored uid_spares;
-    }) now copy
+    }) tag now copy
     (λ batch mailbox row copied tag t now answers. fine_wait tells_stored uid_spares tag t now (ForVerdict (Copied batch) mailbox row.flags row.text) answers)
 
 notice_apart : (said : Option (List ℕ)) (x : Exchange) → SaysApart tells_stored x → SaysApart tells_stored (noticing said x)
 notice_apart None x p = p
 notice_apart (Some words) x p = (ends (codes "* ") words, p)
 
-command_apart : (now : Standing) (command : Command) → EndsFine tells_stored (on_command now command)
-command_apart now commands.Noop = says_fine tells_stored uid_spares (on_command now commands.Noop) (in_showing now.selected (completed commands.Noop) (refl, refl))
-command_apart now commands.Logout = says_fine tells_stored uid_spares (on_command now commands.Logout) (bye_whole (response_text texts.LoggingOut), (refl, refl))
-command_apart now commands.Idle = says_fine tells_stored uid_spares (on_command now commands.Idle) (plus_apart tells_stored texts.Idling, tt)
-command_apart now (commands.Login user password) = says_fine tells_stored uid_spares (on_command now (commands.Login user password)) (refl, refl)
-command_apart now (commands.Authenticate a) = says_fine tells_stored uid_spares (on_command now (commands.Authenticate a)) (refl, refl)
-command_apart now commands.StartTls = says_fine tells_stored uid_spares (on_command now commands.StartTls) (refl, refl)
-command_apart now (commands.Select name) = says_fine tells_stored uid_spares (on_command now (commands.Select name)) (in_selecting now false name)
-command_apart now (commands.Examine name) = says_fine tells_stored uid_spares (on_command now (commands.Examine name)) (in_selecting now true name)
-command_apart now (commands.List reference pattern) =
-    says_fine tells_stored uid_spares (on_command now (commands.List reference pattern)) (list_whole All reference pattern (map (λ (folder : Folder). folder.name) now.folders), in_showing now.selected (completed (commands.List reference pattern)) (refl, refl))
-command_apart now (commands.Lsub reference pattern) =
-    says_fine tells_stored uid_spares (on_command now (commands.Lsub reference pattern)) (list_whole Subscribed reference pattern (map (λ (folder : Folder). folder.name) now.folders), in_showing now.selected (completed (commands.Lsub reference pattern)) (refl, refl))
-command_apart now (commands.Subscribe name) = says_fine tells_stored uid_spares (on_command now (commands.Subscribe name)) (in_subscribing now.folders name (commands.Subscribe name))
-command_apart now (commands.Unsubscribe name) = says_fine tells_stored uid_spares (on_command now (commands.Unsubscribe name)) (in_subscribing now.folders name (commands.Unsubscribe name))
-command_apart now commands.Check = says_fine tells_stored uid_spares (on_command now commands.Check) (in_showing now.selected (completed commands.Check) (refl, refl))
-command_apart now (commands.Status name items) = says_fine tells_stored uid_spares (on_command now (commands.Status name items)) (
+command_apart : (tag : List ℕ) (now : Standing) (command : Command) → EndsFine tells_stored (on_command tag now command)
+command_apart tag now commands.Noop = says_fine tells_stored uid_spares (on_command tag now commands.Noop) (in_showing now.selected (completed commands.Noop) (refl, refl))
+command_apart tag now commands.Logout = says_fine tells_stored uid_spares (on_command tag now commands.Logout) (bye_whole (response_text texts.LoggingOut), (refl, refl))
+command_apart tag now commands.Idle = says_fine tells_stored uid_spares (on_command tag now commands.Idle) (plus_apart tells_stored texts.Idling, tt)
+command_apart tag now (commands.Login user password) = says_fine tells_stored uid_spares (on_command tag now (commands.Login user password)) (refl, refl)
+command_apart tag now (commands.Authenticate a) = says_fine tells_stored uid_spares (on_command tag now (commands.Authenticate a)) (refl, refl)
+command_apart tag now commands.StartTls = says_fine tells_stored uid_spares (on_command tag now commands.StartTls) (refl, refl)
+command_apart tag now (commands.Select name) = says_fine tells_stored uid_spares (on_command tag now (commands.Select name)) (in_selecting now false name)
+command_apart tag now (commands.Examine name) = says_fine tells_stored uid_spares (on_command tag now (commands.Examine name)) (in_selecting now true name)
+command_apart tag now (commands.List reference pattern) =
+    says_fine tells_stored uid_spares (on_command tag now (commands.List reference pattern)) (list_whole All reference pattern (map (λ (folder : Folder). folder.name) now.folders), in_showing now.selected (completed (commands.List reference pattern)) (refl, refl))
+command_apart tag now (commands.Lsub reference pattern) =
+    says_fine tells_stored uid_spares (on_command tag now (commands.Lsub reference pattern)) (list_whole Subscribed reference pattern (map (λ (folder : Folder). folder.name) now.folders), in_showing now.selected (completed (commands.Lsub reference pattern)) (refl, refl))
+command_apart tag now (commands.Subscribe name) = says_fine tells_stored uid_spares (on_command tag now (commands.Subscribe name)) (in_subscribing now.folders name (commands.Subscribe name))
+command_apart tag now (commands.Unsubscribe name) = says_fine tells_stored uid_spares (on_command tag now (commands.Unsubscribe name)) (in_subscribing now.folders name (commands.Unsubscribe name))
+command_apart tag now commands.Check = says_fine tells_stored uid_spares (on_command tag now commands.Check) (in_showing now.selected (completed commands.Check) (refl, refl))
+command_apart tag now (commands.Status name items) = says_fine tells_stored uid_spares (on_command tag now (commands.Status name items)) (
   inl refl,
   in_folder (counting now.selected name items)
       (λ folder status. (ends (codes "* STATUS " ++ folder.name ++ codes " (" ++ spaced (map _ items)) (codes ")"), in_showing now.selected (completed (commands.Status name items)) (refl, refl))) (folder_of name now.folders),
 )
-command_apart now commands.Close = says_fine tells_stored uid_spares (on_command now commands.Close) (in_found _ wrong_state (λ (s : Selected). (refl, refl)) (refl, refl) now.selected)
-command_apart now commands.Unselect = says_fine tells_stored uid_spares (on_command now commands.Unselect) (in_found _ wrong_state (λ (s : Selected). (refl, refl)) (refl, refl) now.selected)
-command_apart now commands.Expunge = says_fine tells_stored uid_spares (on_command now commands.Expunge) (in_writable now.selected (ex.Expunge None (ex.Feed unlimited (completed commands.Expunge))) (refl, refl))
-command_apart now (commands.UidExpunge set) =
-    says_fine tells_stored uid_spares (on_command now (commands.UidExpunge set)) (in_writable now.selected (expunge_set set)
+command_apart tag now commands.Close = says_fine tells_stored uid_spares (on_command tag now commands.Close) (in_found _ wrong_state (λ (s : Selected). (refl, refl)) (refl, refl) now.selected)
+command_apart tag now commands.Unselect = says_fine tells_stored uid_spares (on_command tag now commands.Unselect) (in_found _ wrong_state (λ (s : Selected). (refl, refl)) (refl, refl) now.selected)
+command_apart tag now commands.Expunge = says_fine tells_stored uid_spares (on_command tag now commands.Expunge) (in_writable now.selected (ex.Expunge None (ex.Feed unlimited (completed commands.Expunge))) (refl, refl))
+command_apart tag now (commands.UidExpunge set) =
+    says_fine tells_stored uid_spares (on_command tag now (commands.UidExpunge set)) (in_writable now.selected (expunge_set set)
     (λ view. in_chosen (named_in true set view) (λ uids. wanting_for uids (ex.Expunge (Some uids) (ex.Feed unlimited (completed (commands.UidExpunge set))))) (elim [ [] ↦ (refl, refl) | uid ∷ uids ↦ (inl refl, (refl, refl)) ])))
-command_apart now (commands.Fetch fetch) =
-    says_fine tells_stored uid_spares (on_command now (commands.Fetch fetch)) (in_found (fetch_messages fetch) wrong_state
+command_apart tag now (commands.Fetch fetch) =
+    says_fine tells_stored uid_spares (on_command tag now (commands.Fetch fetch)) (in_found (fetch_messages fetch) wrong_state
     (λ (s : Selected). (
       inl refl,
       λ view. in_chosen (named_in fetch.by_uid fetch.set view) _
           (λ uids. in_fetching fetch _ view (messages_done (commands.Fetch fetch) fetch.by_uid) (λ gone. in_done (commands.Fetch fetch) fetch.by_uid gone (says_apart (texts.Completed (verb_of (commands.Fetch fetch))))) uids false),
     )) (refl, refl) now.selected)
-command_apart now (commands.Store store) =
-    says_fine tells_stored uid_spares (on_command now (commands.Store store)) (in_writable now.selected (store_messages store)
+command_apart tag now (commands.Store store) =
+    says_fine tells_stored uid_spares (on_command tag now (commands.Store store)) (in_writable now.selected (store_messages store)
     (λ view. in_chosen (named_in store.by_uid store.set view) _
     (λ uids. in_storing store view (messages_done (commands.Store store) store.by_uid) (λ gone. in_done (commands.Store store) store.by_uid gone (says_apart (texts.Completed (verb_of (commands.Store store))))) uids false)))
-command_apart now (commands.Search search) =
-    says_fine tells_stored uid_spares (on_command now (commands.Search search)) (in_found (search_known search) wrong_state
-    (λ (s : Selected). in_either search.known_charset (search_messages search) (says (response_text texts.BadCharset))
-    (λ view. in_chosen (named_in true all_messages view) (λ uids. wanting (searching search (named_at view (last_uid uids)) view (search_done search) uids []))
-    (λ uids. (inl refl, in_searching search (named_at view (last_uid uids)) view uids []))) (refl, refl)) (refl, refl) now.selected)
-command_apart now (commands.Append append) = append_fine now.mailing.most now.folders append
-command_apart now (commands.Copy copy) = copy_fine now copy
-command_apart now command = says_fine tells_stored uid_spares (on_command now command) (notice_apart (notice now.profile command) (completed command) (refl, refl))
+command_apart tag now (commands.Search search) =
+    says_fine tells_stored uid_spares (on_command tag now (commands.Search search)) (in_found (search_known tag search) wrong_state
+    (λ (s : Selected). in_either search.known_charset (search_messages tag search) (says (response_text texts.BadCharset))
+    (λ view. in_chosen (named_in true all_messages view) (λ uids. wanting (searching search (named_at view (last_uid uids)) view (search_done tag search) uids []))
+    (λ uids. (inl refl, in_searching tag search (named_at view (last_uid uids)) view uids []))) (refl, refl)) (refl, refl) now.selected)
+command_apart tag now (commands.Append append) = append_fine now.mailing.most now.folders append
+command_apart tag now (commands.Copy copy) = copy_fine tag now copy
+command_apart tag now command = says_fine tells_stored uid_spares (on_command tag now command) (notice_apart (notice now.profile command) (completed command) (refl, refl))
 
 -- ---- lines
 
@@ -218,7 +218,7 @@ fault_fine fault now (answer ∷ more) t = tt
 read_fine : (now : Standing) (r : Result (List ℕ × Command) ImapFault) (answers : List Answer) → TaggedOf IsWord r → TurnFine tells_stored (on_read now r answers)
 read_fine now (Ok line) answers t =
     line_has (TurnFine tells_stored) now line.0 line.1 answers (λ logs. says_fine tells_stored uid_spares (completed line.1) (says_apart (texts.Completed (verb_of line.1))) line.0 t (logged_in now) answers)
-    (λ text is. says_fine tells_stored uid_spares (says (response_text text)) (says_apart text) line.0 t now answers) (command_apart now line.1 line.0 t now answers)
+    (λ text is. says_fine tells_stored uid_spares (says (response_text text)) (says_apart text) line.0 t now answers) (command_apart line.0 now line.1 line.0 t now answers)
 read_fine now (Err fault) answers t = fault_fine fault now answers t
 
 text_fine : (now : Standing) (line : List ℕ) (answers : List Answer) → TurnFine tells_stored (on_text_line now line answers)
@@ -230,7 +230,7 @@ pub line_fine : (now : Standing) (line : List ℕ) (answers : List Answer) → A
 line_fine now line answers k =
     turn_has (λ whole o. TurnFine tells_stored o) now line answers
     (λ tag b i. says_fine tells_stored uid_spares (on_idle_line now.selected line) (idling_apart now.selected line) tag (subst (λ (o : Option (List ℕ)). IfSome o IsWord) i k.0) (record now { idling = None }) answers)
-    (λ a mailbox flags b p. rest_fine tells_stored uid_spares now.mailing a (length line == 0) a.tag (begun_word a b) (without_begun now) answers)
+    (λ a mailbox flags date b p. rest_fine tells_stored uid_spares now.mailing a (length line == 0) a.tag (begun_word a b) (without_begun now) answers)
     (λ a x b part. part_fine tells_stored uid_spares x part a.tag (begun_word a b) (without_begun now) answers) (λ whole w. text_fine (without_begun now) whole answers)
   where
     begun_word : (a : PendingLiteral) → now.mailing.begun ≡ Some a → IsWord a.tag

@@ -16,6 +16,7 @@ pub mod Heard
 pub mod UidsHeard
 pub mod Chosen
 pub mod Untold
+mod UidSets
 pub mod Sought
 pub mod Commands
 pub mod Opening

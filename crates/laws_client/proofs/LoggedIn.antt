@@ -69,21 +69,21 @@ none_asked now (Heard verdict answers) turn none e = heard_login now.mailing.sen
 -- ---- who is still to log in
 
 -- what it may ask enters no mailbox
-early_stays : (now : Standing) (command : Command) → StaysIn (on_found (λ text. says (response_text text)) (on_command now command) (without_login command))
-early_stays now (commands.Select name) = tt
-early_stays now (commands.Examine name) = tt
-early_stays now commands.Close = tt
-early_stays now commands.Unselect = tt
-early_stays now (commands.Authenticate a) = tt
-early_stays now command = in_found (λ text. says (response_text text)) (on_command now command) (without_login command) (λ text. tt) (in_command now command refl)
+early_stays : (tag : List ℕ) (now : Standing) (command : Command) → StaysIn (on_found (λ text. says (response_text text)) (on_command tag now command) (without_login command))
+early_stays tag now (commands.Select name) = tt
+early_stays tag now (commands.Examine name) = tt
+early_stays tag now commands.Close = tt
+early_stays tag now commands.Unselect = tt
+early_stays tag now (commands.Authenticate a) = tt
+early_stays tag now command = in_found (λ text. says (response_text text)) (on_command tag now command) (without_login command) (λ text. tt) (in_command tag now command refl)
 
 line_early : (now : Standing) (tag user : List ℕ) (command : Command) (answers : List Answer) (turn : Turn) → now.login ≡ Some user → on_line (logs_in_as now.login command) now tag command answers ≡ Some turn → turn.standing.selected ≡ now.selected
 line_early now tag user command answers turn early e = by (logs_in_as now.login command) e
   where
     by : (b : Bool) → on_line b now tag command answers ≡ Some turn → turn.standing.selected ≡ now.selected
     by true d = selected_stays tag (logged_in now) (completed command) answers turn tt d
-    by false d = selected_stays tag now (on_found (λ text. says (response_text text)) (on_command now command) (without_login command)) answers turn (early_stays now command)
-        (subst (λ (login : Option (List ℕ)). played tag now (on_found (λ text. says (response_text text)) (on_command now command) (barred_at login now.profile command)) answers ≡ Some turn) early d)
+    by false d = selected_stays tag now (on_found (λ text. says (response_text text)) (on_command tag now command) (without_login command)) answers turn (early_stays tag now command)
+        (subst (λ (login : Option (List ℕ)). played tag now (on_found (λ text. says (response_text text)) (on_command tag now command) (barred_at login now.profile command)) answers ≡ Some turn) early d)
 
 read_early : (now : Standing) (user : List ℕ) (r : Result (List ℕ × Command) ImapFault) (answers : List Answer) (turn : Turn) → now.login ≡ Some user → on_read now r answers ≡ Some turn → turn.standing.selected ≡ now.selected
 read_early now user (Ok line) answers turn early e = line_early now line.0 user line.1 answers turn early e
@@ -98,7 +98,7 @@ line_in_early : (now : Standing) (user line : List ℕ) (answers : List Answer) 
 line_in_early now user line answers turn early e =
     turn_has (λ whole o. o ≡ Some turn → turn.standing.selected ≡ now.selected) now line answers
     (λ tag b i d. selected_stays tag (record now { idling = None }) (on_idle_line now.selected line) answers turn (in_idle_line now.selected line) d)
-    (λ a mailbox flags b p d. selected_stays a.tag (without_begun now) (on_rest now.mailing a (length line == 0)) answers turn (in_rest now.mailing a (length line == 0)) d)
+    (λ a mailbox flags date b p d. selected_stays a.tag (without_begun now) (on_rest now.mailing a (length line == 0)) answers turn (in_rest now.mailing a (length line == 0)) d)
     (λ a x b part d. selected_stays a.tag (without_begun now) x answers turn (in_part x part) d) (λ whole w d. text_early (without_begun now) user whole answers turn early d) e
 
 happens_early : (now : Standing) (user : List ℕ) (happening : Happening) (turn : Turn) → now.login ≡ Some user → leads_to now happening ≡ Some turn → turn.standing.selected ≡ now.selected

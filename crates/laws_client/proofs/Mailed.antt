@@ -27,7 +27,7 @@ use Rattle.imap_session.specs.declared.standing.After.TheVariants as afters
 use Rattle.imap_session.specs.declared.standing.Selected.{Selected}
 use Rattle.imap_session.specs.Exchange.{Answer, Entered, Looked, Found, Counted, Altered, Expunged, Fed, Left, Refused, Starved, Exchange, ForDone, ForLiteral, ForVerdict, ForNothing, Done, Wait, Write, Put, Enter, Look, Read, Count, Alter, Expunge, Feed, Leave, Folder, Mailing, Standing, Turn, PendingLiteral, Sent, Waiting, closed, having, played, refusal_after, refusal_text, refused, saying, tagged, waiting, unkept, Asked, Dropped, Unasked, bye, Discard, Discarded, Origin, Client, Copied, Batch}
 use Rattle.imap_session.proofs.Unkept.{unkept_by}
-use Rattle.imap_session.specs.Commands.{appending, closing, completed, counting, entering, expunge_set, fault_text, fetch_messages, fetched, fetching, folder_of, idle_turn_in, if_writable, in_writable, is_over, kept_text, last_number, messages_done, most_unasked, nowhere, number_named, on_chosen, on_command, on_folder, on_found, on_idle_line, on_read, on_rest, on_set, on_text, on_verdict, only_says, over, says, selecting, showing, store_messages, stored, storing, taking, turn_of, turn_of_long_line, turn_of_verdict, turn_with, unlimited, wanting, wanting_for, with_bytes, without_begun, without_sent, wrong_state, asking, coming, entered_text, logged_in, subscribing, telling_recent, found_in, search_done, search_known, search_messages, searching, on_text_line, flags_for, mailbox_for, most_copied, most_return_path, on_stored, told_copied, move_done, with_copy, copies_of, refused_text, moving, copied_words}
+use Rattle.imap_session.specs.Commands.{appending, closing, completed, counting, entering, expunge_set, fault_text, fetch_messages, fetched, fetching, folder_of, idle_turn_in, if_writable, in_writable, is_over, kept_text, last_number, messages_done, most_unasked, nowhere, number_named, on_chosen, on_command, on_folder, on_found, on_idle_line, on_read, on_rest, on_set, on_text, on_verdict, only_says, over, says, selecting, showing, store_messages, stored, storing, taking, turn_of, turn_of_long_line, turn_of_verdict, turn_with, unlimited, wanting, wanting_for, with_bytes, without_begun, without_sent, wrong_state, asking, coming, entered_text, logged_in, subscribing, telling_recent, found_in, search_done, search_known, search_messages, searching, on_text_line, flags_for, date_for, mailbox_for, most_copied, most_return_path, on_stored, told_copied, move_done, with_copy, copies_of, refused_text, moving, copied_words}
 use Rattle.delivery_token.specs.declared.Verdict.{Verdict}
 use Rattle.delivery_token.specs.declared.Verdict.TheVariants as verdicts
 use Rattle.laws_client.proofs.Turns.{the_turn}
@@ -48,7 +48,7 @@ use Rattle.std.specs.List.{AllByRecursion}
 
 -- each of these messages is no longer than that
 abbrev pub RowsFit : ℕ → List Row → Type 0
-RowsFit most rows = AllByRecursion (λ (row : Row). length row.text ≤ most + most_return_path) rows
+RowsFit most rows = AllByRecursion (λ (row : Row). length row.text.bytes ≤ most + most_return_path) rows
 
 -- nor are those that are left to be copied
 abbrev pub OriginFits : ℕ → Origin → Type 0
@@ -59,13 +59,13 @@ OriginFits most (Copied batch) = RowsFit most batch.left
 pub record IsMailShort (most : ℕ) (m : Mailing) : Type 0 where
   pub takes : m.most ≡ Some most
   pub begun : IfSome m.begun (λ a. IfSome a.text (λ text. length text + a.due ≤ a.size))
-  pub sent : IfSome m.sent (λ sent. (length sent.append.text ≤ most + most_return_path) × OriginFits most sent.origin)
+  pub sent : IfSome m.sent (λ sent. (length sent.append.text.bytes ≤ most + most_return_path) × OriginFits most sent.origin)
 
 abbrev pub Kept : ℕ → Turn → Type 0
 Kept most turn = IsMailShort most turn.standing.mailing
 
 abbrev WaitFits : ℕ → Waiting → Type 0
-WaitFits most (ForVerdict origin mailbox flags text) = (length text ≤ most + most_return_path) × OriginFits most origin
+WaitFits most (ForVerdict origin mailbox flags text) = (length text.bytes ≤ most + most_return_path) × OriginFits most origin
 WaitFits most w = Unit {0}
 
 -- wherever a message is submitted it is no longer than that
@@ -208,11 +208,11 @@ fit_fetching most fetch mark view done [] gone h = h gone
 fit_fetching most fetch mark view done (uid ∷ uids) gone h = λ row.
     fit_found most (λ r. Write (fetched fetch view uid r) (fetching fetch mark view done uids gone)) (fetching fetch mark view done uids true) row (λ r. fit_fetching most fetch mark view done uids gone h) (fit_fetching most fetch mark view done uids true h)
 
-fit_searching : (most : ℕ) (search : Search) (last : Named) (view uids found : List ℕ) → TextsFit most (searching search last view (search_done search) uids found)
-fit_searching most search last view [] found = fit_messages most (commands.Search search) search.by_uid false
-fit_searching most search last view (uid ∷ uids) found = λ row.
-    fit_found most (λ r. searching search last view (search_done search) uids (found ++ found_in search last (named_at view uid) r)) (searching search last view (search_done search) uids found) row
-    (λ r. fit_searching most search last view uids (found ++ found_in search last (named_at view uid) r)) (fit_searching most search last view uids found)
+fit_searching : (most : ℕ) (tag : List ℕ) (search : Search) (last : Named) (view uids found : List ℕ) → TextsFit most (searching search last view (search_done tag search) uids found)
+fit_searching most tag search last view [] found = fit_messages most (commands.Search search) search.by_uid false
+fit_searching most tag search last view (uid ∷ uids) found = λ row.
+    fit_found most (λ r. searching search last view (search_done tag search) uids (found ++ found_in search last (named_at view uid) r)) (searching search last view (search_done tag search) uids found) row
+    (λ r. fit_searching most tag search last view uids (found ++ found_in search last (named_at view uid) r)) (fit_searching most tag search last view uids found)
 
 fit_storing : (most : ℕ) (store : Store) (view : List ℕ) (done : Bool → Exchange) (uids : List ℕ) (gone : Bool) → ((b : Bool) → TextsFit most (done b)) → TextsFit most (storing store view done uids gone)
 fit_storing most store view done [] gone h = h gone
@@ -237,11 +237,11 @@ fit_over most (Some n) = tt
 fit_append : (most : ℕ) (o : Option ℕ) (folders : List Folder) (a : Append) → TextsFit most (appending o folders a)
 fit_append most o folders a =
     fit_if most a.literal.waits
-    (wanting (on_found (λ mailbox. if is_over o a.literal.size then over o else asking mailbox a.flags a.literal.size) nowhere (number_named a.name folders)))
-    (if nat_lt most_unasked a.literal.size then Wait (bye (response_text texts.LiteralTooBig)) ForNothing else coming (number_named a.name folders) a.flags a.literal.size)
-    (fit_found most (λ mailbox. if is_over o a.literal.size then over o else asking mailbox a.flags a.literal.size) nowhere (number_named a.name folders)
-    (λ mailbox. fit_if most (is_over o a.literal.size) (over o) (asking mailbox a.flags a.literal.size) (fit_over most o) tt) tt)
-    (fit_if most (nat_lt most_unasked a.literal.size) (Wait (bye (response_text texts.LiteralTooBig)) ForNothing) (coming (number_named a.name folders) a.flags a.literal.size) tt tt)
+    (wanting (on_found (λ mailbox. if is_over o a.literal.size then over o else asking mailbox a.flags a.date a.literal.size) nowhere (number_named a.name folders)))
+    (if nat_lt most_unasked a.literal.size then Wait (bye (response_text texts.LiteralTooBig)) ForNothing else coming (number_named a.name folders) a.flags a.date a.literal.size)
+    (fit_found most (λ mailbox. if is_over o a.literal.size then over o else asking mailbox a.flags a.date a.literal.size) nowhere (number_named a.name folders)
+    (λ mailbox. fit_if most (is_over o a.literal.size) (over o) (asking mailbox a.flags a.date a.literal.size) (fit_over most o) tt) tt)
+    (fit_if most (nat_lt most_unasked a.literal.size) (Wait (bye (response_text texts.LiteralTooBig)) ForNothing) (coming (number_named a.name folders) a.flags a.date a.literal.size) tt tt)
 
 over_most : (most : ℕ) (o : Option ℕ) (size : ℕ) → o ≡ Some most → is_over o size ≡ false → size ≤ most
 over_most most o size e h = not_over most size (sym (ap (λ (x : Option ℕ). is_over x size) e) ∙ h)
@@ -250,45 +250,45 @@ over_most most o size e h = not_over most size (sym (ap (λ (x : Option ℕ). is
 rows_fit : (most : ℕ) (now : Standing) (rows : List Row) → now.mailing.most ≡ Some most → EachFits now rows → RowsFit most rows
 rows_fit most now [] takes each = tt
 rows_fit most now (row ∷ rows) takes each =
-    (over_most (most + most_return_path) (most_copied now.mailing.most) (length row.text) (ap most_copied takes) each.0, rows_fit most now rows takes each.1)
+    (over_most (most + most_return_path) (most_copied now.mailing.most) (length row.text.bytes) (ap most_copied takes) each.0, rows_fit most now rows takes each.1)
 
-fit_copy : (most : ℕ) (now : Standing) (copy : CopyMessages) → now.mailing.most ≡ Some most → TextsFit most (on_command now (commands.Copy copy))
-fit_copy most now copy takes =
+fit_copy : (most : ℕ) (tag : List ℕ) (now : Standing) (copy : CopyMessages) → now.mailing.most ≡ Some most → TextsFit most (on_command tag now (commands.Copy copy))
+fit_copy most tag now copy takes =
     copies_so (TextsFit most)
-    (record { told = λ text. tt; wanted = λ x p. p; looked = λ by_uid set next p. p; found = λ uid mark next p. p }) now copy
-    (λ batch mailbox row copied. (over_most (most + most_return_path) (most_copied now.mailing.most) (length row.text) (ap most_copied takes) copied.fits, rows_fit most now batch.left takes copied.others_fit))
+    (record { told = λ text. tt; wanted = λ x p. p; looked = λ by_uid set next p. p; found = λ uid mark next p. p }) tag now copy
+    (λ batch mailbox row copied. (over_most (most + most_return_path) (most_copied now.mailing.most) (length row.text.bytes) (ap most_copied takes) copied.fits, rows_fit most now batch.left takes copied.others_fit))
 
-fit_command : (most : ℕ) (now : Standing) (command : Command) → now.mailing.most ≡ Some most → TextsFit most (on_command now command)
-fit_command most now commands.Noop takes = fit_showing most now.selected (completed commands.Noop) tt
-fit_command most now (commands.Select name) takes = fit_selecting most now false name
-fit_command most now (commands.Examine name) takes = fit_selecting most now true name
-fit_command most now (commands.List reference pattern) takes = fit_showing most now.selected (completed (commands.List reference pattern)) tt
-fit_command most now (commands.Lsub reference pattern) takes = fit_showing most now.selected (completed (commands.Lsub reference pattern)) tt
-fit_command most now (commands.Subscribe name) takes = fit_subscribing most now.folders name (commands.Subscribe name)
-fit_command most now (commands.Unsubscribe name) takes = fit_subscribing most now.folders name (commands.Unsubscribe name)
-fit_command most now commands.Check takes = fit_showing most now.selected (completed commands.Check) tt
-fit_command most now (commands.Status name items) takes =
+fit_command : (most : ℕ) (tag : List ℕ) (now : Standing) (command : Command) → now.mailing.most ≡ Some most → TextsFit most (on_command tag now command)
+fit_command most tag now commands.Noop takes = fit_showing most now.selected (completed commands.Noop) tt
+fit_command most tag now (commands.Select name) takes = fit_selecting most now false name
+fit_command most tag now (commands.Examine name) takes = fit_selecting most now true name
+fit_command most tag now (commands.List reference pattern) takes = fit_showing most now.selected (completed (commands.List reference pattern)) tt
+fit_command most tag now (commands.Lsub reference pattern) takes = fit_showing most now.selected (completed (commands.Lsub reference pattern)) tt
+fit_command most tag now (commands.Subscribe name) takes = fit_subscribing most now.folders name (commands.Subscribe name)
+fit_command most tag now (commands.Unsubscribe name) takes = fit_subscribing most now.folders name (commands.Unsubscribe name)
+fit_command most tag now commands.Check takes = fit_showing most now.selected (completed commands.Check) tt
+fit_command most tag now (commands.Status name items) takes =
     fit_found most (counting now.selected name items) (says (response_text texts.NoSuchMailbox)) (folder_of name now.folders) (λ folder status. fit_showing most now.selected (completed (commands.Status name items)) tt) tt
-fit_command most now commands.Close takes = fit_found most (λ (selected : Selected). Leave (not selected.read_only) (completed commands.Close)) wrong_state now.selected (λ s. tt) tt
-fit_command most now commands.Unselect takes = fit_found most (λ (selected : Selected). Leave false (completed commands.Unselect)) wrong_state now.selected (λ s. tt) tt
-fit_command most now commands.Expunge takes = fit_writable most now (Expunge None (Feed unlimited (completed commands.Expunge))) tt
-fit_command most now (commands.UidExpunge set) takes =
+fit_command most tag now commands.Close takes = fit_found most (λ (selected : Selected). Leave (not selected.read_only) (completed commands.Close)) wrong_state now.selected (λ s. tt) tt
+fit_command most tag now commands.Unselect takes = fit_found most (λ (selected : Selected). Leave false (completed commands.Unselect)) wrong_state now.selected (λ s. tt) tt
+fit_command most tag now commands.Expunge takes = fit_writable most now (Expunge None (Feed unlimited (completed commands.Expunge))) tt
+fit_command most tag now (commands.UidExpunge set) takes =
     fit_writable most now (expunge_set set) (fit_chosen most true set (λ view uids. wanting_for uids (Expunge (Some uids) (Feed unlimited (completed (commands.UidExpunge set))))) (λ view. elim [ [] ↦ tt | uid ∷ uids ↦ tt ]))
-fit_command most now (commands.Fetch fetch) takes = fit_found most (fetch_messages fetch) wrong_state now.selected
+fit_command most tag now (commands.Fetch fetch) takes = fit_found most (fetch_messages fetch) wrong_state now.selected
     (λ (selected : Selected). fit_chosen most fetch.by_uid fetch.set
     (λ view uids. fetching fetch (list_any marks_seen fetch.items && not selected.read_only) view (messages_done (commands.Fetch fetch) fetch.by_uid) uids false)
     (λ view uids. fit_fetching most fetch (list_any marks_seen fetch.items && not selected.read_only) view (messages_done (commands.Fetch fetch) fetch.by_uid) uids false (λ b. fit_messages most (commands.Fetch fetch) fetch.by_uid b))) tt
-fit_command most now (commands.Search search) takes =
-    fit_found most (search_known search) wrong_state now.selected
-    (λ s. fit_if most search.known_charset (search_messages search) (says (response_text texts.BadCharset))
-    (fit_chosen most true all_messages (λ view uids. wanting (searching search (named_at view (last_uid uids)) view (search_done search) uids []))
-    (λ view uids. fit_searching most search (named_at view (last_uid uids)) view uids [])) tt) tt
-fit_command most now (commands.Store store) takes = fit_writable most now (store_messages store)
+fit_command most tag now (commands.Search search) takes =
+    fit_found most (search_known tag search) wrong_state now.selected
+    (λ s. fit_if most search.known_charset (search_messages tag search) (says (response_text texts.BadCharset))
+    (fit_chosen most true all_messages (λ view uids. wanting (searching search (named_at view (last_uid uids)) view (search_done tag search) uids []))
+    (λ view uids. fit_searching most tag search (named_at view (last_uid uids)) view uids [])) tt) tt
+fit_command most tag now (commands.Store store) takes = fit_writable most now (store_messages store)
     (fit_chosen most store.by_uid store.set (λ view uids. storing store view (messages_done (commands.Store store) store.by_uid) uids false)
     (λ view uids. fit_storing most store view (messages_done (commands.Store store) store.by_uid) uids false (λ b. fit_messages most (commands.Store store) store.by_uid b)))
-fit_command most now (commands.Append append) takes = fit_append most now.mailing.most now.folders append
-fit_command most now (commands.Copy copy) takes = fit_copy most now copy takes
-fit_command most now _ takes = tt
+fit_command most tag now (commands.Append append) takes = fit_append most now.mailing.most now.folders append
+fit_command most tag now (commands.Copy copy) takes = fit_copy most tag now copy takes
+fit_command most tag now _ takes = tt
 
 -- ---- what stands behind a literal
 
@@ -296,7 +296,7 @@ fit_rest : (most : ℕ) (mailing : Mailing) (a : PendingLiteral) (empty : Bool) 
 fit_rest most mailing a empty takes short = kept a.text short
   where
     by : (text : List ℕ) (mailbox : ℕ) (x y z : Bool) → is_over mailing.most a.size ≡ x → length text + a.due ≤ a.size
-        → TextsFit most (if x then over mailing.most else if y then says (response_text texts.NulByte) else if z then says (response_text texts.MailboxSpent) else wanting (Wait [] (ForVerdict Client mailbox (flags_for a.purpose) text)))
+        → TextsFit most (if x then over mailing.most else if y then says (response_text texts.NulByte) else if z then says (response_text texts.MailboxSpent) else wanting (Wait [] (ForVerdict Client mailbox (flags_for a.purpose) (record { bytes = text; date = date_for a.purpose }))))
     by text mailbox true y z e few = fit_over most mailing.most
     by text mailbox false true z e few = tt
     by text mailbox false false true e few = tt
@@ -347,7 +347,7 @@ fault_keeps most now text (answer ∷ more) turn k e = absurd (none-some turn e)
 read_keeps : (most : ℕ) (now : Standing) (r : Result (List ℕ × Command) ImapFault) (answers : List Answer) (turn : Turn) → IsMailShort most now.mailing → on_read now r answers ≡ Some turn → Kept most turn
 read_keeps most now (Ok line) answers turn k e =
     line_case (Kept most turn) now line.0 line.1 answers turn (λ logs d. mail_stays most line.0 (logged_in now) (completed line.1) answers turn tt k d)
-    (λ text is d. mail_stays most line.0 now (says (response_text text)) answers turn tt k d) (λ d. mail_stays most line.0 now (on_command now line.1) answers turn (fit_command most now line.1 k.takes) k d) e
+    (λ text is d. mail_stays most line.0 now (says (response_text text)) answers turn tt k d) (λ d. mail_stays most line.0 now (on_command line.0 now line.1) answers turn (fit_command most line.0 now line.1 k.takes) k d) e
 read_keeps most now (Err fault) answers turn k e = fault_keeps most now (fault_text now.profile fault) answers turn k e
 
 -- a line that isn't whole yet, or is given up
@@ -366,7 +366,7 @@ none_begun : (most : ℕ) (now : Standing) → IsMailShort most now.mailing → 
 none_begun most now k = record { takes = k.takes; begun = tt; sent = k.sent }
 
 heard_keeps : (most : ℕ) (sent : Option Sent) (now : Standing) (verdict : Verdict) (answers : List Answer) (turn : Turn) → IsMailShort most now.mailing
-    → IfSome sent (λ sent. (length sent.append.text ≤ most + most_return_path) × OriginFits most sent.origin) → turn_with sent now verdict answers ≡ Some turn → Kept most turn
+    → IfSome sent (λ sent. (length sent.append.text.bytes ≤ most + most_return_path) × OriginFits most sent.origin) → turn_with sent now verdict answers ≡ Some turn → Kept most turn
 heard_keeps most None now verdict answers turn k fits e = absurd (none-some turn e)
 heard_keeps most (Some sent) now verdict answers turn k fits e =
     mail_stays most sent.tag (without_sent now) (on_verdict now.mailing now.selected sent.origin sent.append.mailbox verdict) answers turn
@@ -376,7 +376,7 @@ pub line_mail : (most : ℕ) (now : Standing) (line : List ℕ) (answers : List 
 line_mail most now line answers turn k e =
     turn_has (λ whole o. o ≡ Some turn → Kept most turn) now line answers
     (λ tag b i d. mail_stays most tag (record now { idling = None }) (on_idle_line now.selected line) answers turn (fit_idle_line most now.selected line) k d)
-    (λ a mailbox flags b p d. mail_stays most a.tag (without_begun now) (on_rest now.mailing a (length line == 0)) answers turn (fit_rest most now.mailing a (length line == 0) k.takes (few a b)) (none_begun most now k) d)
+    (λ a mailbox flags date b p d. mail_stays most a.tag (without_begun now) (on_rest now.mailing a (length line == 0)) answers turn (fit_rest most now.mailing a (length line == 0) k.takes (few a b)) (none_begun most now k) d)
     (λ a x b part d. mail_stays most a.tag (without_begun now) x answers turn (fit_part most x part) (none_begun most now k) d)
     (λ whole w d. text_keeps most (without_begun now) whole answers turn (none_begun most now k) d) e
   where

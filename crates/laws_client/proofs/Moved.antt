@@ -66,7 +66,7 @@ sound_moved k n w v (stepped e step own short) S = sound_step k w e v S step
 pub short_before : (w v : World) → ((m : ℕ) → Extends (w.box m) (v.box m)) → HasShortTexts v → HasShortTexts w
 short_before w v extends short m =
     let x = extends m in
-    let P : Job × ℕ → Type 0 = λ (a : Job × ℕ). length a.0.text < 2 ^ 32 in
+    let P : Job × ℕ → Type 0 = λ (a : Job × ℕ). length a.0.text.bytes < 2 ^ 32 in
     all_of_every P (w.box m).accepted (every_front P (w.box m).accepted x.copies (subst (λ (xs : List (Job × ℕ)). Every P xs) x.accepted (every_of_all P (v.box m).accepted (short m))))
 
 pub moved_extends : (k : Config) (n : ℕ) (w v : World) → Moved k n w v → (m : ℕ) → Extends (w.box m) (v.box m)

@@ -264,35 +264,35 @@ messages_last : (command : Command) (by_uid gone : Bool) → by_uid ≡ true →
 messages_last command true gone e = (refl, inl refl)
 messages_last command false gone e = never e
 
-searching_last : (search : Search) (last : Named) (view uids found : List ℕ) → search.by_uid ≡ true → ShowsLast false (searching search last view (search_done search) uids found)
-searching_last search last view [] found e = messages_last (commands.Search search) search.by_uid false e
-searching_last search last view (uid ∷ uids) found e = λ row.
-    found_last (λ r. searching search last view (search_done search) uids (found ++ found_in search last (named_at view uid) r)) (searching search last view (search_done search) uids found) row
-    (λ r. searching_last search last view uids (found ++ found_in search last (named_at view uid) r) e) (searching_last search last view uids found e)
+searching_last : (tag : List ℕ) (search : Search) (last : Named) (view uids found : List ℕ) → search.by_uid ≡ true → ShowsLast false (searching search last view (search_done tag search) uids found)
+searching_last tag search last view [] found e = messages_last (commands.Search search) search.by_uid false e
+searching_last tag search last view (uid ∷ uids) found e = λ row.
+    found_last (λ r. searching search last view (search_done tag search) uids (found ++ found_in search last (named_at view uid) r)) (searching search last view (search_done tag search) uids found) row
+    (λ r. searching_last tag search last view uids (found ++ found_in search last (named_at view uid) r) e) (searching_last tag search last view uids found e)
 
-pub command_last : (now : Standing) (selected : Selected) (command : Command) → now.selected ≡ Some selected → shows_all command ≡ true → ShowsLast false (on_command now command)
-command_last now selected commands.Noop is e = subst (λ (o : Option Selected). ShowsLast false (showing o (completed commands.Noop))) (sym is) (refl, inl refl)
-command_last now selected (commands.List reference pattern) is e = subst (λ (o : Option Selected). ShowsLast false (showing o (completed (commands.List reference pattern)))) (sym is) (refl, inl refl)
-command_last now selected commands.Check is e = subst (λ (o : Option Selected). ShowsLast false (showing o (completed commands.Check))) (sym is) (refl, inl refl)
-command_last now selected (commands.Lsub reference pattern) is e = subst (λ (o : Option Selected). ShowsLast false (showing o (completed (commands.Lsub reference pattern)))) (sym is) (refl, inl refl)
-command_last now selected (commands.Status name items) is e =
+pub command_last : (tag : List ℕ) (now : Standing) (selected : Selected) (command : Command) → now.selected ≡ Some selected → shows_all command ≡ true → ShowsLast false (on_command tag now command)
+command_last tag now selected commands.Noop is e = subst (λ (o : Option Selected). ShowsLast false (showing o (completed commands.Noop))) (sym is) (refl, inl refl)
+command_last tag now selected (commands.List reference pattern) is e = subst (λ (o : Option Selected). ShowsLast false (showing o (completed (commands.List reference pattern)))) (sym is) (refl, inl refl)
+command_last tag now selected commands.Check is e = subst (λ (o : Option Selected). ShowsLast false (showing o (completed commands.Check))) (sym is) (refl, inl refl)
+command_last tag now selected (commands.Lsub reference pattern) is e = subst (λ (o : Option Selected). ShowsLast false (showing o (completed (commands.Lsub reference pattern)))) (sym is) (refl, inl refl)
+command_last tag now selected (commands.Status name items) is e =
     found_last (counting now.selected name items) (says (response_text texts.NoSuchMailbox)) (folder_of name now.folders)
     (λ folder status. subst (λ (o : Option Selected). ShowsLast false (showing o (completed (commands.Status name items)))) (sym is) (refl, inl refl)) (inr missing)
-command_last now selected commands.Expunge is e = writable_last now (Expunge None (Feed unlimited (completed commands.Expunge))) (refl, inl refl)
-command_last now selected (commands.UidExpunge set) is e =
+command_last tag now selected commands.Expunge is e = writable_last now (Expunge None (Feed unlimited (completed commands.Expunge))) (refl, inl refl)
+command_last tag now selected (commands.UidExpunge set) is e =
     writable_last now (expunge_set set) (chosen_last true set (λ view uids. wanting_for uids (Expunge (Some uids) (Feed unlimited (completed (commands.UidExpunge set))))) (λ view. elim [ [] ↦ (refl, inl refl) | uid ∷ uids ↦ (refl, inl refl) ]))
-command_last now selected (commands.Fetch fetch) is e = found_last (fetch_messages fetch) wrong_state now.selected
+command_last tag now selected (commands.Fetch fetch) is e = found_last (fetch_messages fetch) wrong_state now.selected
     (λ (s : Selected). chosen_last fetch.by_uid fetch.set
     (λ view uids. fetching fetch (list_any marks_seen fetch.items && not s.read_only) view (messages_done (commands.Fetch fetch) fetch.by_uid) uids false)
     (λ view uids. fetching_last fetch (list_any marks_seen fetch.items && not s.read_only) view (messages_done (commands.Fetch fetch) fetch.by_uid) uids false (λ b. messages_last (commands.Fetch fetch) fetch.by_uid b e))) (inr wrong)
-command_last now selected (commands.Search search) is e =
-    found_last (search_known search) wrong_state now.selected (λ s. if_last search.known_charset (search_messages search) (says (response_text texts.BadCharset))
-    (chosen_last true all_messages (λ view uids. wanting (searching search (named_at view (last_uid uids)) view (search_done search) uids []))
-    (λ view uids. searching_last search (named_at view (last_uid uids)) view uids [] e)) (inr bad_charset)) (inr wrong)
-command_last now selected (commands.Store store) is e = writable_last now (store_messages store)
+command_last tag now selected (commands.Search search) is e =
+    found_last (search_known tag search) wrong_state now.selected (λ s. if_last search.known_charset (search_messages tag search) (says (response_text texts.BadCharset))
+    (chosen_last true all_messages (λ view uids. wanting (searching search (named_at view (last_uid uids)) view (search_done tag search) uids []))
+    (λ view uids. searching_last tag search (named_at view (last_uid uids)) view uids [] e)) (inr bad_charset)) (inr wrong)
+command_last tag now selected (commands.Store store) is e = writable_last now (store_messages store)
     (chosen_last store.by_uid store.set (λ view uids. storing store view (messages_done (commands.Store store) store.by_uid) uids false)
     (λ view uids. storing_last store view (messages_done (commands.Store store) store.by_uid) uids false (λ b. messages_last (commands.Store store) store.by_uid b e)))
-command_last now selected _ is e = never e
+command_last tag now selected _ is e = never e
 
 -- a command that was refused isn't done
 refused_not_done : (text : ResponseText) → refuses text ≡ true → NotDone (response_text text)
@@ -324,7 +324,7 @@ last_was_fed now line whole tag command selected answers turn front there answer
     let bare : Standing = without_begun now in
     line_case (LastFed (false ≡ true) turn.events) bare tag command answers turn (λ logs d. never (sym (login_shows_none now.login command logs) ∙ shows))
     (λ text is d. ok_current tag [] false bare (says (response_text text)) answers turn t (inr (refused_not_done text is)) d ends)
-    (λ d. ok_current tag [] false bare (on_command bare command) answers turn t (command_last bare selected command there shows) d ends)
+    (λ d. ok_current tag [] false bare (on_command tag bare command) answers turn t (command_last tag bare selected command there shows) d ends)
     (said_turn now line whole tag command answers turn came reads (shown_waits now.login command shows) answered)
 
 done_current_in : (k : Config) (n : ℕ) (now : Standing) (line whole tag : List ℕ) (command : Command) (w : World) (turn : Turn) (v : World) (front : List ℕ) → Kept k w → IsAnswered k n now line w turn v → whole_line now line ≡ Some whole → read whole ≡ Ok (tag, command)

@@ -1,14 +1,15 @@
 -- The numbers of a FETCH that was read are such as can be printed.
-use Rattle.std.proofs.Common.{ℕ, inl, inr, List, [], ◌∷◌, arith, refl, subst, sym}
-use Rattle.std.specs.Prelude.{◌≡◌, true, codes, Option, Some, None, Result, Ok, Err}
+use Rattle.std.proofs.Common.{ℕ, Bool, ◌==◌, inl, inr, List, [], ◌∷◌, ◌++◌, ◌∙◌, ap, arith, refl, subst, sym}
+use Rattle.std.specs.Prelude.{◌≡◌, ◌||◌, true, codes, Option, Some, None, Result, Ok, Err}
 use Rattle.envelope.specs.Grammar.{Gap}
 use Rattle.imap_grammar.specs.Bytes.{is_field_byte}
-use Rattle.imap_grammar.specs.Grammar.{FieldName, ItemIs, ItemsAre, Line, Others, PartIs, PartialIs, Reads, Separated}
+use Rattle.imap_grammar.specs.Grammar.{FieldName, ItemIs, ItemsAre, Line, Others, PartIs, PartialIs, QuotedField, Reads, Separated}
 use Rattle.imap_grammar.specs.declared.items.BodyPart.{BodyPart}
 use Rattle.imap_grammar.specs.declared.items.BodyPart.TheVariants as parts
 use Rattle.imap_grammar.specs.declared.items.Span.{Span}
 use Rattle.envelope.proofs.Words.{all_of}
-use Rattle.envelope.specs.Grammar.{Exactly}
+use Rattle.envelope.specs.Grammar.{Exactly, Some1}
+use Rattle.std.proofs.lemmas.List.Folds.{list_all-append}
 use Rattle.std.specs.List.{list_all}
 use Rattle.imap_grammar.specs.Reading.{read}
 use Rattle.imap_grammar.specs.declared.command.Command.{Command}
@@ -17,13 +18,24 @@ use Rattle.imap_grammar.specs.declared.command.ImapFault.{ImapFault}
 use Rattle.imap_grammar.specs.declared.items.FetchItem.{FetchItem}
 use Rattle.imap_grammar.specs.declared.items.FetchItem.TheVariants as fetch
 use Rattle.imap_grammar.proofs.LineLaw.{reads}
-use Rattle.laws_client.specs.Fetches.{AreToldNames, AreToldParts, IsToldPart, IsToldSpan}
+use Rattle.laws_client.specs.Fetches.{AreToldNames, AreToldParts, IsToldPart, IsToldSpan, is_name_byte}
 use Rattle.laws_client.specs.Commands.{HasToldParts}
 
-name_told : (name text : List ℕ) → FieldName name text → list_all is_field_byte name ≡ true
-name_told name text is = subst (λ t. list_all is_field_byte t ≡ true) is.0 (all_of is_field_byte is_field_byte text (λ b e. e) is.1.1)
+field_told : (text : List ℕ) → Some1 is_field_byte text → list_all is_name_byte text ≡ true
+field_told text is = all_of is_field_byte is_name_byte text (λ b e. ap (λ (t : Bool). t || (b == 34)) e) is.1
 
-names_told : (name : List ℕ) (names : List (List ℕ)) (text : List ℕ) → Separated (Exactly (codes " ")) FieldName (name ∷ names) text → list_all (list_all is_field_byte) (name ∷ names) ≡ true
+-- a quote stands before it and behind it
+quoted_told : (text : List ℕ) → QuotedField text → list_all is_name_byte text ≡ true
+quoted_told text is =
+    let name = is.second in
+    let whole : text ≡ 34 ∷ (name.front ++ 34 ∷ []) = is.parts ∙ ap (λ (x : List ℕ). x ++ is.back) is.first ∙ ap (λ (x : List ℕ). 34 ∷ x) (name.parts ∙ ap (λ (x : List ℕ). name.front ++ x) name.second) in
+    subst (λ (t : List ℕ). list_all is_name_byte t ≡ true) (sym whole) (list_all-append is_name_byte name.front (34 ∷ []) ∙ rw (field_told name.front name.first) refl)
+
+name_told : (name text : List ℕ) → FieldName name text → list_all is_name_byte name ≡ true
+name_told name text (same, inl plain) = subst (λ (t : List ℕ). list_all is_name_byte t ≡ true) same (field_told text plain)
+name_told name text (same, inr quoted) = subst (λ (t : List ℕ). list_all is_name_byte t ≡ true) same (quoted_told text quoted)
+
+names_told : (name : List ℕ) (names : List (List ℕ)) (text : List ℕ) → Separated (Exactly (codes " ")) FieldName (name ∷ names) text → list_all (list_all is_name_byte) (name ∷ names) ≡ true
 names_told name [] text is = rw (name_told name is.front is.first) refl
 names_told name (other ∷ names) text is = rw (name_told name is.front is.first) (names_told other names is.second.back is.second.second)
 

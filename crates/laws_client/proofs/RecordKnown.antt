@@ -43,7 +43,7 @@ pub may_ask : (now : Standing) (view : List ℕ) (command : Command) → Stands 
 may_ask now view command stands numbered parts stay = record { stays = stay; numbered = numbered; names = stands.names; parts = parts }
 
 command_known : (now : Standing) (old : List ℕ) (tag : List ℕ) (command : Command) (answers : List StoreAnswer) (turn : Turn) (new : List ℕ) (client : Option Client)
-    → Stands now → IsTag tag → played tag now (on_command now command) answers ≡ Some turn → HearsAll old turn.events new → IsRightAbout old client
+    → Stands now → IsTag tag → played tag now (on_command tag now command) answers ≡ Some turn → HearsAll old turn.events new → IsRightAbout old client
     → (stays command ≡ true → IsRightAbout new (reads_on turn.bytes client)) → IsRightAbout new (answered (asked_by tag command) turn.bytes client)
 command_known now old tag (commands.Select name) answers turn new client stands t e met right more =
     entering_right tag turn.bytes new (selected_known tag now old false name answers turn new t stands.names e met)
@@ -106,7 +106,7 @@ line_known : (now : Standing) (old : List ℕ) (line : List ℕ) (answers : List
     → turn_of now line answers ≡ Some turn → HearsAll old turn.events new → IsRightAbout old client → IsRightAbout new (hears client (told_line (whole_line now line) turn.bytes))
 line_known now old line answers turn new client stands numbered e met right =
     turn_has (λ whole o. o ≡ Some turn → (MayCome whole now old → IsRightAbout new (reads_on turn.bytes client)) → IsRightAbout new (hears client (told_line whole turn.bytes))) now line answers
-    (λ tag b i d more. more tt) (λ a mailbox flags b p d more. more tt) (λ a x b part d more. more tt)
+    (λ tag b i d more. more tt) (λ a mailbox flags date b p d more. more tt) (λ a x b part d more. more tt)
     (λ whole w d more. text_known (without_begun now) old whole answers turn new client (bare_stands now stands) numbered d met right (λ may. more (may_answer (without_begun now) now old (read whole) refl may)))
     e (λ may. happening_known now old (Line line answers) turn new client stands e met right may)
 

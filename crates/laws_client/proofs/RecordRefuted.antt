@@ -114,6 +114,11 @@ another_text : (k : Setup) (w : World) (author : Author) (tag said : List ℕ) (
     → ((copy : Job) → Contains (w.box noted.mailbox).accepted (copy, kept.uid) → copy.text ≢ kept.message.append.text) → ⊥
 another_text k w author tag said noted kept other = other (copy_under noted.key kept.message) kept.copy refl
 
+-- of a UID under which it stands with another date there than its APPEND brought
+another_date : (k : Setup) (w : World) (author : Author) (tag said : List ℕ) (noted : Noted) → (kept : TellsKept k w author tag said noted)
+    → ((copy : Job) → Contains (w.box noted.mailbox).accepted (copy, kept.uid) → copy.text.date ≢ kept.came.append.date) → ⊥
+another_date k w author tag said noted kept other = other (copy_under noted.key kept.message) kept.copy kept.came.date
+
 -- of a copy of another session
 another_sessions : (k : Setup) (w : World) (author : Author) (tag said : List ℕ) (noted : Noted) → noted.key.serial ≢ author.serial → TellsKept k w author tag said noted → ⊥
 another_sessions k w author tag said noted other kept = other kept.own
@@ -126,7 +131,7 @@ another_tag k w author tag said noted kept other = other kept.under
 never_sent : (k : Setup) (w : World) (author : Author) (tag said : List ℕ) (noted : Noted) → author.sent ≡ [] → TellsKept k w author tag said noted → ⊥
 never_sent k w author tag said noted none kept =
     let c = kept.came in
-    absurd (omega (arith, ap length (sym c.whole ∙ none), length-append (c.front ++ (c.bytes ++ crlf) ++ kept.message.append.text ++ crlf) c.behind, length-append (c.front ++ (c.bytes ++ crlf) ++ kept.message.append.text) crlf))
+    absurd (omega (arith, ap length (sym c.whole ∙ none), length-append (c.front ++ (c.bytes ++ crlf) ++ kept.message.append.text.bytes ++ crlf) c.behind, length-append (c.front ++ (c.bytes ++ crlf) ++ kept.message.append.text.bytes) crlf))
 
 -- and two such answers about one copy
 one_copy_twice : (k : Setup) (w : World) (author : Author) (told : List Told) (a b : Noted) → a.key ≡ b.key → (tells : TellsOfAppends k w author told) → filter_map as_it_is tells.verdicts ≡ a ∷ b ∷ [] → ⊥

@@ -27,7 +27,7 @@ use Rattle.imap_grammar.specs.declared.command.ImapFault.{ImapFault}
 use Rattle.imap_session.specs.declared.standing.After.TheVariants.{Go}
 use Rattle.imap_session.specs.declared.standing.Selected.{Selected}
 use Rattle.imap_session.specs.Exchange.{Alter, Altered, Answer, PendingLiteral, Exchange, Expunge, Feed, Folder, ForNothing, ForVerdict, Found, Mailing, Read, Sent, Standing, Turn, Wait, Write, bye, kept_behind, Origin, Client, Copied, Discard, Batch}
-use Rattle.imap_session.specs.Commands.{turn_of, turn_of_verdict, appended_words, appending, last_number, most_unasked, nowhere, number_named, on_rest, on_text, on_verdict, is_over, over, turn_with, wanting, wanting_for, without_begun, without_sent, completed, counting, expunge_set, fault_text, fetch_messages, fetched, fetching, folder_of, in_selected, in_writable, messages_done, on_chosen, on_command, on_found, on_idle_line, on_read, on_set, only_says, says, showing, store_messages, stored, storing, subscribing, unlimited, wrong_state, asking, coming, logged_in, refused_text, found_in, search_done, search_known, search_messages, searching, on_text_line, flags_for, mailbox_for, moving, copied_words, on_stored, move_done, with_copy, copies_of}
+use Rattle.imap_session.specs.Commands.{turn_of, turn_of_verdict, appended_words, appending, last_number, most_unasked, nowhere, number_named, on_rest, on_text, on_verdict, is_over, over, turn_with, wanting, wanting_for, without_begun, without_sent, completed, counting, expunge_set, fault_text, fetch_messages, fetched, fetching, folder_of, in_selected, in_writable, messages_done, on_chosen, on_command, on_found, on_idle_line, on_read, on_set, only_says, says, showing, store_messages, stored, storing, subscribing, unlimited, wrong_state, asking, coming, logged_in, refused_text, found_in, search_done, search_known, search_messages, searching, on_text_line, flags_for, date_for, mailbox_for, moving, copied_words, on_stored, move_done, with_copy, copies_of}
 use Rattle.laws_client.specs.ListTurns.{IsPlain, IsTag}
 use Rattle.laws_client.specs.Fetches.{AreToldParts, IsNumbered}
 use Rattle.laws_client.specs.Commands.{AreNames, IsFollowed, IsPrinted, MayAnswer, MayAsk, MayCome}
@@ -160,17 +160,17 @@ storing_says tag view store done ends numbered (uid ∷ uids) p gone same there 
 search_ends : (tag : List ℕ) (p : Point) (search : Search) → IsTag tag → SaysFlags tag p (messages_done (commands.Search search) search.by_uid false)
 search_ends tag p search t = by search.by_uid
   where
-    by : (b : Bool) → SaysFlags tag p (messages_done (commands.Search (record { by_uid = b; known_charset = search.known_charset; keys = search.keys })) b false)
+    by : (b : Bool) → SaysFlags tag p (messages_done (commands.Search (record { by_uid = b; returns = search.returns; known_charset = search.known_charset; keys = search.keys })) b false)
     by true = λ q. last tag q (texts.Completed verbs.UidSearch) t
     by false = last tag p (texts.Completed verbs.Search) t
 
-searching_says : (tag view : List ℕ) (search : Search) (at : Named) → IsTag tag → (uids found : List ℕ) (p : Point) → SaysFlags tag p (searching search at view (search_done search) uids found)
-searching_says tag view search at t [] found p = (leaves p _ (found_tells_nothing found), search_ends tag p search t)
+searching_says : (tag view : List ℕ) (search : Search) (at : Named) → IsTag tag → (uids found : List ℕ) (p : Point) → SaysFlags tag p (searching search at view (search_done tag search) uids found)
+searching_says tag view search at t [] found p = (leaves p _ (found_tells_nothing tag t search.by_uid search.returns found), search_ends tag p search t)
 searching_says tag view search at t (uid ∷ uids) found p = by (searching_says tag view search at t uids)
   where
-    by : ((more : List ℕ) (q : Point) → SaysFlags tag q (searching search at view (search_done search) uids more)) → (row : Option Row) (q : Point)
+    by : ((more : List ℕ) (q : Point) → SaysFlags tag q (searching search at view (search_done tag search) uids more)) → (row : Option Row) (q : Point)
         → SeesMoments p (record { call = Read uid false; answer = Found row }) q
-        → SaysFlags tag q (on_found (λ row. searching search at view (search_done search) uids (found ++ found_in search at (named_at view uid) row)) (searching search at view (search_done search) uids found) row)
+        → SaysFlags tag q (on_found (λ row. searching search at view (search_done tag search) uids (found ++ found_in search at (named_at view uid) row)) (searching search at view (search_done tag search) uids found) row)
     by more None q s = more found q
     by more (Some row) q s = more (found ++ found_in search at (named_at view uid) row) q
 
@@ -199,11 +199,11 @@ store_says tag p store t numbered =
     chosen_says tag p store.by_uid store.set (λ view uids. storing store view (messages_done (commands.Store store) store.by_uid) uids false) t
     (λ q uids same there. storing_says tag (counted p) store (messages_done (commands.Store store) store.by_uid) (λ r gone. store_done tag r store gone t) numbered uids q false same there)
 
-search_says : (tag : List ℕ) (p : Point) (search : Search) (selected : Selected) → IsTag tag → SaysFlags tag p (search_known search selected)
+search_says : (tag : List ℕ) (p : Point) (search : Search) (selected : Selected) → IsTag tag → SaysFlags tag p (search_known tag search selected)
 search_says tag p search selected t = by search.known_charset
   where
-    by : (b : Bool) → SaysFlags tag p (if b then search_messages search else says (response_text texts.BadCharset))
-    by true = chosen_says tag p true all_messages (λ view uids. wanting (searching search (named_at view (last_uid uids)) view (search_done search) uids [])) t
+    by : (b : Bool) → SaysFlags tag p (if b then search_messages tag search else says (response_text texts.BadCharset))
+    by true = chosen_says tag p true all_messages (λ view uids. wanting (searching search (named_at view (last_uid uids)) view (search_done tag search) uids [])) t
         (λ q uids same there. (leaves q [] (λ messages. refl), searching_says tag (counted p) search (named_at (counted p) (last_uid uids)) t uids [] q))
     by false = last tag p texts.BadCharset t
 
@@ -228,7 +228,7 @@ subscribing_says tag p folders name command t = (leaves p [] (λ messages. refl)
     by None = last tag p texts.NoSuchMailbox t
     by (Some folder) = last tag p (texts.Completed (verb_of command)) t
 
-status_says : (tag : List ℕ) (p : Point) (now : Standing) (name : List ℕ) (items : List StatusItem) → IsTag tag → AreNames now.folders → SaysFlags tag p (on_command now (commands.Status name items))
+status_says : (tag : List ℕ) (p : Point) (now : Standing) (name : List ℕ) (items : List StatusItem) → IsTag tag → AreNames now.folders → SaysFlags tag p (on_command tag now (commands.Status name items))
 status_says tag p now name items t names = (leaves p [] (λ messages. refl), by (folder_of name now.folders) (folder_plain name now.folders names))
   where
     by : (folder : Option Folder) → IfSome folder (λ f. IsPlain f.name)
@@ -254,17 +254,17 @@ over_says tag p (Some most) t = last tag p texts.MessageTooBig t
 append_says : (tag : List ℕ) (p : Point) (most : Option ℕ) (folders : List Folder) (a : Append) → IsTag tag → SaysFlags tag p (appending most folders a)
 append_says tag p most folders a t = by a.literal.waits (is_over most a.literal.size) (nat_lt most_unasked a.literal.size) (number_named a.name folders)
   where
-    fits : (big : Bool) (mailbox : ℕ) → SaysFlags tag p (if big then over most else asking mailbox a.flags a.literal.size)
+    fits : (big : Bool) (mailbox : ℕ) → SaysFlags tag p (if big then over most else asking mailbox a.flags a.date a.literal.size)
     fits true mailbox = over_says tag p most t
     fits false mailbox = leaves p _ (λ messages. refl)
 
-    found : (big : Bool) (o : Option ℕ) → SaysFlags tag p (on_found (λ mailbox. if big then over most else asking mailbox a.flags a.literal.size) nowhere o)
+    found : (big : Bool) (o : Option ℕ) → SaysFlags tag p (on_found (λ mailbox. if big then over most else asking mailbox a.flags a.date a.literal.size) nowhere o)
     found big None = nowhere_says tag p t
     found big (Some mailbox) = fits big mailbox
 
     by : (waits big long : Bool) (o : Option ℕ)
-        → SaysFlags tag p (if waits then wanting (on_found (λ mailbox. if big then over most else asking mailbox a.flags a.literal.size) nowhere o)
-        else (if long then Wait (bye (response_text texts.LiteralTooBig)) ForNothing else coming o a.flags a.literal.size))
+        → SaysFlags tag p (if waits then wanting (on_found (λ mailbox. if big then over most else asking mailbox a.flags a.date a.literal.size) nowhere o)
+        else (if long then Wait (bye (response_text texts.LiteralTooBig)) ForNothing else coming o a.flags a.date a.literal.size))
     by true big long o = (nothing_leaves p, found big o)
     by false big true o = leaves p _ (λ messages. refl)
     by false big false o = nothing_leaves p
@@ -274,7 +274,7 @@ rest_says : (tag : List ℕ) (p : Point) (mailing : Mailing) (a : PendingLiteral
 rest_says tag p mailing a empty t = kept a.text
   where
     text_says : (big nul spent : Bool) (text : List ℕ) (mailbox : ℕ)
-        → SaysFlags tag p (if big then over mailing.most else if nul then says (response_text texts.NulByte) else if spent then says (response_text texts.MailboxSpent) else wanting (Wait [] (ForVerdict Client mailbox (flags_for a.purpose) text)))
+        → SaysFlags tag p (if big then over mailing.most else if nul then says (response_text texts.NulByte) else if spent then says (response_text texts.MailboxSpent) else wanting (Wait [] (ForVerdict Client mailbox (flags_for a.purpose) (record { bytes = text; date = date_for a.purpose }))))
     text_says true nul spent text mailbox = over_says tag p mailing.most t
     text_says false true spent text mailbox = last tag p texts.NulByte t
     text_says false false true text mailbox = last tag p texts.MailboxSpent t
@@ -294,14 +294,14 @@ rest_says tag p mailing a empty t = kept a.text
     kept (Some text) = ended empty text
 
 -- COPY and MOVE tell nothing before the verdict
-copy_says : (tag : List ℕ) (now : Standing) (copy : CopyMessages) → IsTag tag → (p : Point) → SaysFlags tag p (on_command now (commands.Copy copy))
+copy_says : (tag : List ℕ) (now : Standing) (copy : CopyMessages) → IsTag tag → (p : Point) → SaysFlags tag p (on_command tag now (commands.Copy copy))
 copy_says tag now copy t =
     copies_so (λ x. (p : Point) → SaysFlags tag p x) (record {
       told = λ text p. last tag p text t;
       wanted = λ x h p. (nothing_leaves p, h p);
       looked = λ by_uid set next h p copied q sees. h copied q;
       found = λ uid mark next h p row q sees. h row q;
-    }) now copy
+    }) tag now copy
     (λ batch mailbox row copied p. nothing_leaves p)
 
 -- of copies, and before and behind messages that are moved
@@ -337,7 +337,7 @@ verdict_says tag p mailing selected origin mailbox (verdicts.Refused why) t u =
 
 -- ---- all of them
 
-command_says : (tag : List ℕ) (p : Point) (now : Standing) (command : Command) → IsTag tag → MayAsk now (counted p) command → SaysFlags tag p (on_command now command)
+command_says : (tag : List ℕ) (p : Point) (now : Standing) (command : Command) → IsTag tag → MayAsk now (counted p) command → SaysFlags tag p (on_command tag now command)
 command_says tag p now commands.Noop t may =
     shows_then tag p now.selected (completed commands.Noop) (λ q. last tag q (texts.Completed verbs.Noop) t)
 command_says tag p now commands.Logout t may =
@@ -360,7 +360,7 @@ command_says tag p now commands.Expunge t may = writable tag p now.selected now 
 command_says tag p now (commands.UidExpunge set) t may = writable tag p now.selected now (expunge_set set) refl t (set_expunged tag p set t)
 command_says tag p now (commands.Fetch fetch) t may = selected_says tag p now.selected now (fetch_messages fetch) refl t (λ selected. fetch_says tag p fetch selected t may.parts may.numbered)
 command_says tag p now (commands.Store store) t may = writable tag p now.selected now (store_messages store) refl t (store_says tag p store t may.numbered)
-command_says tag p now (commands.Search search) t may = selected_says tag p now.selected now (search_known search) refl t (λ selected. search_says tag p search selected t)
+command_says tag p now (commands.Search search) t may = selected_says tag p now.selected now (search_known tag search) refl t (λ selected. search_says tag p search selected t)
 command_says tag p now (commands.Append append) t may = append_says tag p now.mailing.most now.folders append t
 command_says tag p now (commands.Copy copy) t may = copy_says tag now copy t p
 command_says tag p now commands.Capability t may = (leaves p _ (capable_tells_nothing now.profile), last tag p (texts.Completed verbs.Capability) t)
@@ -381,7 +381,7 @@ read_follows now (Ok line) p answers turn q t h e sees =
     line_case (LeadsFlags p turn.bytes q) now line.0 line.1 answers turn
     (λ logs d. turn_tells line.0 (refusals line.0 t) p (logged_in now) (completed line.1) answers turn q d (last line.0 p (texts.Completed (verb_of line.1)) t) sees)
     (λ text is d. turn_tells line.0 (refusals line.0 t) p now (says (response_text text)) answers turn q d (last line.0 p text t) sees)
-    (λ d. turn_tells line.0 (refusals line.0 t) p now (on_command now line.1) answers turn q d (command_says line.0 p now line.1 t h) sees) e
+    (λ d. turn_tells line.0 (refusals line.0 t) p now (on_command line.0 now line.1) answers turn q d (command_says line.0 p now line.1 t h) sees) e
 read_follows now (Err fault) p answers turn q t h e sees = fault_follows now fault p answers turn q t e sees
 
 -- ---- the line that ends an IDLE
@@ -422,7 +422,7 @@ pub answer_tells : (now : Standing) (line : List ℕ) (p : Point) (answers : Lis
 answer_tells now line p answers turn q h e sees =
     turn_has (λ whole o. MayCome whole now (counted p) → o ≡ Some turn → LeadsFlags p turn.bytes q) now line answers
     (λ tag b i may d. let t = idle_tag tag b i in turn_tells tag (refusals tag t) p (record now { idling = None }) (on_idle_line now.selected line) answers turn q d (idle_line_says tag p now.selected line t) sees)
-    (λ a mailbox flags b m may d. let t = begun_tag a b in turn_tells a.tag (refusals a.tag t) p (without_begun now) (on_rest now.mailing a (length line == 0)) answers turn q d (rest_says a.tag p now.mailing a (length line == 0) t) sees)
+    (λ a mailbox flags date b m may d. let t = begun_tag a b in turn_tells a.tag (refusals a.tag t) p (without_begun now) (on_rest now.mailing a (length line == 0)) answers turn q d (rest_says a.tag p now.mailing a (length line == 0) t) sees)
     (λ a x b part may d. let t = begun_tag a b in turn_tells a.tag (refusals a.tag t) p (without_begun now) x answers turn q d (part_says a.tag p x t part) sees)
     (λ whole w may d. text_tells (without_begun now) whole p answers turn q (may_answer now (without_begun now) (counted p) (read whole) refl may) d sees) h.1 e
   where

@@ -108,7 +108,7 @@ may_be_shown k w S n s is l shown cut =
 
 -- ---- what is read
 
-row_named : (uid : ℕ) (f : Row → read.Row) (rows : List Row) → ((row : Row) → ((f row).uid ≡ row.uid) × (length (f row).text < 2 ^ 64)) → IsRowOf uid (option_map f (row_with uid rows))
+row_named : (uid : ℕ) (f : Row → read.Row) (rows : List Row) → ((row : Row) → ((f row).uid ≡ row.uid) × (length (f row).text.bytes < 2 ^ 64)) → IsRowOf uid (option_map f (row_with uid rows))
 row_named uid f [] fits = tt
 row_named uid f (row ∷ rows) fits = by (row.uid == uid) refl (row_named uid f rows fits)
   where
@@ -116,15 +116,15 @@ row_named uid f (row ∷ rows) fits = by (row.uid == uid) refl (row_named uid f 
     by true e more = ((fits row).0 ∙ eqb-true row.uid uid e, (fits row).1)
     by false e more = more
 
-text_short : (uid : ℕ) (copies : List (Job × ℕ)) → Every (λ (a : Job × ℕ). length a.0.text < 2 ^ 32) copies → length (text_with uid copies) < 2 ^ 32
+text_short : (uid : ℕ) (copies : List (Job × ℕ)) → Every (λ (a : Job × ℕ). length a.0.text.bytes < 2 ^ 32) copies → length (text_with uid copies).bytes < 2 ^ 32
 text_short uid [] h = omega arith
 text_short uid (a ∷ copies) h = by (a.1 == uid) (text_short uid copies h.1)
   where
-    by : (b : Bool) → length (text_with uid copies) < 2 ^ 32 → length (if b then a.0.text else text_with uid copies) < 2 ^ 32
+    by : (b : Bool) → length (text_with uid copies).bytes < 2 ^ 32 → length (if b then a.0.text else text_with uid copies).bytes < 2 ^ 32
     by true more = h.0
     by false more = more
 
-short_in : (w : World) (m uid : ℕ) → HasShortTexts w → length (text_with uid (w.box m).accepted) < 2 ^ 32
+short_in : (w : World) (m uid : ℕ) → HasShortTexts w → length (text_with uid (w.box m).accepted).bytes < 2 ^ 32
 short_in w m uid short = text_short uid (w.box m).accepted (every_of_all _ (w.box m).accepted (short m))
 
 -- ---- what is counted
@@ -141,7 +141,7 @@ every_any P (x ∷ xs) h = (h x, every_any P xs h)
 counted : (k : Config) (w : World) → Sound k w → HasSmallNumbers k → HasShortTexts w → (m : ℕ) (status : Status) → IsStatus k (w.box m) status → status.uidvalidity ≡ k.uidvalidity → IsCounted status
 counted k w S h short m status is validity =
     let rows : List Row = rows_of (w.box m).log in
-    let size : Row → ℕ = λ (row : Row). length (text_with row.uid (w.box m).accepted) in
+    let size : Row → ℕ = λ (row : Row). length (text_with row.uid (w.box m).accepted).bytes in
     let few : length rows ≤ last_uid = rows_few k w S m in
     let P : Row → Type 0 = λ (row : Row). size row ≤ 4294967295 in
     let each : (row : Row) → P row = λ row. omega (arith, short_in w m row.uid short) in

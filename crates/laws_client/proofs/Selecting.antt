@@ -15,7 +15,7 @@ use Rattle.imap_session.specs.declared.standing.After.TheVariants as afters
 use Rattle.imap_session.specs.declared.standing.Selected.{Selected}
 use Rattle.imap_session.specs.Exchange.{Answer, Entered, Looked, Found, Counted, Altered, Expunged, Fed, Left, Refused, Starved, Exchange, ForDone, ForLiteral, ForVerdict, ForNothing, Done, Wait, Write, Put, Enter, Look, Read, Count, Alter, Expunge, Feed, Leave, Standing, Turn, PendingLiteral, Sent, Waiting, closed, having, played, refusal_after, refusal_text, refused, saying, tagged, waiting, Folder, Mailing, is_idling, unkept, bye, Discard, Discarded, Origin, Batch, Copied, Client as FromClient}
 use Rattle.imap_session.proofs.Unkept.{unkept_by}
-use Rattle.imap_session.specs.Commands.{idle_turn_in, turn_of, fault_text, on_command, on_idle_line, on_read, on_rest, on_verdict, only_says, turn_with, without_begun, without_sent, appending, closing, completed, counting, entering, expunge_set, fetch_messages, fetched, fetching, folder_of, if_writable, in_writable, is_over, last_number, messages_done, most_unasked, nowhere, number_named, on_chosen, on_folder, on_found, on_set, on_text, over, says, selecting, showing, store_messages, stored, storing, unlimited, wanting, wanting_for, wrong_state, opened, asking, coming, logged_in, subscribing, telling_recent, entered_text, found_in, search_done, search_known, search_messages, searching, on_text_line, flags_for, mailbox_for, moving, copied_words, on_stored, told_copied, move_done, with_copy, copies_of, refused_text}
+use Rattle.imap_session.specs.Commands.{idle_turn_in, turn_of, fault_text, on_command, on_idle_line, on_read, on_rest, on_verdict, only_says, turn_with, without_begun, without_sent, appending, closing, completed, counting, entering, expunge_set, fetch_messages, fetched, fetching, folder_of, if_writable, in_writable, is_over, last_number, messages_done, most_unasked, nowhere, number_named, on_chosen, on_folder, on_found, on_set, on_text, over, says, selecting, showing, store_messages, stored, storing, unlimited, wanting, wanting_for, wrong_state, opened, asking, coming, logged_in, subscribing, telling_recent, entered_text, found_in, search_done, search_known, search_messages, searching, on_text_line, flags_for, date_for, mailbox_for, moving, copied_words, on_stored, told_copied, move_done, with_copy, copies_of, refused_text}
 use Rattle.delivery_token.specs.declared.Verdict.{Verdict}
 use Rattle.std.specs.List.{list_any}
 use Rattle.change_ring.specs.declared.change.Flags.{Flags}
@@ -181,11 +181,11 @@ in_fetching fetch mark view done [] gone h = h gone
 in_fetching fetch mark view done (uid ∷ uids) gone h = λ row.
     in_found (λ r. Write (fetched fetch view uid r) (fetching fetch mark view done uids gone)) (fetching fetch mark view done uids true) row (λ r. in_fetching fetch mark view done uids gone h) (in_fetching fetch mark view done uids true h)
 
-in_searching : (search : Search) (last : Named) (view uids found : List ℕ) → StaysIn (searching search last view (search_done search) uids found)
-in_searching search last view [] found = in_messages (commands.Search search) search.by_uid false
-in_searching search last view (uid ∷ uids) found = λ row.
-    in_found (λ r. searching search last view (search_done search) uids (found ++ found_in search last (named_at view uid) r)) (searching search last view (search_done search) uids found) row
-    (λ r. in_searching search last view uids (found ++ found_in search last (named_at view uid) r)) (in_searching search last view uids found)
+in_searching : (tag : List ℕ) (search : Search) (last : Named) (view uids found : List ℕ) → StaysIn (searching search last view (search_done tag search) uids found)
+in_searching tag search last view [] found = in_messages (commands.Search search) search.by_uid false
+in_searching tag search last view (uid ∷ uids) found = λ row.
+    in_found (λ r. searching search last view (search_done tag search) uids (found ++ found_in search last (named_at view uid) r)) (searching search last view (search_done tag search) uids found) row
+    (λ r. in_searching tag search last view uids (found ++ found_in search last (named_at view uid) r)) (in_searching tag search last view uids found)
 
 in_storing : (store : Store) (view : List ℕ) (done : Bool → Exchange) (uids : List ℕ) (gone : Bool) → ((b : Bool) → StaysIn (done b)) → StaysIn (storing store view done uids gone)
 in_storing store view done [] gone h = h gone
@@ -210,51 +210,51 @@ in_over (Some n) = tt
 in_append : (o : Option ℕ) (folders : List Folder) (a : Append) → StaysIn (appending o folders a)
 in_append o folders a =
     in_if a.literal.waits
-    (wanting (on_found (λ mailbox. if is_over o a.literal.size then over o else asking mailbox a.flags a.literal.size) nowhere (number_named a.name folders)))
-    (if nat_lt most_unasked a.literal.size then Wait (bye (response_text texts.LiteralTooBig)) ForNothing else coming (number_named a.name folders) a.flags a.literal.size)
-    (in_found (λ mailbox. if is_over o a.literal.size then over o else asking mailbox a.flags a.literal.size) nowhere (number_named a.name folders)
-    (λ mailbox. in_if (is_over o a.literal.size) (over o) (asking mailbox a.flags a.literal.size) (in_over o) tt) tt)
-    (in_if (nat_lt most_unasked a.literal.size) (Wait (bye (response_text texts.LiteralTooBig)) ForNothing) (coming (number_named a.name folders) a.flags a.literal.size) tt tt)
+    (wanting (on_found (λ mailbox. if is_over o a.literal.size then over o else asking mailbox a.flags a.date a.literal.size) nowhere (number_named a.name folders)))
+    (if nat_lt most_unasked a.literal.size then Wait (bye (response_text texts.LiteralTooBig)) ForNothing else coming (number_named a.name folders) a.flags a.date a.literal.size)
+    (in_found (λ mailbox. if is_over o a.literal.size then over o else asking mailbox a.flags a.date a.literal.size) nowhere (number_named a.name folders)
+    (λ mailbox. in_if (is_over o a.literal.size) (over o) (asking mailbox a.flags a.date a.literal.size) (in_over o) tt) tt)
+    (in_if (nat_lt most_unasked a.literal.size) (Wait (bye (response_text texts.LiteralTooBig)) ForNothing) (coming (number_named a.name folders) a.flags a.date a.literal.size) tt tt)
 
 in_subscribing : (folders : List Folder) (name : List ℕ) (command : Command) → StaysIn (subscribing folders name command)
 in_subscribing folders name command = in_found (λ (folder : Folder). completed command) (says (response_text texts.NoSuchMailbox)) (folder_of name folders) (λ folder. tt) tt
 
-in_copy : (now : Standing) (copy : CopyMessages) → StaysIn (on_command now (commands.Copy copy))
-in_copy now copy =
-    copies_so StaysIn (record { told = λ text. tt; wanted = λ x p. p; looked = λ by_uid set next p. p; found = λ uid mark next p. p }) now copy
+in_copy : (tag : List ℕ) (now : Standing) (copy : CopyMessages) → StaysIn (on_command tag now (commands.Copy copy))
+in_copy tag now copy =
+    copies_so StaysIn (record { told = λ text. tt; wanted = λ x p. p; looked = λ by_uid set next p. p; found = λ uid mark next p. p }) tag now copy
     (λ batch mailbox row copied. tt)
 
-pub in_command : (now : Standing) (command : Command) → stays command ≡ true → StaysIn (on_command now command)
-in_command now commands.Noop e = in_showing now.selected (completed commands.Noop) tt
-in_command now (commands.Select name) e = absurd (false≢true e)
-in_command now (commands.Examine name) e = absurd (false≢true e)
-in_command now (commands.List reference pattern) e = in_showing now.selected (completed (commands.List reference pattern)) tt
-in_command now (commands.Lsub reference pattern) e = in_showing now.selected (completed (commands.Lsub reference pattern)) tt
-in_command now (commands.Subscribe name) e = in_subscribing now.folders name (commands.Subscribe name)
-in_command now (commands.Unsubscribe name) e = in_subscribing now.folders name (commands.Unsubscribe name)
-in_command now commands.Check e = in_showing now.selected (completed commands.Check) tt
-in_command now (commands.Status name items) e =
+pub in_command : (tag : List ℕ) (now : Standing) (command : Command) → stays command ≡ true → StaysIn (on_command tag now command)
+in_command tag now commands.Noop e = in_showing now.selected (completed commands.Noop) tt
+in_command tag now (commands.Select name) e = absurd (false≢true e)
+in_command tag now (commands.Examine name) e = absurd (false≢true e)
+in_command tag now (commands.List reference pattern) e = in_showing now.selected (completed (commands.List reference pattern)) tt
+in_command tag now (commands.Lsub reference pattern) e = in_showing now.selected (completed (commands.Lsub reference pattern)) tt
+in_command tag now (commands.Subscribe name) e = in_subscribing now.folders name (commands.Subscribe name)
+in_command tag now (commands.Unsubscribe name) e = in_subscribing now.folders name (commands.Unsubscribe name)
+in_command tag now commands.Check e = in_showing now.selected (completed commands.Check) tt
+in_command tag now (commands.Status name items) e =
     in_found (counting now.selected name items) (says (response_text texts.NoSuchMailbox)) (folder_of name now.folders) (λ folder status. in_showing now.selected (completed (commands.Status name items)) tt) tt
-in_command now commands.Close e = absurd (false≢true e)
-in_command now commands.Unselect e = absurd (false≢true e)
-in_command now commands.Expunge e = stay_writable now (Expunge None (Feed unlimited (completed commands.Expunge))) tt
-in_command now (commands.UidExpunge set) e =
+in_command tag now commands.Close e = absurd (false≢true e)
+in_command tag now commands.Unselect e = absurd (false≢true e)
+in_command tag now commands.Expunge e = stay_writable now (Expunge None (Feed unlimited (completed commands.Expunge))) tt
+in_command tag now (commands.UidExpunge set) e =
     stay_writable now (expunge_set set) (in_chosen true set (λ view uids. wanting_for uids (Expunge (Some uids) (Feed unlimited (completed (commands.UidExpunge set))))) (λ view. elim [ [] ↦ tt | uid ∷ uids ↦ tt ]))
-in_command now (commands.Fetch fetch) e = in_found (fetch_messages fetch) wrong_state now.selected
+in_command tag now (commands.Fetch fetch) e = in_found (fetch_messages fetch) wrong_state now.selected
     (λ (selected : Selected). in_chosen fetch.by_uid fetch.set
     (λ view uids. fetching fetch (list_any marks_seen fetch.items && not selected.read_only) view (messages_done (commands.Fetch fetch) fetch.by_uid) uids false)
     (λ view uids. in_fetching fetch (list_any marks_seen fetch.items && not selected.read_only) view (messages_done (commands.Fetch fetch) fetch.by_uid) uids false (λ b. in_messages (commands.Fetch fetch) fetch.by_uid b))) tt
-in_command now (commands.Search search) e =
-    in_found (search_known search) wrong_state now.selected
-    (λ s. in_if search.known_charset (search_messages search) (says (response_text texts.BadCharset))
-    (in_chosen true all_messages (λ view uids. wanting (searching search (named_at view (last_uid uids)) view (search_done search) uids []))
-    (λ view uids. in_searching search (named_at view (last_uid uids)) view uids [])) tt) tt
-in_command now (commands.Store store) e = stay_writable now (store_messages store)
+in_command tag now (commands.Search search) e =
+    in_found (search_known tag search) wrong_state now.selected
+    (λ s. in_if search.known_charset (search_messages tag search) (says (response_text texts.BadCharset))
+    (in_chosen true all_messages (λ view uids. wanting (searching search (named_at view (last_uid uids)) view (search_done tag search) uids []))
+    (λ view uids. in_searching tag search (named_at view (last_uid uids)) view uids [])) tt) tt
+in_command tag now (commands.Store store) e = stay_writable now (store_messages store)
     (in_chosen store.by_uid store.set (λ view uids. storing store view (messages_done (commands.Store store) store.by_uid) uids false)
     (λ view uids. in_storing store view (messages_done (commands.Store store) store.by_uid) uids false (λ b. in_messages (commands.Store store) store.by_uid b)))
-in_command now (commands.Append append) e = in_append now.mailing.most now.folders append
-in_command now (commands.Copy copy) e = in_copy now copy
-in_command now _ e = tt
+in_command tag now (commands.Append append) e = in_append now.mailing.most now.folders append
+in_command tag now (commands.Copy copy) e = in_copy tag now copy
+in_command tag now _ e = tt
 
 pub in_rest : (mailing : Mailing) (a : PendingLiteral) (empty : Bool) → StaysIn (on_rest mailing a empty)
 in_rest mailing a empty =
@@ -264,7 +264,7 @@ in_rest mailing a empty =
     submits : (text : List ℕ) (mailbox : ℕ) → StaysIn (on_text mailing a text mailbox)
     submits text mailbox = by (is_over mailing.most a.size) (list_any (λ b. b == 0) text) (nat_le last_number mailing.number)
       where
-        by : (x y z : Bool) → StaysIn (if x then over mailing.most else if y then says (response_text texts.NulByte) else if z then says (response_text texts.MailboxSpent) else wanting (Wait [] (ForVerdict FromClient mailbox (flags_for a.purpose) text)))
+        by : (x y z : Bool) → StaysIn (if x then over mailing.most else if y then says (response_text texts.NulByte) else if z then says (response_text texts.MailboxSpent) else wanting (Wait [] (ForVerdict FromClient mailbox (flags_for a.purpose) (record { bytes = text; date = date_for a.purpose }))))
         by true y z = in_over mailing.most
         by false true z = tt
         by false false true = tt
@@ -394,7 +394,7 @@ closes_sel tag words now remove (Some selected) answers turn client t ok e k = l
 
 -- ---- lines
 
-command_sel : (now : Standing) (tag : List ℕ) (command : Command) (answers : List Answer) (turn : Turn) (client : Option Client) → IsTag tag → played tag now (on_command now command) answers ≡ Some turn → Known_selected client now
+command_sel : (now : Standing) (tag : List ℕ) (command : Command) (answers : List Answer) (turn : Turn) (client : Option Client) → IsTag tag → played tag now (on_command tag now command) answers ≡ Some turn → Known_selected client now
     → (stays command ≡ true → Known_selected (reads_on turn.bytes client) turn.standing) → Known_selected (answered (asked_by tag command) turn.bytes client) turn.standing
 command_sel now tag (commands.Select name) answers turn client t e k more = selecting_sel tag now false name answers turn client t e
 command_sel now tag (commands.Examine name) answers turn client t e k more = selecting_sel tag now true name answers turn client t e
@@ -425,7 +425,7 @@ read_sel now (Ok line) answers turn client t e k =
     (λ logs d. subst (λ (a : Asked). Known_selected (answered a turn.bytes client) turn.standing) (sym (login_asks now.login line.0 line.1 logs))
     (reads_sel turn.bytes client now turn.standing k (selected_stays line.0 (logged_in now) (completed line.1) answers turn tt d)))
     (λ text is d. told_sel now line.0 line.1 text answers turn client t is d k)
-    (λ d. command_sel now line.0 line.1 answers turn client t d k (λ stay. reads_sel turn.bytes client now turn.standing k (selected_stays line.0 now (on_command now line.1) answers turn (in_command now line.1 stay) d))) e
+    (λ d. command_sel now line.0 line.1 answers turn client t d k (λ stay. reads_sel turn.bytes client now turn.standing k (selected_stays line.0 now (on_command line.0 now line.1) answers turn (in_command line.0 now line.1 stay) d))) e
 read_sel now (Err fault) answers turn client t e k = reads_sel turn.bytes client now turn.standing k (fault_sel now (fault_text now.profile fault) answers turn e)
 
 -- a line that isn't whole yet, or is given up
@@ -447,7 +447,7 @@ line_sel : (now : Standing) (line : List ℕ) (answers : List Answer) (turn : Tu
 line_sel now line answers turn client e k =
     turn_has (λ whole o. o ≡ Some turn → Known_selected (hears client (told_line whole turn.bytes)) turn.standing) now line answers
     (λ tag b i d. reads_sel turn.bytes client now turn.standing k (selected_stays tag (record now { idling = None }) (on_idle_line now.selected line) answers turn (in_idle_line now.selected line) d))
-    (λ a mailbox flags b p d. reads_sel turn.bytes client now turn.standing k (selected_stays a.tag (without_begun now) (on_rest now.mailing a (length line == 0)) answers turn (in_rest now.mailing a (length line == 0)) d))
+    (λ a mailbox flags date b p d. reads_sel turn.bytes client now turn.standing k (selected_stays a.tag (without_begun now) (on_rest now.mailing a (length line == 0)) answers turn (in_rest now.mailing a (length line == 0)) d))
     (λ a x b part d. reads_sel turn.bytes client now turn.standing k (selected_stays a.tag (without_begun now) x answers turn (in_part x part) d))
     (λ whole w d. text_sel (without_begun now) whole answers turn client d k) e
 

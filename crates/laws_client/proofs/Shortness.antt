@@ -5,6 +5,7 @@ use Rattle.shard_queue.specs.At.{set_at}
 use Rattle.shard_queue.proofs.AtLaws.{at_each}
 use Rattle.change_ring.specs.declared.change.Flags.{Flags}
 use Rattle.delivery_token.specs.declared.CopyKey.{CopyKey}
+use Rattle.delivery_token.specs.Text.{Text}
 use Rattle.delivery_token.specs.declared.Job.{Job}
 use Rattle.delivery_token.specs.declared.log.Noted.{Noted}
 use Rattle.delivery_token.specs.Copies.{copies}
@@ -45,14 +46,14 @@ use Rattle.laws_client.proofs.Texts.{AreShort, IsJobShort, PutsShort, short_empt
 fits : (most n : ℕ) → most < 2 ^ 31 → n ≤ most + most_return_path → n < 2 ^ 32
 fits most n small h = omega (arith, small, h)
 
-copies_short : (keys : List CopyKey) (mailboxes text : List ℕ) (flags : Flags) → length text < 2 ^ 32 → Every IsJobShort (copies keys mailboxes text flags)
+copies_short : (keys : List CopyKey) (mailboxes : List ℕ) (text : Text) (flags : Flags) → length text.bytes < 2 ^ 32 → Every IsJobShort (copies keys mailboxes text flags)
 copies_short [] mailboxes text flags h = tt
 copies_short (key ∷ keys) [] text flags h = tt
 copies_short (key ∷ keys) (m ∷ mailboxes) text flags h = (h, copies_short keys mailboxes text flags h)
 
 all_short : (most : ℕ) (ss : List Submission) → most < 2 ^ 31 → AreTextsShort most ss → Every IsJobShort (copies_of ss)
 all_short most [] small h = tt
-all_short most (s ∷ ss) small h = every_append IsJobShort (copies s.keys s.mailboxes s.text _) (copies_of ss) (copies_short s.keys s.mailboxes s.text _ (fits most (length s.text) small h.0)) (all_short most ss small h.1)
+all_short most (s ∷ ss) small h = every_append IsJobShort (copies s.keys s.mailboxes s.text _) (copies_of ss) (copies_short s.keys s.mailboxes s.text _ (fits most (length s.text.bytes) small h.0)) (all_short most ss small h.1)
 
 -- ---- connections
 
@@ -138,9 +139,9 @@ converses_short step most (silent now old) k = k
 converses_short step most (ends_with now next one old new said how stops a) k = one_short step most now one old new said how next a k
 converses_short step most (goes_on now between next one others old mid new first second how follows a more) k = converses_short step most more (one_short step most now one old mid first _ between a k)
 
-sent_short : (most seat serial : ℕ) (sent : Option Sent) → most < 2 ^ 31 → IfSome sent (λ s. (length s.append.text ≤ most + most_return_path) × OriginFits most s.origin) → Every IsJobShort (seated.copies_of seat serial sent)
+sent_short : (most seat serial : ℕ) (sent : Option Sent) → most < 2 ^ 31 → IfSome sent (λ s. (length s.append.text.bytes ≤ most + most_return_path) × OriginFits most s.origin) → Every IsJobShort (seated.copies_of seat serial sent)
 sent_short most seat serial None small h = tt
-sent_short most seat serial (Some s) small h = copies_short (seated.keys_of seat serial (Some s)) (s.append.mailbox ∷ []) s.append.text s.append.flags (fits most (length s.append.text) small h.0)
+sent_short most seat serial (Some s) small h = copies_short (seated.keys_of seat serial (Some s)) (s.append.mailbox ∷ []) s.append.text s.append.flags (fits most (length s.append.text.bytes) small h.0)
 
 session_works : {S : Type 0} (step : S → calls.Call → calls.Answer → S → Type 0) (most seat : ℕ) (v : SeatedVisitor) (old new : S) (after : SeatedVisitor) (said : List ℕ) → most < 2 ^ 31 → IsMailShort most v.session.standing.mailing
     → seated.Works step seat v old new after said → SessionShort most after

@@ -13,10 +13,12 @@ use Rattle.imap_grammar.specs.declared.command.Command.{Command}
 use Rattle.imap_grammar.specs.declared.command.Command.TheVariants as commands
 use Rattle.imap_grammar.specs.declared.command.ImapFault.{ImapFault}
 use Rattle.delivery_token.specs.declared.Verdict.{Verdict}
+use Rattle.mail_date.specs.declared.stamp.Stamp.{Stamp}
+use Rattle.delivery_token.specs.Text.{Text}
 use Rattle.mailbox.specs.declared.clients.MailFault.TheVariants.{Stranger, Lapped}
 use Rattle.imap_session.specs.declared.standing.Selected.{Selected}
 use Rattle.imap_session.specs.Exchange.{Answer, Fed, Refused, is_idling, PendingLiteral, Asked, Dropped, Folder, ForDone, ForLiteral, ForNothing, ForVerdict, Mailing, Sent, Standing, Turn, Unasked, Waiting, waiting, Argument, Message, Response, Purpose, Origin, Client, Copied, Batch}
-use Rattle.imap_session.specs.Commands.{due_of, fault_text, idle_turn_in, kept_text, number_named, on_command, on_idle_line, on_read, on_rest, on_verdict, only_says, taking, turn_of, turn_with, with_bytes, without_begun, without_sent, logged_in, logs_in_as, on_line, says, on_text_line, flags_for, mailbox_for, completed, response_in, most_line}
+use Rattle.imap_session.specs.Commands.{due_of, fault_text, idle_turn_in, kept_text, number_named, on_command, on_idle_line, on_read, on_rest, on_verdict, only_says, taking, turn_of, turn_with, with_bytes, without_begun, without_sent, logged_in, logs_in_as, on_line, says, on_text_line, date_for, flags_for, mailbox_for, completed, response_in, most_line}
 use Rattle.imap_session.specs.Store.{IdleTurns, Met}
 use Rattle.house_peers.proofs.Rising.{idles_keep}
 use Rattle.laws_client.specs.Talks.{Happening, Line, LongLine, Turned, Literal, Heard, leads_to}
@@ -45,7 +47,7 @@ pub line_stays : (Q : Standing → Type 0) → ((tag : List ℕ) → Keeps Q tag
 line_stays Q keeps now line answers turn r s l e =
     turn_has (λ whole o. o ≡ Some turn → Q turn.standing) now line answers
     (λ tag b i d. played_keeps Q tag (keeps tag) (record now { idling = None }) (on_idle_line now.selected line) answers turn r d)
-    (λ a mailbox flags b p d. played_keeps Q a.tag (keeps a.tag) bare (on_rest now.mailing a (length line == 0)) answers turn s d)
+    (λ a mailbox flags date b p d. played_keeps Q a.tag (keeps a.tag) bare (on_rest now.mailing a (length line == 0)) answers turn s d)
     (λ a x b part d. played_keeps Q a.tag (keeps a.tag) bare x answers turn s d)
     (λ whole w d. text_line_has (λ o. o ≡ Some turn → Q turn.standing) bare whole answers (λ tag x part f. played_keeps Q tag (keeps tag) bare x answers turn s f) (λ f. reads (read whole) f) d) e
   where
@@ -59,7 +61,7 @@ line_stays Q keeps now line answers turn r s l e =
     reads : (found : Result (List ℕ × Command) ImapFault) → on_read bare found answers ≡ Some turn → Q turn.standing
     reads (Ok c) e =
         line_case (Q turn.standing) bare c.0 c.1 answers turn (λ logs d. played_keeps Q c.0 (keeps c.0) (logged_in bare) (completed c.1) answers turn l d)
-        (λ text is d. played_keeps Q c.0 (keeps c.0) bare (says (response_text text)) answers turn s d) (λ d. played_keeps Q c.0 (keeps c.0) bare (on_command bare c.1) answers turn s d) e
+        (λ text is d. played_keeps Q c.0 (keeps c.0) bare (says (response_text text)) answers turn s d) (λ d. played_keeps Q c.0 (keeps c.0) bare (on_command c.0 bare c.1) answers turn s d) e
     reads (Err fault) e = said (fault_text now.profile fault) answers e
 
 -- its mailboxes
@@ -88,7 +90,7 @@ pub record SaysLine (sent line : List ℕ) : Type 0 where
   pub whole : sent ≡ front ++ (bytes ++ crlf)
 
 -- of a message whose bytes come, so many of them came, behind its line
-pub record MessageWith (folders : List Folder) (sent : List ℕ) (to : Option ℕ) (with : Flags) (a : PendingLiteral) (text : List ℕ) : Type 0 where
+pub record MessageWith (folders : List Folder) (sent : List ℕ) (to : Option ℕ) (with : Flags) (dated : Option Stamp) (a : PendingLiteral) (text : List ℕ) : Type 0 where
   pub front : List ℕ
   pub bytes : List ℕ
   pub line : List ℕ
@@ -97,6 +99,7 @@ pub record MessageWith (folders : List Folder) (sent : List ℕ) (to : Option �
   pub reads : read line ≡ Ok (a.tag, commands.Append append)
   pub named : to ≡ number_named append.name folders
   pub flags : with ≡ append.flags
+  pub date : dated ≡ append.date
   pub size : length text + a.due ≡ append.literal.size
   pub whole : sent ≡ front ++ (bytes ++ crlf) ++ text
 
@@ -124,7 +127,7 @@ pub record ResponseWith (sent before : List ℕ) (a : PendingLiteral) (text : Li
   pub whole : sent ≡ front ++ (bytes ++ crlf) ++ text
 
 abbrev pub IsBegunFor : Purpose → List Folder → List ℕ → PendingLiteral → List ℕ → Type 0
-IsBegunFor (Message mailbox flags) folders sent a text = MessageWith folders sent mailbox flags a text
+IsBegunFor (Message mailbox flags date) folders sent a text = MessageWith folders sent mailbox flags date a text
 IsBegunFor (Argument before) folders sent a text = ArgumentWith sent before a text
 IsBegunFor (Response before) folders sent a text = ResponseWith sent before a text
 
@@ -149,8 +152,9 @@ appended_more folders sent bytes message h = record {
   reads = h.reads;
   named = h.named;
   flags = h.flags;
+  date = h.date;
   size = h.size;
-  whole = ap (λ (x : List ℕ). x ++ bytes) h.whole ∙ append_assoc (h.front ++ (h.bytes ++ crlf) ++ message.append.text ++ crlf) h.behind bytes;
+  whole = ap (λ (x : List ℕ). x ++ bytes) h.whole ∙ append_assoc (h.front ++ (h.bytes ++ crlf) ++ message.append.text.bytes ++ crlf) h.behind bytes;
 }
 
 pub copied_more : (folders : List Folder) (sent bytes : List ℕ) (message : Sent) (batch : Batch) → IsCopyOf folders sent message batch
@@ -242,7 +246,7 @@ coming tag purpose size = record { tag = tag; purpose = purpose; size = size; du
 
 -- it waits so for its literal
 waits_for_it : (A : Waiting → Type 0) (folders : List Folder) (sent bytes tag : List ℕ) (now next : Standing) → Mailed folders sent now → next.folders ≡ now.folders → (A ForDone → ⊥)
-    → ((origin : Origin) (mailbox : ℕ) (flags : Flags) (text : List ℕ) → A (ForVerdict origin mailbox flags text) → ⊥)
+    → ((origin : Origin) (mailbox : ℕ) (flags : Flags) (text : Text) → A (ForVerdict origin mailbox flags text) → ⊥)
     → ((p : Purpose) (size : ℕ) → A (ForLiteral Asked p size) → IsBegunAs folders (sent ++ bytes) (coming tag p size)) → ((p : Purpose) (size : ℕ) → A (ForLiteral Unasked p size) → IsBegunAs folders (sent ++ bytes) (coming tag p size))
     → IsMail A tag (without_begun now).mailing next.mailing → Mailed folders (sent ++ bytes) next
 waits_for_it A folders sent bytes tag now next m same no_done no_verdict asked unasked (inl e) = same_mail folders sent bytes now next m same (ap (λ (x : Mailing). x.sent) e) (ap (λ (x : Mailing). x.begun) e)
@@ -263,9 +267,9 @@ append_begins folders sent bytes line tag append now next m same says reads mail
     waits_for_it (ForItsLiteral (number_named append.name now.folders) append) folders sent bytes tag now next m same (λ p. p) (λ origin mailbox flags text p. p)
     (λ p size h. begins p size h.0 h.1) (λ p size h. begins p size h.0 h.1) mail
   where
-    begins : (purpose : Purpose) (size : ℕ) → purpose ≡ Message (number_named append.name now.folders) append.flags → size ≡ append.literal.size → IsBegunAs folders (sent ++ bytes) (coming tag purpose size)
+    begins : (purpose : Purpose) (size : ℕ) → purpose ≡ Message (number_named append.name now.folders) append.flags append.date → size ≡ append.literal.size → IsBegunAs folders (sent ++ bytes) (coming tag purpose size)
     begins purpose size p s =
-        begun_so (Message (number_named append.name now.folders) append.flags) folders (sent ++ bytes) (coming tag purpose size) refl (record {
+        begun_so (Message (number_named append.name now.folders) append.flags append.date) folders (sent ++ bytes) (coming tag purpose size) refl (record {
           front = says.front;
           bytes = says.bytes;
           line = line;
@@ -274,6 +278,7 @@ append_begins folders sent bytes line tag append now next m same says reads mail
           reads = reads;
           named = ap (number_named append.name) m.same;
           flags = refl;
+          date = refl;
           size = omega (arith, s);
           whole = says.whole ∙ sym (append-nil (says.front ++ (says.bytes ++ crlf)));
         }) p
@@ -354,7 +359,7 @@ copy_waits folders sent bytes line tag copy now next m same says reads (inr (For
 -- ---- its bytes come, and then the rest of the line
 
 more_came : (purpose : Purpose) (folders : List Folder) (sent bytes had text : List ℕ) (kept : Bool) (a : PendingLiteral) → length bytes ≤ a.due → had ++ bytes ≡ text → IsBegunFor purpose folders sent a had → IsBegunFor purpose folders (sent ++ bytes) (taking kept bytes a) text
-more_came (Message mailbox flags) folders sent bytes had text kept a few all b = record {
+more_came (Message mailbox flags date) folders sent bytes had text kept a few all b = record {
   front = b.front;
   bytes = b.bytes;
   line = b.line;
@@ -363,6 +368,7 @@ more_came (Message mailbox flags) folders sent bytes had text kept a few all b =
   reads = b.reads;
   named = b.named;
   flags = b.flags;
+  date = b.date;
   size = omega (arith, b.size, few, ap length all, length-append had bytes);
   whole = longer b.front (b.bytes ++ crlf) sent bytes had text b.whole all;
 }
@@ -397,15 +403,15 @@ bytes_come folders sent bytes kept a few h text is = by kept a.text refl is
     by false (Some had) t e = absurd (none-some text e)
     by true (Some had) t e = more_came a.purpose folders sent bytes had text kept a few (ap (the_text text) e) (h had t)
 
-rest_comes : (folders : List Folder) (sent line : List ℕ) (a : PendingLiteral) (to : Option ℕ) (with : Flags) (now next : Standing) → Mailed folders sent now → next.folders ≡ now.folders → now.mailing.begun ≡ Some a → a.purpose ≡ Message to with → a.due ≡ 0
+rest_comes : (folders : List Folder) (sent line : List ℕ) (a : PendingLiteral) (to : Option ℕ) (with : Flags) (dated : Option Stamp) (now next : Standing) → Mailed folders sent now → next.folders ≡ now.folders → now.mailing.begun ≡ Some a → a.purpose ≡ Message to with dated → a.due ≡ 0
     → IsMail (ForItsVerdict a (length line == 0)) a.tag (without_begun now).mailing next.mailing → Mailed folders (sent ++ (line ++ crlf)) next
-rest_comes folders sent line a to with now next m same begun purpose due (inl e) = same_mail folders sent (line ++ crlf) now next m same (ap (λ (x : Mailing). x.sent) e) (ap (λ (x : Mailing). x.begun) e)
-rest_comes folders sent line a to with now next m same begun purpose due (inr (ForDone, p, e)) = absurd p
-rest_comes folders sent line a to with now next m same begun purpose due (inr (ForNothing, p, e)) = absurd p
-rest_comes folders sent line a to with now next m same begun purpose due (inr (ForLiteral coming q size, p, e)) = absurd p
-rest_comes folders sent line a to with now next m same begun purpose due (inr (ForVerdict origin mailbox flags text, p, e)) =
+rest_comes folders sent line a to with dated now next m same begun purpose due (inl e) = same_mail folders sent (line ++ crlf) now next m same (ap (λ (x : Mailing). x.sent) e) (ap (λ (x : Mailing). x.begun) e)
+rest_comes folders sent line a to with dated now next m same begun purpose due (inr (ForDone, p, e)) = absurd p
+rest_comes folders sent line a to with dated now next m same begun purpose due (inr (ForNothing, p, e)) = absurd p
+rest_comes folders sent line a to with dated now next m same begun purpose due (inr (ForLiteral coming q size, p, e)) = absurd p
+rest_comes folders sent line a to with dated now next m same begun purpose due (inr (ForVerdict origin mailbox flags text, p, e)) =
     let h : IsBegunAs folders sent a = subst (λ (o : Option PendingLiteral). IfSome o (IsBegunAs folders sent)) begun m.begun in
-    let b : MessageWith folders sent to with a text = subst (λ (q : Purpose). IsBegunFor q folders sent a text) purpose (h text p.2) in
+    let b : MessageWith folders sent to with dated a text.bytes = subst (λ (q : Purpose). IsBegunFor q folders sent a text.bytes) purpose (h text.bytes p.2) in
     let empty : line ≡ [] = no_bytes line p.3 in
     let message : Sent = record { tag = a.tag; append = record { message = now.mailing.number; mailbox = mailbox; text = text; flags = flags }; origin = origin } in record {
       same = same ∙ m.same;
@@ -420,8 +426,9 @@ rest_comes folders sent line a to with now next m same begun purpose due (inr (F
         reads = b.reads;
         named = sym b.named ∙ sym (ap mailbox_for purpose) ∙ p.0;
         flags = p.1 ∙ ap flags_for purpose ∙ b.flags;
+        date = p.5 ∙ ap date_for purpose ∙ b.date;
         size = omega (arith, b.size, due);
-        whole = ap (λ (x : List ℕ). sent ++ (x ++ crlf)) empty ∙ ap (λ (x : List ℕ). x ++ crlf) b.whole ∙ sym (append-nil (((b.front ++ (b.bytes ++ crlf)) ++ text) ++ crlf));
+        whole = ap (λ (x : List ℕ). sent ++ (x ++ crlf)) empty ∙ ap (λ (x : List ℕ). x ++ crlf) b.whole ∙ sym (append-nil (((b.front ++ (b.bytes ++ crlf)) ++ text.bytes) ++ crlf));
       }));
     }
 
@@ -444,7 +451,7 @@ says_line : (folders : List Folder) (sent line whole : List ℕ) (now : Standing
 says_line folders sent line whole now m due e = behind now.mailing.begun now.idling m.begun due e
   where
     for : (a : PendingLiteral) (purpose : Purpose) → a.due ≡ 0 → ((text : List ℕ) → a.text ≡ Some text → IsBegunFor purpose folders sent a text) → whole_behind purpose a.text line ≡ Some whole → SaysLine (sent ++ (line ++ crlf)) whole
-    for a (Message mailbox flags) none h e = absurd (none-some whole e)
+    for a (Message mailbox flags date) none h e = absurd (none-some whole e)
     for a (Argument before) none h e =
         let j = joined_is a.text (λ text. before ++ quoted text ++ line) whole e in
         let b = h j.0 j.1 in record {
@@ -514,7 +521,7 @@ line_mailed folders sent line now answers turn m due e =
     turn_given (λ whole o. o ≡ Some turn → Mailed folders (sent ++ (line ++ crlf)) turn.standing) now line answers
     (λ tag b i d. let mailing = idling_mail tag (record now { idling = None }) now.selected line answers turn d in
     same_mail folders sent (line ++ crlf) now turn.standing m same (ap (λ (x : Mailing). x.sent) mailing) (ap (λ (x : Mailing). x.begun) mailing ∙ b))
-    (λ a mailbox flags b p d. rest_comes folders sent line a mailbox flags now turn.standing m same b p (sym (ap due_of b) ∙ due) (rest_mail (without_begun now) now.mailing a (length line == 0) answers turn d))
+    (λ a mailbox flags date b p d. rest_comes folders sent line a mailbox flags date now turn.standing m same b p (sym (ap due_of b) ∙ due) (rest_mail (without_begun now) now.mailing a (length line == 0) answers turn d))
     (λ a told parting b t p d. let mailing = given_mail a.tag (without_begun now) line told parting answers turn d in
     same_mail folders sent (line ++ crlf) now turn.standing m same (ap (λ (x : Mailing). x.sent) mailing) (ap (λ (x : Mailing). x.begun) mailing))
     (λ whole w d. text_mailed folders sent (line ++ crlf) whole now answers turn m (says_line folders sent line whole now m due w) same d) e
@@ -543,7 +550,7 @@ unfolding HasFolders
 verdict_folders s now verdict answers turn e = played_keeps (HasFolders now.folders) s.tag (folders_keep now.folders s.tag) (without_sent now) (on_verdict now.mailing now.selected s.origin s.append.mailbox verdict) answers turn refl e
 
 -- the next message of a batch, behind one whose copy was stored, came by the same command
-next_came : (folders : List Folder) (sent : List ℕ) (s : Sent) (verdict : Verdict) (number to : ℕ) (flags : Flags) (text : List ℕ) (next : Origin) → CameAs folders sent s → IsNext s.origin verdict next flags text → to ≡ s.append.mailbox
+next_came : (folders : List Folder) (sent : List ℕ) (s : Sent) (verdict : Verdict) (number to : ℕ) (flags : Flags) (text : Text) (next : Origin) → CameAs folders sent s → IsNext s.origin verdict next flags text → to ≡ s.append.mailbox
     → CameAs folders sent (record { tag = s.tag; append = record { message = number; mailbox = to; text = text; flags = flags }; origin = next })
 next_came folders sent s verdict number to flags text next came n same =
     let h : IsCopyOf folders sent s n.batch = subst (λ (o : Origin). CameBy o folders sent s) n.was came in

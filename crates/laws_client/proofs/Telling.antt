@@ -6,8 +6,7 @@ use Rattle.std.proofs.lemmas.Bool.{false≢true}
 use Rattle.change_ring.specs.declared.change.Flags.{Flags}
 use Rattle.cursor_set.specs.Lines.{flag_words, position, spaced}
 use Rattle.mailbox.specs.declared.clients.Row.{Row}
-use Rattle.mail_date.proofs.Plain.{message_dated}
-use Rattle.mail_date.specs.Fields.{message_date}
+use Rattle.delivery_token.specs.Text.{date_of}
 use Rattle.imap_answers.specs.Answers.{answered, fetch_answer, item_text, part, part_bytes, row_answer, section, flags_answer}
 use Rattle.imap_grammar.specs.declared.items.FetchItem.{FetchItem}
 use Rattle.imap_grammar.specs.declared.items.FetchItem.TheVariants as fetch
@@ -19,7 +18,7 @@ use Rattle.laws_client.proofs.Fetched.{answer_read, answered_told, row_of, store
 use Rattle.laws_client.proofs.Chosen.{small_in}
 use Rattle.laws_client.proofs.Follows.{position_most}
 use Rattle.laws_client.proofs.Items.{item_closed, body_words, date_other, date_read, date_words, digits_closed, digits_other, flag_list, flag_list_other, flags_of, is_other, number_words, other_passes, rfc822_other, rfc822_read, rfc822_words, tail, words_append}
-use Rattle.laws_client.proofs.Kept.{body_word, count_kept, item_kept, IsSmall, part_small}
+use Rattle.laws_client.proofs.Kept.{body_word, count_kept, item_kept, IsSmall, part_small, text_dated}
 use Rattle.laws_client.specs.Flags.{Believes, FlagsOf, Point, counted}
 use Rattle.laws_client.specs.FlagTurns.{LeavesFlags}
 use Rattle.laws_client.specs.FlagLaws.{RowTellsFlags, StoreTellsFlags}
@@ -106,17 +105,17 @@ item_keeps P Q row fetch.Uid last a small told =
     subst (λ (ws : List (List ℕ)). Keeps P Q (codes "UID" ∷ ws)) (sym (number_words row.uid last small.uid)) (uid_keeps P Q row last a small.uid)
 item_keeps P Q row fetch.Flags last a small told = flags_keep P Q row last a
 item_keeps P Q row fetch.Size last a small told =
-    let n : ℕ = length row.text in
+    let n : ℕ = length row.text.bytes in
     subst (λ (ws : List (List ℕ)). Keeps P Q (codes "RFC822.SIZE" ∷ ws)) (sym (number_words n last small.text))
     (others_keep P Q (codes "RFC822.SIZE" ∷ (decimal n ++ tail last) ∷ []) (rw (digits_other (decimal n) last (decimal_digits n small.text)) refl))
 item_keeps P Q row fetch.InternalDate last a small told =
     subst (λ (ws : List (List ℕ)). Keeps P Q ws) (sym (date_read row.text last))
-    (others_keep P Q (date_words (message_date row.text) last) (date_other (message_date row.text) last (message_dated row.text)))
+    (others_keep P Q (date_words (date_of row.text) last) (date_other (date_of row.text) last (text_dated row.text)))
 item_keeps P Q row (fetch.Rfc822 which) last a small told =
     subst (λ (ws : List (List ℕ)). Keeps P Q ws) (sym (rfc822_read row which last small))
-    (others_keep P Q (rfc822_words which (section which row.text) last) (rfc822_other which (section which row.text) last))
+    (others_keep P Q (rfc822_words which (section which row.text.bytes) last) (rfc822_other which (section which row.text.bytes) last))
 item_keeps P Q row (fetch.Body peek which span) last a small told =
-    let bytes : List ℕ = part span (part_bytes which row.text) in
+    let bytes : List ℕ = part span (part_bytes which row.text.bytes) in
     subst (λ (ws : List (List ℕ)). Keeps P Q ws) (sym (body_words which span bytes last told.0 told.1 (part_small row which span small)))
     (others_keep P Q (body_word which span ∷ (count_kept bytes ++ tail last) ∷ []) refl)
 
@@ -159,7 +158,7 @@ answer_tells p row list there few small parts had known right =
       each = t.each;
     }
 
-pub row_tells : (p : Point) (uid : ℕ) (by_uid : Bool) (list : List FetchItem) (row : Row) → IsIn uid (counted p) → length (counted p) + 1 < 2 ^ 64 → uid < 2 ^ 64 → row.uid ≡ uid → length row.text < 2 ^ 64
+pub row_tells : (p : Point) (uid : ℕ) (by_uid : Bool) (list : List FetchItem) (row : Row) → IsIn uid (counted p) → length (counted p) + 1 < 2 ^ 64 → uid < 2 ^ 64 → row.uid ≡ uid → length row.text.bytes < 2 ^ 64
     → AreToldParts list → FlagsOf p.log p.cursor uid (flag_words row.flags) → LeavesFlags p (row_answer (position uid (counted p)) by_uid list row)
 row_tells p uid by_uid list row there few fits is small parts had =
     subst (λ (u : ℕ). LeavesFlags p (row_answer (position u (counted p)) by_uid list row)) is

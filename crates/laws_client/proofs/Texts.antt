@@ -6,6 +6,7 @@ use Rattle.shard_queue.specs.Lane.{Lane, put, took}
 use Rattle.shard_queue.specs.declared.lane.Entry.{Entry}
 use Rattle.shard_queue.specs.declared.lane.Entry.TheVariants.{Item, End}
 use Rattle.delivery_token.specs.declared.Job.{Job}
+use Rattle.delivery_token.specs.Text.{Text}
 use Rattle.world.specs.declared.hand.Hand.{Hand}
 use Rattle.world.specs.declared.hand.Hand.TheVariants.{Empty, Taken, Done}
 use Rattle.world.specs.World.{Config, World, Box, Session, Event, Put, PutEnd, Take, Deliver, Answer, Hear, Enter, Status, Read, Store, Expunge, Feed, Leave, Step, put_joins, put_full, put_no_memory, put_shut, end_joins, end_full, takes, take_empty, delivers, deliver_spent, deliver_full, deliver_no_memory, answers, answer_full, hears_one, enters, enter_spent, enter_no_memory, MailStep, mails, mail_lapped, mail_spent, mail_no_memory, LeaveStep, leaves, leave_spent, Logs, in_hand, empty_world, puts, Discard, discards_them, discard_spent}
@@ -13,8 +14,8 @@ use Rattle.world.proofs.Base.{Every, all_of_every, every_append}
 use Rattle.laws_client.specs.Sizes.{HasShortTexts}
 
 -- a length of 32 bits
-abbrev pub IsShort : List ℕ → Type 0
-IsShort text = length text < 2 ^ 32
+abbrev pub IsShort : Text → Type 0
+IsShort text = length text.bytes < 2 ^ 32
 
 abbrev pub IsJobShort : Job → Type 0
 IsJobShort c = IsShort c.text

@@ -142,7 +142,7 @@ tag_of (Entering tag) = tag
 tag_of (Leaving tag) = tag
 tag_of Neither = []
 
-command_none : (now : Standing) (tag asks : List ℕ) (command : Command) (answers : List Answer) (turn : Turn) → IsTag tag → asked_by tag command ≡ Entering asks → played tag now (on_command now command) answers ≡ Some turn
+command_none : (now : Standing) (tag asks : List ℕ) (command : Command) (answers : List Answer) (turn : Turn) → IsTag tag → asked_by tag command ≡ Entering asks → played tag now (on_command tag now command) answers ≡ Some turn
     → has_ok true asks turn.bytes ≡ false → (turn.standing.selected ≡ None) ⊎ Kept now turn
 command_none now tag asks (commands.Select name) answers turn t a e unsaid =
     closing_none tag now now.profile false name now.folders now.selected answers turn t refl e (ap (λ (g : List ℕ). has_ok true g turn.bytes) (ap tag_of a) ∙ unsaid)
@@ -174,7 +174,7 @@ barred_none : (now : Standing) (tag asks : List ℕ) (command : Command) (answer
     → on_line (logs_in_as now.login command) now tag command answers ≡ Some turn → has_ok true asks turn.bytes ≡ false → (turn.standing.selected ≡ None) ⊎ Kept now turn
 barred_none now tag asks command answers turn t h a e unsaid = by (logs_in_as now.login command) refl e
   where
-    either : (login : Option (List ℕ)) → IfSome login (λ user. now.selected ≡ None) → played tag now (on_found (λ text. says (response_text text)) (on_command now command) (early_text login)) answers ≡ Some turn
+    either : (login : Option (List ℕ)) → IfSome login (λ user. now.selected ≡ None) → played tag now (on_found (λ text. says (response_text text)) (on_command tag now command) (early_text login)) answers ≡ Some turn
         → (turn.standing.selected ≡ None) ⊎ Kept now turn
     either None h d = command_none now tag asks command answers turn t a d unsaid
     either (Some user) h d = inl (selected_stays tag now (says (response_text texts.WrongState)) answers turn tt d ∙ h)
@@ -183,7 +183,7 @@ barred_none now tag asks command answers turn t h a e unsaid = by (logs_in_as no
     by true logs d = let other : Neither ≡ Entering asks = sym (login_asks now.login tag command logs) ∙ a in absurd cc
     by false logs d =
         either now.login h
-        (subst (λ (o : Option ResponseText). played tag now (on_found (λ text. says (response_text text)) (on_command now command) o) answers ≡ Some turn) (entering_barred now.login now.profile tag asks command a) d)
+        (subst (λ (o : Option ResponseText). played tag now (on_found (λ text. says (response_text text)) (on_command tag now command) o) answers ≡ Some turn) (entering_barred now.login now.profile tag asks command a) d)
 
 read_none : (now : Standing) (r : Result (List ℕ × Command) ImapFault) (asks : List ℕ) (answers : List Answer) (turn : Turn) → Tagged r → HasLoggedIn now → asked r ≡ Entering asks → on_read now r answers ≡ Some turn
     → has_ok true asks turn.bytes ≡ false → (turn.standing.selected ≡ None) ⊎ Kept now turn

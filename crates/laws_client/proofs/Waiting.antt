@@ -7,6 +7,7 @@ use Rattle.change_ring.specs.declared.change.Change.{Change}
 use Rattle.change_ring.specs.declared.change.Flags.{Flags}
 use Rattle.cursor_set.specs.Lines.{lines}
 use Rattle.delivery_token.specs.declared.Verdict.{Verdict}
+use Rattle.delivery_token.specs.Text.{Text}
 use Rattle.delivery_token.specs.declared.Verdict.TheVariants as verdicts
 use Rattle.mailbox.specs.declared.clients.MailFault.TheVariants.{NoMemory}
 use Rattle.mailbox.specs.declared.clients.Opening.{Opening}
@@ -25,7 +26,7 @@ use Rattle.imap_session.specs.declared.standing.After.TheVariants as afters
 use Rattle.imap_session.specs.declared.standing.Selected.{Selected}
 use Rattle.imap_session.specs.Exchange as ex
 use Rattle.imap_session.specs.Exchange.{Answer, PendingLiteral, Asked, Call, Dropped, Entered, Looked, Found, Counted, Altered, Expunged, Fed, Left, Refused, Starved, Exchange, Folder, ForDone, ForLiteral, ForNothing, ForVerdict, Mailing, Standing, Turn, Unasked, Waiting, bye, closed, having, played, refusal_after, saying, text_before, unkept, waiting, where_long, refused, Argument, Message, Response, Purpose, nameless, Discarded, Origin, Client, Copied, Batch}
-use Rattle.imap_session.specs.Commands.{appending, asking, closing, coming, completed, counting, entering, expunge_set, fetch_messages, fetching, folder_of, if_writable, is_over, last_number, messages_done, most_unasked, notice, noticing, nowhere, number_named, on_chosen, on_command, on_found, on_idle_line, on_rest, on_text, on_verdict, over, says, showing, store_messages, storing, telling_recent, unlimited, wanting, wanting_for, wrong_state, entered_text, logged_in, logs_in_as, on_line, found_in, search_done, search_known, search_messages, searching, awaiting_argument, comes_unasked, flags_for, mailbox_for, awaiting_response, given_up, most_line, moving, copied_words, on_stored, told_copied, move_done, with_copy, copies_of, refused_text}
+use Rattle.imap_session.specs.Commands.{appending, asking, closing, coming, completed, counting, entering, expunge_set, fetch_messages, fetching, folder_of, if_writable, is_over, last_number, messages_done, most_unasked, notice, noticing, nowhere, number_named, on_chosen, on_command, on_found, on_idle_line, on_rest, on_text, on_verdict, over, says, showing, store_messages, storing, telling_recent, unlimited, wanting, wanting_for, wrong_state, entered_text, logged_in, logs_in_as, on_line, found_in, search_done, search_known, search_messages, searching, awaiting_argument, comes_unasked, flags_for, date_for, mailbox_for, awaiting_response, given_up, most_line, moving, copied_words, on_stored, told_copied, move_done, with_copy, copies_of, refused_text}
 use Rattle.imap_session.specs.declared.texts.ResponseText.TheVariants as texts
 use Rattle.imap_session.specs.Texts.{response_text}
 use Rattle.imap_session.specs.declared.standing.Profile.{Profile}
@@ -324,10 +325,10 @@ in_fetching A fetch mark view done p [] gone = p gone
 in_fetching A fetch mark view done p (uid ∷ uids) gone =
     elim [ None ↦ in_fetching A fetch mark view done p uids true | Some row ↦ in_fetching A fetch mark view done p uids gone ]
 
-in_searching : (A : Waiting → Type 0) → (search : Search) (last : Named) (view uids found : List ℕ) → WaitsAs A (completed (commands.Search search)) → WaitsAs A (searching search last view (search_done search) uids found)
-in_searching A search last view [] found p = in_done A (commands.Search search) search.by_uid false p
-in_searching A search last view (uid ∷ uids) found p =
-    elim [ None ↦ in_searching A search last view uids found p | Some row ↦ in_searching A search last view uids (found ++ found_in search last (named_at view uid) row) p ]
+in_searching : (A : Waiting → Type 0) → (tag : List ℕ) (search : Search) (last : Named) (view uids found : List ℕ) → WaitsAs A (completed (commands.Search search)) → WaitsAs A (searching search last view (search_done tag search) uids found)
+in_searching A tag search last view [] found p = in_done A (commands.Search search) search.by_uid false p
+in_searching A tag search last view (uid ∷ uids) found p =
+    elim [ None ↦ in_searching A tag search last view uids found p | Some row ↦ in_searching A tag search last view uids (found ++ found_in search last (named_at view uid) row) p ]
 
 in_silence : (A : Waiting → Type 0) → (silent : Bool) (text : List ℕ) (x : Exchange) → WaitsAs A x → WaitsAs A (if silent then x else ex.Write text x)
 in_silence A true text x p = p
@@ -344,7 +345,7 @@ in_storing A store view done p (uid ∷ uids) gone =
 -- an APPEND waits for the literal that it announced, for the mailbox that it named
 abbrev pub ForItsLiteral : Option ℕ → Append → Waiting → Type 0
 ForItsLiteral found append (ForLiteral Dropped purpose size) = Unit {0}
-ForItsLiteral found append (ForLiteral coming purpose size) = (purpose ≡ Message found append.flags) × (size ≡ append.literal.size)
+ForItsLiteral found append (ForLiteral coming purpose size) = (purpose ≡ Message found append.flags append.date) × (size ≡ append.literal.size)
 ForItsLiteral found append ForNothing = Unit {0}
 ForItsLiteral found append w = ⊥
 
@@ -358,8 +359,8 @@ append_waits most folders a = by (number_named a.name folders)
     over_waits A None = tt
     over_waits A (Some most) = tt
 
-    by : (found : Option ℕ) → WaitsAs (ForItsLiteral found a) (if a.literal.waits then wanting (on_found (λ mailbox. if is_over most a.literal.size then over most else asking mailbox a.flags a.literal.size) nowhere found)
-        else (if nat_lt most_unasked a.literal.size then ex.Wait (bye (response_text texts.LiteralTooBig)) ForNothing else coming found a.flags a.literal.size))
+    by : (found : Option ℕ) → WaitsAs (ForItsLiteral found a) (if a.literal.waits then wanting (on_found (λ mailbox. if is_over most a.literal.size then over most else asking mailbox a.flags a.date a.literal.size) nowhere found)
+        else (if nat_lt most_unasked a.literal.size then ex.Wait (bye (response_text texts.LiteralTooBig)) ForNothing else coming found a.flags a.date a.literal.size))
     by None = in_either (ForItsLiteral None a) a.literal.waits _ _ tt (in_either (ForItsLiteral None a) (nat_lt most_unasked a.literal.size) _ _ tt (refl, refl))
     by (Some m) =
         in_either (ForItsLiteral (Some m) a) a.literal.waits _ _ (in_either (ForItsLiteral (Some m) a) (is_over most a.literal.size) (over most) _ (over_waits (ForItsLiteral (Some m) a) most) (refl, refl))
@@ -381,45 +382,45 @@ notice_waits : (A : Waiting → Type 0) (said : Option (List ℕ)) (x : Exchange
 notice_waits A None x p = p
 notice_waits A (Some words) x p = p
 
-command_waits : (now : Standing) (command : Command) → SubmitsNone command → WaitsAs ForItsDone (on_command now command)
-command_waits now commands.Noop other = in_showing ForItsDone now.selected (completed commands.Noop) tt
-command_waits now commands.Logout other = tt
-command_waits now commands.Idle other = tt
-command_waits now (commands.Login user password) other = tt
-command_waits now (commands.Authenticate a) other = tt
-command_waits now commands.StartTls other = tt
-command_waits now (commands.Select name) other =
+command_waits : (tag : List ℕ) (now : Standing) (command : Command) → SubmitsNone command → WaitsAs ForItsDone (on_command tag now command)
+command_waits tag now commands.Noop other = in_showing ForItsDone now.selected (completed commands.Noop) tt
+command_waits tag now commands.Logout other = tt
+command_waits tag now commands.Idle other = tt
+command_waits tag now (commands.Login user password) other = tt
+command_waits tag now (commands.Authenticate a) other = tt
+command_waits tag now commands.StartTls other = tt
+command_waits tag now (commands.Select name) other =
     in_closing ForItsDone now.selected _ (in_found ForItsDone (entering now.profile false) (says (response_text texts.NoSuchMailbox)) (λ (f : Folder) opening. in_recent ForItsDone now.profile (says (response_text (entered_text false))) tt) tt (folder_of name now.folders))
-command_waits now (commands.Examine name) other =
+command_waits tag now (commands.Examine name) other =
     in_closing ForItsDone now.selected _ (in_found ForItsDone (entering now.profile true) (says (response_text texts.NoSuchMailbox)) (λ (f : Folder) opening. in_recent ForItsDone now.profile (says (response_text (entered_text true))) tt) tt (folder_of name now.folders))
-command_waits now (commands.List reference pattern) other = in_showing ForItsDone now.selected (completed (commands.List reference pattern)) tt
-command_waits now (commands.Lsub reference pattern) other = in_showing ForItsDone now.selected (completed (commands.Lsub reference pattern)) tt
-command_waits now (commands.Subscribe name) other = in_found ForItsDone (λ (f : Folder). completed (commands.Subscribe name)) (says (response_text texts.NoSuchMailbox)) (λ (f : Folder). tt) tt (folder_of name now.folders)
-command_waits now (commands.Unsubscribe name) other = in_found ForItsDone (λ (f : Folder). completed (commands.Unsubscribe name)) (says (response_text texts.NoSuchMailbox)) (λ (f : Folder). tt) tt (folder_of name now.folders)
-command_waits now commands.Check other = in_showing ForItsDone now.selected (completed commands.Check) tt
-command_waits now (commands.Status name items) other =
+command_waits tag now (commands.List reference pattern) other = in_showing ForItsDone now.selected (completed (commands.List reference pattern)) tt
+command_waits tag now (commands.Lsub reference pattern) other = in_showing ForItsDone now.selected (completed (commands.Lsub reference pattern)) tt
+command_waits tag now (commands.Subscribe name) other = in_found ForItsDone (λ (f : Folder). completed (commands.Subscribe name)) (says (response_text texts.NoSuchMailbox)) (λ (f : Folder). tt) tt (folder_of name now.folders)
+command_waits tag now (commands.Unsubscribe name) other = in_found ForItsDone (λ (f : Folder). completed (commands.Unsubscribe name)) (says (response_text texts.NoSuchMailbox)) (λ (f : Folder). tt) tt (folder_of name now.folders)
+command_waits tag now commands.Check other = in_showing ForItsDone now.selected (completed commands.Check) tt
+command_waits tag now (commands.Status name items) other =
     in_found ForItsDone (counting now.selected name items) (says (response_text texts.NoSuchMailbox)) (λ (f : Folder) status. in_showing ForItsDone now.selected (completed (commands.Status name items)) tt) tt (folder_of name now.folders)
-command_waits now commands.Close other = in_found ForItsDone _ wrong_state (λ (s : Selected). tt) tt now.selected
-command_waits now commands.Unselect other = in_found ForItsDone _ wrong_state (λ (s : Selected). tt) tt now.selected
-command_waits now commands.Expunge other = in_writable ForItsDone now.selected (ex.Expunge None (ex.Feed unlimited (completed commands.Expunge))) tt
-command_waits now (commands.UidExpunge set) other =
+command_waits tag now commands.Close other = in_found ForItsDone _ wrong_state (λ (s : Selected). tt) tt now.selected
+command_waits tag now commands.Unselect other = in_found ForItsDone _ wrong_state (λ (s : Selected). tt) tt now.selected
+command_waits tag now commands.Expunge other = in_writable ForItsDone now.selected (ex.Expunge None (ex.Feed unlimited (completed commands.Expunge))) tt
+command_waits tag now (commands.UidExpunge set) other =
     in_writable ForItsDone now.selected (expunge_set set) (λ view. in_chosen ForItsDone (named_in true set view) (λ uids. wanting_for uids (ex.Expunge (Some uids) (ex.Feed unlimited (completed (commands.UidExpunge set))))) (elim [ [] ↦ tt | uid ∷ uids ↦ tt ]))
-command_waits now (commands.Fetch fetch) other =
+command_waits tag now (commands.Fetch fetch) other =
     in_found ForItsDone (fetch_messages fetch) wrong_state
     (λ (s : Selected) view. in_chosen ForItsDone (named_in fetch.by_uid fetch.set view) _
     (λ uids. in_fetching ForItsDone fetch _ view (messages_done (commands.Fetch fetch) fetch.by_uid) (λ gone. in_done ForItsDone (commands.Fetch fetch) fetch.by_uid gone tt) uids false)) tt now.selected
-command_waits now (commands.Store store) other =
+command_waits tag now (commands.Store store) other =
     in_writable ForItsDone now.selected (store_messages store)
     (λ view. in_chosen ForItsDone (named_in store.by_uid store.set view) _
     (λ uids. in_storing ForItsDone store view (messages_done (commands.Store store) store.by_uid) (λ gone. in_done ForItsDone (commands.Store store) store.by_uid gone tt) uids false))
-command_waits now (commands.Search search) other =
-    in_found ForItsDone (search_known search) wrong_state
-    (λ (s : Selected). in_either ForItsDone search.known_charset (search_messages search) (says (response_text texts.BadCharset))
-    (λ view. in_chosen ForItsDone (named_in true all_messages view) (λ uids. wanting (searching search (named_at view (last_uid uids)) view (search_done search) uids []))
-    (λ uids. in_searching ForItsDone search (named_at view (last_uid uids)) view uids [] tt)) tt) tt now.selected
-command_waits now (commands.Append append) other = absurd other
-command_waits now (commands.Copy copy) other = absurd other
-command_waits now command other = notice_waits ForItsDone (notice now.profile command) (completed command) tt
+command_waits tag now (commands.Search search) other =
+    in_found ForItsDone (search_known tag search) wrong_state
+    (λ (s : Selected). in_either ForItsDone search.known_charset (search_messages tag search) (says (response_text texts.BadCharset))
+    (λ view. in_chosen ForItsDone (named_in true all_messages view) (λ uids. wanting (searching search (named_at view (last_uid uids)) view (search_done tag search) uids []))
+    (λ uids. in_searching ForItsDone tag search (named_at view (last_uid uids)) view uids [] tt)) tt) tt now.selected
+command_waits tag now (commands.Append append) other = absurd other
+command_waits tag now (commands.Copy copy) other = absurd other
+command_waits tag now command other = notice_waits ForItsDone (notice now.profile command) (completed command) tt
 
 done_mail : (tag : List ℕ) (m next : Mailing) → IsMail ForItsDone tag m next → next ≡ m
 done_mail tag m next (inl e) = e
@@ -445,7 +446,7 @@ refused_mail tag words now answers turn e = so_mail tag now (says words) answers
 pub other_mail : (tag : List ℕ) (now : Standing) (command : Command) (answers : List Answer) (turn : Turn) → SubmitsNone command → on_line (logs_in_as now.login command) now tag command answers ≡ Some turn → turn.standing.mailing ≡ now.mailing
 other_mail tag now command answers turn other e =
     line_case (turn.standing.mailing ≡ now.mailing) now tag command answers turn (λ logs d. so_mail tag (logged_in now) (completed command) answers turn tt d)
-    (λ text is d. refused_mail tag (response_text text) now answers turn d) (λ d. so_mail tag now (on_command now command) answers turn (command_waits now command other) d) e
+    (λ text is d. refused_mail tag (response_text text) now answers turn d) (λ d. so_mail tag now (on_command tag now command) answers turn (command_waits tag now command other) d) e
 
 pub append_mail : (tag : List ℕ) (now : Standing) (append : Append) (answers : List Answer) (turn : Turn) → on_line (logs_in_as now.login (commands.Append append)) now tag (commands.Append append) answers ≡ Some turn
     → IsMail (ForItsLiteral (number_named append.name now.folders) append) tag now.mailing turn.standing.mailing
@@ -453,7 +454,7 @@ append_mail tag now append answers turn e =
     let A : Waiting → Type 0 = ForItsLiteral (number_named append.name now.folders) append in
     line_case (IsMail A tag now.mailing turn.standing.mailing) now tag (commands.Append append) answers turn (λ logs d. inl (so_mail tag (logged_in now) (completed (commands.Append append)) answers turn tt d))
     (λ text is d. inl (refused_mail tag (response_text text) now answers turn d))
-    (λ d. some_mail A tag now.mailing _ turn (played_mail A (literal_drops (number_named append.name now.folders) append) tag now (on_command now (commands.Append append)) answers (append_waits now.mailing.most now.folders append)) d) e
+    (λ d. some_mail A tag now.mailing _ turn (played_mail A (literal_drops (number_named append.name now.folders) append) tag now (on_command tag now (commands.Append append)) answers (append_waits now.mailing.most now.folders append)) d) e
 
 -- ---- COPY and MOVE
 
@@ -481,11 +482,11 @@ ForItsCopy found copy w = ⊥
 copy_drops : (found : Option ℕ) (copy : CopyMessages) → Drops (ForItsCopy found copy)
 copy_drops found copy purpose size p = absurd p
 
-copy_waits : (now : Standing) (copy : CopyMessages)
-    → WaitsAs (ForItsCopy (number_named copy.name now.folders) copy) (on_command now (commands.Copy copy))
-copy_waits now copy =
+copy_waits : (tag : List ℕ) (now : Standing) (copy : CopyMessages)
+    → WaitsAs (ForItsCopy (number_named copy.name now.folders) copy) (on_command tag now (commands.Copy copy))
+copy_waits tag now copy =
     copies_so (WaitsAs (ForItsCopy (number_named copy.name now.folders) copy))
-    (record { told = λ text. tt; wanted = λ x p. p; looked = λ by_uid set next p. p; found = λ uid mark next p. p }) now copy
+    (record { told = λ text. tt; wanted = λ x p. p; looked = λ by_uid set next p. p; found = λ uid mark next p. p }) tag now copy
     (λ batch mailbox row copied. (
       copied.named,
       record {
@@ -509,7 +510,7 @@ copy_mail tag now copy answers turn e =
     line_case (IsMail A tag now.mailing turn.standing.mailing) now tag (commands.Copy copy) answers turn
     (λ logs d. inl (so_mail tag (logged_in now) (completed (commands.Copy copy)) answers turn tt d))
     (λ text is d. inl (refused_mail tag (response_text text) now answers turn d))
-    (λ d. some_mail A tag now.mailing _ turn (played_mail A (copy_drops (number_named copy.name now.folders) copy) tag now (on_command now (commands.Copy copy)) answers (copy_waits now copy)) d) e
+    (λ d. some_mail A tag now.mailing _ turn (played_mail A (copy_drops (number_named copy.name now.folders) copy) tag now (on_command tag now (commands.Copy copy)) answers (copy_waits tag now copy)) d) e
 
 -- ---- lines that aren't whole yet, and those that are given up
 
@@ -558,7 +559,7 @@ pub idling_mail : (tag : List ℕ) (now : Standing) (selected : Option Selected)
 idling_mail tag now selected line answers turn e = so_mail tag now (on_idle_line selected line) answers turn (idling_waits selected line) e
 
 -- a session waits for the verdict on the next message of a batch, one more copy of which was stored
-pub record IsNext (origin : Origin) (verdict : Verdict) (next : Origin) (flags : Flags) (text : List ℕ) : Type 0 where
+pub record IsNext (origin : Origin) (verdict : Verdict) (next : Origin) (flags : Flags) (text : Text) : Type 0 where
   pub batch : Batch
   pub uid : ℕ
   pub row : Row
@@ -608,7 +609,7 @@ verdict_mail tag now mailing selected origin mailbox verdict answers turn e =
 
 -- behind a literal it waits for the verdict on that message
 abbrev pub ForItsVerdict : PendingLiteral → Bool → Waiting → Type 0
-ForItsVerdict a empty (ForVerdict origin mailbox flags text) = (mailbox_for a.purpose ≡ Some mailbox) × (flags ≡ flags_for a.purpose) × (a.text ≡ Some text) × (empty ≡ true) × (origin ≡ Client)
+ForItsVerdict a empty (ForVerdict origin mailbox flags text) = (mailbox_for a.purpose ≡ Some mailbox) × (flags ≡ flags_for a.purpose) × (a.text ≡ Some text.bytes) × (empty ≡ true) × (origin ≡ Client) × (text.date ≡ date_for a.purpose)
 ForItsVerdict a empty w = ⊥
 
 verdict_drops : (a : PendingLiteral) (empty : Bool) → Drops (ForItsVerdict a empty)
@@ -623,7 +624,7 @@ text_waits mailing a empty text mailbox m t e =
     let A : Waiting → Type 0 = ForItsVerdict a empty in
     in_either A (is_over mailing.most a.size) (over mailing.most) _ (over_so A mailing.most)
     (in_either A (list_any (λ b. b == 0) text) (says (response_text texts.NulByte)) _ tt
-    (in_either A (nat_le last_number mailing.number) (says (response_text texts.MailboxSpent)) (wanting (ex.Wait [] (ForVerdict Client mailbox (flags_for a.purpose) text))) tt (m, refl, t, e, refl)))
+    (in_either A (nat_le last_number mailing.number) (says (response_text texts.MailboxSpent)) (wanting (ex.Wait [] (ForVerdict Client mailbox (flags_for a.purpose) (record { bytes = text; date = date_for a.purpose })))) tt (m, refl, t, e, refl, refl)))
 
 rest_waits : (mailing : Mailing) (a : PendingLiteral) (empty : Bool) → WaitsAs (ForItsVerdict a empty) (on_rest mailing a empty)
 rest_waits mailing a empty = by_text a.text refl

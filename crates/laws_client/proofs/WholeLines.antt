@@ -11,6 +11,7 @@ use Rattle.imap_grammar.specs.declared.command.Command.TheVariants as commands
 use Rattle.imap_grammar.specs.declared.command.ImapFault.{ImapFault}
 use Rattle.imap_grammar.specs.declared.command.ImapFault.TheVariants.{NoTag, Unknown, LeftOut, Arguments}
 use Rattle.change_ring.specs.declared.change.Flags.{Flags}
+use Rattle.mail_date.specs.declared.stamp.Stamp.{Stamp}
 use Rattle.imap_session.specs.declared.texts.ResponseText.{ResponseText}
 use Rattle.imap_session.specs.declared.texts.ResponseText.TheVariants as texts
 use Rattle.imap_session.specs.Exchange.{Answer, Argument, Exchange, Message, PendingLiteral, Purpose, Response, Standing, Turn, played}
@@ -30,7 +31,7 @@ bare now b i = ap₂ (λ (begun : Option PendingLiteral) (idling : Option (List 
 -- What holds of the answer to a line that ends an IDLE, or stands behind a message, or is given up, and of each that came as a command, holds of the answer to a line.
 pub turn_given : (Q : Option (List ℕ) → Option Turn → Type 0) (now : Standing) (line : List ℕ) (answers : List Answer)
     → ((tag : List ℕ) → now.mailing.begun ≡ None → now.idling ≡ Some tag → Q None (played tag (record now { idling = None }) (on_idle_line now.selected line) answers))
-    → ((a : PendingLiteral) (mailbox : Option ℕ) (flags : Flags) → now.mailing.begun ≡ Some a → a.purpose ≡ Message mailbox flags → Q None (played a.tag (without_begun now) (on_rest now.mailing a (length line == 0)) answers))
+    → ((a : PendingLiteral) (mailbox : Option ℕ) (flags : Flags) (date : Option Stamp) → now.mailing.begun ≡ Some a → a.purpose ≡ Message mailbox flags date → Q None (played a.tag (without_begun now) (on_rest now.mailing a (length line == 0)) answers))
     → ((a : PendingLiteral) (told parting : ResponseText) → now.mailing.begun ≡ Some a → is_told told ≡ true → is_parting parting ≡ true → Q None (played a.tag (without_begun now) (given_up line told parting) answers))
     → ((whole : List ℕ) → whole_line now line ≡ Some whole → Q (Some whole) (on_text_line (without_begun now) whole answers))
     → Q (whole_line now line) (turn_of now line answers)
@@ -46,7 +47,7 @@ turn_given Q now line answers idles message given said = behind now.mailing.begu
     joined a is (Some whole) e = short a is whole (nat_lt most_line (length whole)) e
 
     purposed : (a : PendingLiteral) → now.mailing.begun ≡ Some a → (purpose : Purpose) → a.purpose ≡ purpose → whole_line now line ≡ whole_behind purpose a.text line → Q (whole_behind purpose a.text line) (on_rest_of purpose a now line answers)
-    purposed a is (Message mailbox flags) p e = message a mailbox flags is p
+    purposed a is (Message mailbox flags date) p e = message a mailbox flags date is p
     purposed a is (Argument before) p e = joined a is (option_map (λ text. before ++ quoted text ++ line) a.text) e
     purposed a is (Response before) p e = joined a is (option_map (λ text. before ++ codes " " ++ response_in line) a.text) e
 
@@ -63,7 +64,7 @@ turn_given Q now line answers idles message given said = behind now.mailing.begu
 -- the same, where it doesn't matter how a line is given up
 pub turn_has : (Q : Option (List ℕ) → Option Turn → Type 0) (now : Standing) (line : List ℕ) (answers : List Answer)
     → ((tag : List ℕ) → now.mailing.begun ≡ None → now.idling ≡ Some tag → Q None (played tag (record now { idling = None }) (on_idle_line now.selected line) answers))
-    → ((a : PendingLiteral) (mailbox : Option ℕ) (flags : Flags) → now.mailing.begun ≡ Some a → a.purpose ≡ Message mailbox flags → Q None (played a.tag (without_begun now) (on_rest now.mailing a (length line == 0)) answers))
+    → ((a : PendingLiteral) (mailbox : Option ℕ) (flags : Flags) (date : Option Stamp) → now.mailing.begun ≡ Some a → a.purpose ≡ Message mailbox flags date → Q None (played a.tag (without_begun now) (on_rest now.mailing a (length line == 0)) answers))
     → ((a : PendingLiteral) (x : Exchange) → now.mailing.begun ≡ Some a → IsPart x → Q None (played a.tag (without_begun now) x answers))
     → ((whole : List ℕ) → whole_line now line ≡ Some whole → Q (Some whole) (on_text_line (without_begun now) whole answers))
     → Q (whole_line now line) (turn_of now line answers)
@@ -73,7 +74,7 @@ turn_has Q now line answers idles message part said =
 -- what came as a command is answered as such, by the session as it stands then
 pub whole_turn : (now : Standing) (line whole : List ℕ) (answers : List Answer) → whole_line now line ≡ Some whole → turn_of now line answers ≡ on_text_line (without_begun now) whole answers
 whole_turn now line whole answers e =
-    turn_has (λ o turn. o ≡ Some whole → turn ≡ on_text_line (without_begun now) whole answers) now line answers (λ tag b i h. cc) (λ a mailbox flags b p h. cc) (λ a x b p h. cc)
+    turn_has (λ o turn. o ≡ Some whole → turn ≡ on_text_line (without_begun now) whole answers) now line answers (λ tag b i h. cc) (λ a mailbox flags date b p h. cc) (λ a x b p h. cc)
     (λ w is h. ap (λ (o : Option (List ℕ)). on_text_line (without_begun now) (or_line o) answers) h) e
   where
     or_line : Option (List ℕ) → List ℕ

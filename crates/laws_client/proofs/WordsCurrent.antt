@@ -212,7 +212,7 @@ kept_current k n now line selected w answers turn v K t there none e met ok =
     turn_has (λ whole o. whole ≡ None → o ≡ Some turn → IsCurrent v n) now line answers
     (λ tag b i h d. idle_line_current k n tag line selected (record now { idling = None }) w answers turn v K (subst (λ (o : Option (List ℕ)). IfSome o IsWord) i t.0)
     (subst (λ (o : Option Selected). played tag (record now { idling = None }) (on_idle_line o line) answers ≡ Some turn) there d) met ok)
-    (λ a mailbox flags b p h d. absurd (never_turn _ turn (rest_fine starts_ok ok_spares now.mailing a (length line == 0) a.tag (begun_word a b) (without_begun now) answers) d ok))
+    (λ a mailbox flags date b p h d. absurd (never_turn _ turn (rest_fine starts_ok ok_spares now.mailing a (length line == 0) a.tag (begun_word a b) (without_begun now) answers) d ok))
     (λ a x b part h d. absurd (never_turn _ turn (part_fine starts_ok ok_spares x part a.tag (begun_word a b) (without_begun now) answers) d ok))
     (λ whole w h d. absurd (none-some whole (sym h))) none e
   where

@@ -76,7 +76,7 @@ pub data IsSpelled : (bytes line : List ℕ) → Type 0 where
   with_response : (bytes line tag : List ℕ) (a : Authenticate) (response : List ℕ) → IsSpelled bytes line → read line ≡ Ok (tag, commands.Authenticate a)
       → IsSpelled (bytes ++ crlf ++ response) (line ++ codes " " ++ response_in response)
 
--- A client sent this message so, to a session with these mailboxes (RFC 9051, 6.3.12): an APPEND under its tag, which names its mailbox, with its flags; its text, as the literal that was
+-- A client sent this message so, to a session with these mailboxes (RFC 9051, 6.3.12): an APPEND under its tag, which names its mailbox, with its flags and the date that it has, or none; its text, as the literal that was
 -- announced; and the CRLF behind that.
 pub record IsSentAs (folders : List Folder) (sent : List ℕ) (message : Sent) : Type 0 where
   pub front : List ℕ
@@ -88,8 +88,9 @@ pub record IsSentAs (folders : List Folder) (sent : List ℕ) (message : Sent) :
   pub reads : read line ≡ Ok (message.tag, commands.Append append)
   pub named : number_named append.name folders ≡ Some message.append.mailbox
   pub flags : message.append.flags ≡ append.flags
-  pub size : length message.append.text ≡ append.literal.size
-  pub whole : sent ≡ front ++ (bytes ++ crlf) ++ message.append.text ++ crlf ++ behind
+  pub date : message.append.text.date ≡ append.date
+  pub size : length message.append.text.bytes ≡ append.literal.size
+  pub whole : sent ≡ front ++ (bytes ++ crlf) ++ message.append.text.bytes ++ crlf ++ behind
 
 -- A client had this message copied so (RFC 9051, 6.4.7; RFC 6851): by a COPY or MOVE under its tag, which names the mailbox of the copy. It is of this batch, which has those
 -- of the messages named in a view that were found, in their order; where they were named by their numbers all of them were. Before it are those whose copies are stored, and

@@ -56,7 +56,7 @@ if_kept (Some line) = if_short line
 
 -- the rest of a line behind what came last
 abbrev pub whole_behind : Purpose → (text : Option (List ℕ)) → (rest : List ℕ) → Option (List ℕ)
-whole_behind (Message mailbox flags) text rest = None
+whole_behind (Message mailbox flags date) text rest = None
 whole_behind (Argument before) text rest = if_kept (option_map (λ text. before ++ quoted text ++ rest) text)
 whole_behind (Response before) text rest = if_kept (option_map (λ text. before ++ codes " " ++ response_in rest) text)
 

@@ -1,5 +1,5 @@
 -- What is asked of a view and of a FETCH, that the numbers in their answers can be printed.
-use Rattle.std.specs.Prelude.{◌≡◌, ℕ, ◌+◌, ◌<◌, ◌^◌, true, List, [], ◌∷◌, length, Option, Some, None}
+use Rattle.std.specs.Prelude.{◌≡◌, ℕ, ◌+◌, ◌<◌, ◌^◌, ◌==◌, ◌||◌, Bool, true, List, [], ◌∷◌, length, Option, Some, None}
 use Rattle.std.specs.List.{list_all}
 use Rattle.imap_grammar.specs.Bytes.{is_field_byte}
 use Rattle.imap_grammar.specs.declared.items.BodyPart.{BodyPart}
@@ -13,10 +13,14 @@ abbrev pub IsToldSpan : Option Span → Type 0
 IsToldSpan None = Unit {0}
 IsToldSpan (Some span) = span.origin < 2 ^ 64
 
--- and so are the names of header fields, of bytes that stand in such names
+-- a byte of the name of a header field as it stands in a line: one of such names, or a quote around them (RFC 9051, 9: header-fld-name)
+abbrev pub is_name_byte : ℕ → Bool
+is_name_byte b = is_field_byte b || (b == 34)
+
+-- and so are the names of header fields, of such bytes
 abbrev pub AreToldNames : BodyPart → Type 0
 AreToldNames (parts.Section which) = Unit {0}
-AreToldNames (parts.Fields others names) = list_all (list_all is_field_byte) names ≡ true
+AreToldNames (parts.Fields others names) = list_all (list_all is_name_byte) names ≡ true
 
 abbrev pub IsToldPart : FetchItem → Type 0
 IsToldPart (fetch.Body peek part span) = AreToldNames part × IsToldSpan span

@@ -39,7 +39,7 @@ AreTags now = IfSome now.idling IsTag × IfSome now.mailing.begun (λ begun. IsT
 -- what was read is the row of the UID that was asked for, and its size can be printed
 abbrev pub IsRowOf : ℕ → Option Row → Type 0
 IsRowOf uid None = Unit {0}
-IsRowOf uid (Some row) = (row.uid ≡ uid) × (length row.text < 2 ^ 64)
+IsRowOf uid (Some row) = (row.uid ≡ uid) × (length row.text.bytes < 2 ^ 64)
 
 abbrev pub IsRead : Call → Option Row → Type 0
 IsRead (Read uid mark) row = IsRowOf uid row

@@ -10,4 +10,4 @@ pub record HasSmallNumbers (k : Config) : Type 0 where
 
 -- each text that was accepted has a length of 32 bits (RFC 9051, 4.3 and 9)
 abbrev pub HasShortTexts : World → Type 0
-HasShortTexts w = (m : ℕ) → All (λ (a : Job × ℕ). length a.0.text < 2 ^ 32) (w.box m).accepted
+HasShortTexts w = (m : ℕ) → All (λ (a : Job × ℕ). length a.0.text.bytes < 2 ^ 32) (w.box m).accepted

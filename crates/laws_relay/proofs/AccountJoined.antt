@@ -2,6 +2,7 @@
 use Rattle.std.proofs.Common.{◌≡◌, ◌⊎◌, inl, inr, ℕ, zero, suc, ◌<◌, Bool, List, [], ◌∷◌, length, Some, refl, sym, subst, ◌∙◌, Contains, arith}
 use Rattle.std.specs.Prelude.{slice_get, slice_index_or}
 use Rattle.std.proofs.lemmas.List.Elements.{All-contains}
+use Rattle.delivery_token.specs.Text.{Text}
 use Rattle.delivery_token.specs.declared.CopyKey.{CopyKey}
 use Rattle.delivery_token.specs.declared.Job.{Job}
 use Rattle.delivery_token.specs.declared.Verdict.TheVariants.{Stored}
@@ -31,7 +32,7 @@ pub record Joined : Type 0 where
   pub logs : List (List Noted)
   pub copies : List (List Job)
   pub accepted : List (List (CopyKey × ℕ))
-  pub texts : List (List (ℕ × List ℕ))
+  pub texts : List (List (ℕ × Text))
   pub under : seat < length logs
   pub account : AccountOfLines house seat connections replies (slice_index_or logs seat []) heard said
   pub lists : ListsAgree house.directory whole logs copies accepted texts
@@ -107,12 +108,12 @@ stands_nowhere g key own none mailbox = stands_not key (entries_at g mailbox) (�
 -- ---- texts
 
 -- a message that is there is of an accepted copy; if it is of this seat, it has the text of the message of its key
-pub record IsFrom (g : Joined) (mailbox uid : ℕ) (text : List ℕ) : Type 0 where
+pub record IsFrom (g : Joined) (mailbox uid : ℕ) (text : Text) : Type 0 where
   pub key : CopyKey
   pub entry : Contains (entries_at g mailbox) (key, uid)
   pub own : key.seat ≡ g.seat → (j : Judged) × (slice_get (part_at (parts_in g) key.serial) key.message ≡ Some j) × (text ≡ j.message.text)
 
-pub text_from : (g : Joined) → TakenIsItsOwn g.seat g.copies g.said → (mailbox uid : ℕ) (text : List ℕ) → Contains (slice_index_or g.texts mailbox []) (uid, text) → IsFrom g mailbox uid text
+pub text_from : (g : Joined) → TakenIsItsOwn g.seat g.copies g.said → (mailbox uid : ℕ) (text : Text) → Contains (slice_index_or g.texts mailbox []) (uid, text) → IsFrom g mailbox uid text
 text_from g taken mailbox uid text there =
     let within : mailbox < homes_in g = (let u = in_some g.texts mailbox (uid, text) there in let many = g.lists.mailboxes.1 in omega (arith, u, many)) in
     let lane : ℕ = shard_of g.house.directory mailbox in

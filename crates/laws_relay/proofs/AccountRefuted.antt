@@ -3,6 +3,7 @@ use Rattle.std.proofs.Common.{◌≡◌, inl, inr, ℕ, zero, suc, ◌<◌, true
 use Rattle.std.specs.Prelude.{Ok, Result, codes, slice_index_or}
 use Rattle.std.proofs.lemmas.Bool.{false≢true}
 use Rattle.running_house.proofs.ListLaws.{contains_cases, contains_none, first_of, later_of}
+use Rattle.delivery_token.specs.Text.{Text, undated}
 use Rattle.delivery_token.specs.declared.CopyKey.{CopyKey}
 use Rattle.envelope.specs.Directory.{lookup}
 use Rattle.envelope.specs.Reading.{read, forward_at}
@@ -40,7 +41,7 @@ accepted_by_two s = one_is_not_none (s.elsewhere 1 (λ e. omega (arith, e)))
 -- ---- a connection on which alice's copy was told as delivered, and bob's as refused
 
 abbrev Texts : Type 0
-Texts = List (List (ℕ × List ℕ))
+Texts = List (List (ℕ × Text))
 
 none_there : (mailbox uid : ℕ) (key : CopyKey) → with_key key (slice_index_or ([] ∷ [] ∷ []) mailbox []) ≡ (key, uid) ∷ [] → ⊥
 none_there zero uid key e = let k : ◌≡◌ {A = List Entry} [] ((key, uid) ∷ []) = e in cc
@@ -99,8 +100,8 @@ of_nobody texts c = let e = of_alice _ texts c 0 8 5 (later_of (key_at 2 4 0 5, 
 
 -- ---- another text
 
-no_such_text : (m : Handed) → IsTextOf m (codes "hi\r\n") → ⊥
-no_such_text m t = let k : codes "hi\r\n" ≡ stored_text t.sender m.lines = t.is in cc
+no_such_text : (m : Handed) → IsTextOf m (undated (codes "hi\r\n")) → ⊥
+no_such_text m t = let k : codes "hi\r\n" ≡ stored_text t.sender m.lines = ap (λ (w : Text). w.bytes) t.is in cc
 
 sixth : (key : CopyKey) → ◌≡◌ {A = Entry} (key_at 3 4 0 0, 6) (key, 7) → ⊥
 sixth key e = let k : 6 ≡ 7 = ap (λ (p : Entry). p.1) e in omega (arith, k)
@@ -112,9 +113,9 @@ seventh key c = elim (contains_cases (key, 7) (key_at 3 4 0 0, 6) ((for_alice, 7
 ]
 
 -- the message under the copy's UID has no return path
-another_text : ConnectionConcludes home 2 4 three replied accepted (((7, codes "hi\r\n") ∷ []) ∷ [] ∷ []) → ⊥
+another_text : ConnectionConcludes home 2 4 three replied accepted (((7, undated (codes "hi\r\n")) ∷ []) ∷ [] ∷ []) → ⊥
 another_text c =
-    let t = c.texts_are 0 7 (codes "hi\r\n") (first_of (7, codes "hi\r\n") []) in
+    let t = c.texts_are 0 7 (undated (codes "hi\r\n")) (first_of (7, undated (codes "hi\r\n")) []) in
     let key : t.0 ≡ for_alice = seventh t.0 t.1 in
     let w = t.2 (ap (λ (k : CopyKey). k.seat) key) (ap (λ (k : CopyKey). k.serial) key) in
     no_such_text _ w.2

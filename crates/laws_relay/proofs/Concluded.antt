@@ -6,6 +6,7 @@ use Rattle.std.proofs.lemmas.Bool.{false≢true}
 use Rattle.std.proofs.lemmas.Bool.Decides.{Decides-eqb}
 use Rattle.std.proofs.lemmas.List.{length-map}
 use Rattle.std.proofs.lemmas.List.Elements.{All-contains}
+use Rattle.delivery_token.specs.Text.{Text, undated}
 use Rattle.delivery_token.specs.declared.CopyKey.{CopyKey}
 use Rattle.delivery_token.specs.declared.Verdict.TheVariants.{Stored}
 use Rattle.delivery_token.specs.declared.log.Noted.{Noted}
@@ -123,7 +124,7 @@ whose g serial messages h mailbox uid key there seat of_serial =
     (k.0, k.1, read_verdict g serial messages h k.0 key.message key.recipient e.of.judged k.1 in_part ∙ stored_is e.of.judged.verdicts key.recipient uid verdict)
 
 -- and a message that is there has the text of a message that was handed over, where its entry is of this connection
-whose_text : (g : Joined) (serial : ℕ) (messages : List Handed) (h : KnowsPart g serial messages) (mailbox uid : ℕ) (text : List ℕ) → (from : IsFrom g mailbox uid text)
+whose_text : (g : Joined) (serial : ℕ) (messages : List Handed) (h : KnowsPart g serial messages) (mailbox uid : ℕ) (text : Text) → (from : IsFrom g mailbox uid text)
     → from.key.seat ≡ g.seat → from.key.serial ≡ serial
     → (k : ℕ) × (h.number k ≡ Some from.key.message) × IsTextOf (message_at messages k) text
 whose_text g serial messages h mailbox uid text from seat of_serial =
@@ -136,16 +137,16 @@ whose_text g serial messages h mailbox uid text from seat of_serial =
 
 -- ---- of a front
 
-pub same_text : (a b : Handed) (text : List ℕ) → IsSame a b → IsTextOf b text → IsTextOf a text
+pub same_text : (a b : Handed) (text : Text) → IsSame a b → IsTextOf b text → IsTextOf a text
 same_text a b text s t = record {
   sender = t.sender;
   from = subst (λ (m : List ℕ). IsSender m t.sender) (sym s.mail) t.from;
-  is = t.is ∙ ap (stored_text t.sender) (sym s.lines);
+  is = t.is ∙ ap (λ (lines : List (List ℕ)). undated (stored_text t.sender lines)) (sym s.lines);
 }
 
 -- where just one copy was accepted under a UID, the text with it is that copy's
 text_alone : (g : Joined) → TakenIsItsOwn g.seat g.copies g.said → (serial : ℕ) (messages : List Handed) (h : KnowsPart g serial messages) (k n i mailbox uid : ℕ) → h.number k ≡ Some n
-    → with_uid uid (entries_at g mailbox) ≡ (key_at g.seat serial n i, uid) ∷ [] → (text : List ℕ) → Contains (slice_index_or g.texts mailbox []) (uid, text) → IsTextOf (message_at messages k) text
+    → with_uid uid (entries_at g mailbox) ≡ (key_at g.seat serial n i, uid) ∷ [] → (text : Text) → Contains (slice_index_or g.texts mailbox []) (uid, text) → IsTextOf (message_at messages k) text
 text_alone g own serial messages h k n i mailbox uid e alone text there =
     let from = text_from g own mailbox uid text there in
     let under : Contains (with_uid uid (entries_at g mailbox)) (from.key, uid) =

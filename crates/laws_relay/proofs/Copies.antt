@@ -2,6 +2,7 @@
 use Rattle.std.proofs.Common.{◌≡◌, ℕ, zero, suc, ◌+◌, ◌<◌, Bool, false, List, [], ◌∷◌, ◌++◌, length, map, refl, ap, sym, subst, ◌∙◌, arith}
 use Rattle.std.specs.Prelude.{Contains, slice_index_or}
 use Rattle.change_ring.specs.Log.{no_flags}
+use Rattle.delivery_token.specs.Text.{Text}
 use Rattle.delivery_token.specs.declared.CopyKey.{CopyKey}
 use Rattle.delivery_token.specs.declared.Job.{Job}
 use Rattle.delivery_token.specs.declared.Verdict.{Verdict}
@@ -36,11 +37,11 @@ pub record IsCopy (setting : Setting) (first : ℕ) (ss : List Submission) (job 
   pub is : job ≡ copy_at setting (first + n) (slice_index_or ss n no_submission) i
 
 -- of one message, from this recipient on
-abbrev IsFrom : Setting → ℕ → ℕ → List ℕ → List ℕ → Job → Type 0
+abbrev IsFrom : Setting → ℕ → ℕ → List ℕ → Text → Job → Type 0
 IsFrom setting n first mailboxes text job = (i : ℕ) × (i < length mailboxes) ×
     (job ≡ record { key = copy_key setting n (first + i); mailbox = slice_index_or mailboxes i 0; text = text; flags = no_flags })
 
-each_from : (setting : Setting) (n first : ℕ) (mailboxes text : List ℕ) → Every (IsFrom setting n first mailboxes text) (copies (keys_from setting n first mailboxes) mailboxes text no_flags)
+each_from : (setting : Setting) (n first : ℕ) (mailboxes : List ℕ) (text : Text) → Every (IsFrom setting n first mailboxes text) (copies (keys_from setting n first mailboxes) mailboxes text no_flags)
 each_from setting n first [] text = tt
 each_from setting n first (m ∷ ms) text = (
   (0, omega arith, (let e : first ≡ first + 0 = omega arith in ap (λ (x : ℕ). record { key = copy_key setting n x; mailbox = m; text = text; flags = no_flags }) e)),

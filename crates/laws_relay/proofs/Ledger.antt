@@ -3,6 +3,7 @@ use Rattle.std.proofs.Common.{◌≡◌, ℕ, zero, suc, ◌+◌, ◌<◌, List,
 use Rattle.std.specs.Prelude.{All, flat_map, slice_get, slice_index_or}
 use Rattle.std.proofs.lemmas.List.Elements.{All-contains, All-weaker}
 use Rattle.change_ring.specs.Log.{no_flags}
+use Rattle.delivery_token.specs.Text.{Text}
 use Rattle.delivery_token.specs.declared.CopyKey.{CopyKey}
 use Rattle.delivery_token.specs.declared.Job.{Job}
 use Rattle.delivery_token.specs.declared.Verdict.{Verdict}
@@ -229,11 +230,11 @@ same_note seat count parts a b h k e =
 
 -- ---- copies
 
-record IsCopyAt (keys : List CopyKey) (text : List ℕ) (i : ℕ) (copy : Job) : Type 0 where
+record IsCopyAt (keys : List CopyKey) (text : Text) (i : ℕ) (copy : Job) : Type 0 where
   key : slice_get keys i ≡ Some copy.key
   text_is : copy.text ≡ text
 
-copy_at : (keys : List CopyKey) (mailboxes text : List ℕ) (i : ℕ) (copy : Job) → slice_get (copies keys mailboxes text) i ≡ Some copy → IsCopyAt keys text i copy
+copy_at : (keys : List CopyKey) (mailboxes : List ℕ) (text : Text) (i : ℕ) (copy : Job) → slice_get (copies keys mailboxes text) i ≡ Some copy → IsCopyAt keys text i copy
 copy_at [] mailboxes text i copy e = absurd (none_at e)
 copy_at (k ∷ ks) [] text i copy e = absurd (none_at e)
 copy_at (k ∷ ks) (m ∷ ms) text zero copy e =

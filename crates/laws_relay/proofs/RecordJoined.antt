@@ -6,6 +6,7 @@ use Rattle.std.proofs.lemmas.Grind.{flat_map-append}
 use Rattle.std.proofs.lemmas.List.Elements.{All-contains}
 use Rattle.change_ring.specs.Log.{no_flags}
 use Rattle.delivery_token.specs.Keys.{Below}
+use Rattle.delivery_token.specs.Text.{Text, undated}
 use Rattle.delivery_token.specs.declared.CopyKey.{CopyKey}
 use Rattle.delivery_token.specs.declared.Job.{Job}
 use Rattle.delivery_token.specs.declared.Verdict.{Verdict}
@@ -164,7 +165,7 @@ taken_stands k w host directory setting known whole f i j e =
     let is = copy_is setting ss entry.0.0 n j copy.0 of_key in
     let mailbox : slice_index_or (submission_at ss n).mailboxes j 0 ≡ v.mailbox = sym (ap (λ (c : Job). c.mailbox) is.2) ∙ copy.1 in
     let names = named_at directory (message_at whole i).recipients (submission_at ss n).mailboxes s.1.names j is.1 in
-    let text : (submission_at ss n).text ≡ stored_text s.1.sender known_i.lines = s.1.text ∙ ap (stored_text s.1.sender) (sym same.lines) in
+    let text : (submission_at ss n).text ≡ undated (stored_text s.1.sender known_i.lines) = s.1.text ∙ ap (λ (lines : List (List ℕ)). undated (stored_text s.1.sender lines)) (sym same.lines) in
     record {
       mailbox = v.mailbox;
       named = subst (λ (m : ℕ). Names directory (slice_index_or known_i.recipients j []) m) mailbox
@@ -174,7 +175,7 @@ taken_stands k w host directory setting known whole f i j e =
       uid = u.0;
       once = once;
       copy = entry.0.0;
-      is = is.2 ∙ ap₂ (λ (m : ℕ) (t : List ℕ). record { key = key; mailbox = m; text = t; flags = no_flags }) mailbox text;
+      is = is.2 ∙ ap₂ (λ (m : ℕ) (t : Text). record { key = key; mailbox = m; text = t; flags = no_flags }) mailbox text;
       here = subst (λ (x : ℕ). Contains (w.box v.mailbox).accepted (entry.0.0, x)) of_uid there;
       alone = λ other a c same_key.
           let another = entry_is_copy k w host directory setting known whole f other a c (ap (λ (x : CopyKey). x.seat) same_key) (ap (λ (x : CopyKey). x.serial) same_key) in

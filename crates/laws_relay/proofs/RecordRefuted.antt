@@ -2,6 +2,7 @@
 use Rattle.std.proofs.Common.{◌≡◌, ℕ, zero, suc, ◌<◌, List, [], ◌∷◌, length, refl, Option, Some, None, ap, sym, ◌∙◌, arith}
 use Rattle.std.specs.Prelude.{Contains, codes, slice_index_or}
 use Rattle.change_ring.specs.Log.{no_flags}
+use Rattle.delivery_token.specs.Text.{Text, undated}
 use Rattle.delivery_token.specs.declared.CopyKey.{CopyKey}
 use Rattle.delivery_token.specs.declared.Job.{Job}
 use Rattle.envelope.specs.Directory.{Directory}
@@ -26,7 +27,7 @@ abbrev sent : Handed
 sent = message (codes "MAIL FROM:<s@a.example>") (bob ∷ []) (codes ".." ∷ []) (codes "250 2.1.5 Delivered" ∷ [])
 
 abbrev copy_of : (mailbox : ℕ) → (text : List ℕ) → Job
-copy_of mailbox text = record { key = key; mailbox = mailbox; text = text; flags = no_flags }
+copy_of mailbox text = record { key = key; mailbox = mailbox; text = undated text; flags = no_flags }
 
 abbrev right : List ℕ
 right = codes "Return-Path: <s@a.example>\r\n.\r\n"
@@ -122,9 +123,9 @@ another = holds [] ((copy_of 1 (codes "hi\r\n"), 7) ∷ [])
 other_text : StandsAsSent home another sent 0 key → ⊥
 other_text h = by h.mailbox (h.copy, h.uid) h.here (ap (λ (c : Job). c.text) h.is)
   where
-    by : (m : ℕ) (a : Job × ℕ) → Contains (another.box m).accepted a → a.0.text ≡ stored_text h.sender sent.lines → ⊥
+    by : (m : ℕ) (a : Job × ℕ) → Contains (another.box m).accepted a → a.0.text ≡ undated (stored_text h.sender sent.lines) → ⊥
     by zero a c e = none_there a c
-    by (suc zero) a (zero, l, same) e = differs _ (ap (λ (x : Job × ℕ). x.0.text) same ∙ e)
+    by (suc zero) a (zero, l, same) e = differs _ (ap (λ (x : Job × ℕ). x.0.text.bytes) same ∙ ap (λ (w : Text). w.bytes) e)
     by (suc zero) a (suc k, l, same) e = omega (arith, l)
     by (suc (suc m)) a c e = none_there a c
 

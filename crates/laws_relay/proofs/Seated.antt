@@ -5,6 +5,7 @@ use Rattle.std.proofs.lemmas.Bool.{false≢true}
 use Rattle.std.proofs.lemmas.Grind.{flat_map-append}
 use Rattle.std.proofs.lemmas.List.Elements.{Contains-append_left}
 use Rattle.change_ring.specs.Log.{no_flags}
+use Rattle.delivery_token.specs.Text.{Text}
 use Rattle.delivery_token.specs.declared.CopyKey.{CopyKey}
 use Rattle.delivery_token.specs.declared.Job.{Job}
 use Rattle.delivery_token.specs.declared.Verdict.{Verdict}
@@ -124,7 +125,7 @@ keys_serial : (setting : Setting) (number i : ℕ) (mailboxes : List ℕ) → Ev
 keys_serial setting number i [] = tt
 keys_serial setting number i (m ∷ ms) = (refl, keys_serial setting number (i + 1) ms)
 
-one_serial : (serial : ℕ) (keys : List CopyKey) (mailboxes text : List ℕ) → Every (λ (key : CopyKey). key.serial ≡ serial) keys
+one_serial : (serial : ℕ) (keys : List CopyKey) (mailboxes : List ℕ) (text : Text) → Every (λ (key : CopyKey). key.serial ≡ serial) keys
     → Every (λ (job : Job). job.key.serial ≡ serial) (copies keys mailboxes text no_flags)
 one_serial serial [] mailboxes text h = tt
 one_serial serial (key ∷ keys) [] text h = tt

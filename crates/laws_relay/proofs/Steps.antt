@@ -3,6 +3,7 @@ use Rattle.std.proofs.Common.{◌≡◌, ℕ, zero, suc, Bool, true, false, List
 use Rattle.std.specs.Prelude.{codes, not, replicate, ◌&&◌, ◌==◌, if◌then◌else◌}
 use Rattle.std.specs.List.{list_all}
 use Rattle.std.proofs.lemmas.List.{drop_at, length-map, length-replicate, take_at}
+use Rattle.delivery_token.specs.Text.{undated}
 use Rattle.delivery_token.specs.declared.Verdict.{Verdict}
 use Rattle.dot_stuffing.specs.declared.Outcome.{Outcome}
 use Rattle.dot_stuffing.specs.declared.Outcome.TheVariants as outcomes
@@ -126,7 +127,7 @@ outcome_step host directory setting n mail recipients lines sender mailboxes lin
 outcome_step host directory setting n mail recipients lines sender mailboxes line outcomes.Nul s a e = failed_step host directory n mail recipients lines mailboxes line NulByte a e refl
 outcome_step host directory setting n mail recipients lines sender mailboxes line outcomes.NoMemory s a e = failed_step host directory n mail recipients lines mailboxes line OutOfMemory a e refl
 outcome_step host directory setting n mail recipients lines sender mailboxes line outcomes.Ok s a e =
-    let submission : Submission = record { keys = keys_from setting n 0 mailboxes; mailboxes = mailboxes; text = stored_text sender lines } in
+    let submission : Submission = record { keys = keys_from setting n 0 mailboxes; mailboxes = mailboxes; text = undated (stored_text sender lines) } in
     record {
       next = Pends mail recipients lines submission;
       messages = [];

@@ -3,6 +3,7 @@ use Rattle.std.proofs.Common.{◌≡◌, inl, ℕ, zero, suc, List, [], ◌∷�
 use Rattle.std.specs.Prelude.{All, slice_get}
 use Rattle.std.proofs.lemmas.List.Elements.{All-cons, All-head, All-nil, All-tail}
 use Rattle.change_ring.specs.Log.{no_flags}
+use Rattle.delivery_token.specs.Text.{Text}
 use Rattle.delivery_token.specs.declared.CopyKey.{CopyKey}
 use Rattle.delivery_token.specs.declared.Job.{Job}
 use Rattle.delivery_token.specs.declared.Verdict.{Verdict}
@@ -38,7 +39,7 @@ of_message P [] n j there all = absurd (none_at there)
 of_message P (x ∷ xs) zero j there all = subst (λ (y : Judged). All P (told_of y)) (same_some there) (all_left P (told_of x) (told xs) all)
 of_message P (x ∷ xs) (suc n) j there all = of_message P xs n j there (all_right P (told_of x) (told xs) all)
 
-pub of_copy : (P : Job × Verdict → Type 0) (keys : List CopyKey) (mailboxes text : List ℕ) (verdicts : List Verdict) (i : ℕ) (key : CopyKey) (mailbox : ℕ) (verdict : Verdict)
+pub of_copy : (P : Job × Verdict → Type 0) (keys : List CopyKey) (mailboxes : List ℕ) (text : Text) (verdicts : List Verdict) (i : ℕ) (key : CopyKey) (mailbox : ℕ) (verdict : Verdict)
     → slice_get keys i ≡ Some key → slice_get mailboxes i ≡ Some mailbox → slice_get verdicts i ≡ Some verdict → All P (zip (copies keys mailboxes text) verdicts)
     → P ((let r : Job = record { key = key; mailbox = mailbox; text = text; flags = no_flags } in r), verdict)
 of_copy P [] mailboxes text verdicts i key mailbox verdict ek em ev all = absurd (none_at ek)
@@ -55,14 +56,14 @@ of_copy P (k ∷ ks) (m ∷ ms) text (v ∷ vs) (suc i) key mailbox verdict ek e
 -- ---- the recipient of a copy
 
 -- what stands at the copy's position in the lists of its message
-record IsAt (keys : List CopyKey) (mailboxes text : List ℕ) (verdicts : List Verdict) (copy : Job) (verdict : Verdict) : Type 0 where
+record IsAt (keys : List CopyKey) (mailboxes : List ℕ) (text : Text) (verdicts : List Verdict) (copy : Job) (verdict : Verdict) : Type 0 where
   i : ℕ
   key : slice_get keys i ≡ Some copy.key
   mailbox : slice_get mailboxes i ≡ Some copy.mailbox
   same_text : copy.text ≡ text
   judged_so : slice_get verdicts i ≡ Some verdict
 
-at_recipient : (keys : List CopyKey) (mailboxes text : List ℕ) (verdicts : List Verdict) (p : ℕ) (one : Job × Verdict) → slice_get (zip (copies keys mailboxes text) verdicts) p ≡ Some one
+at_recipient : (keys : List CopyKey) (mailboxes : List ℕ) (text : Text) (verdicts : List Verdict) (p : ℕ) (one : Job × Verdict) → slice_get (zip (copies keys mailboxes text) verdicts) p ≡ Some one
     → IsAt keys mailboxes text verdicts one.0 one.1
 at_recipient [] mailboxes text verdicts p one e = absurd (none_at e)
 at_recipient (k ∷ ks) [] text verdicts p one e = absurd (none_at e)

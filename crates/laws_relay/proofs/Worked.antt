@@ -3,6 +3,7 @@ use Rattle.std.proofs.Common.{◌≡◌, inl, inr, ℕ, zero, suc, ◌<◌, true
 use Rattle.std.specs.Prelude.{codes, slice_index_or, ◌||◌}
 use Rattle.std.proofs.lemmas.List.Elements.{All-cons, All-nil}
 use Rattle.change_ring.specs.Log.{no_flags}
+use Rattle.delivery_token.specs.Text.{Text, undated}
 use Rattle.delivery_token.specs.declared.CopyKey.{CopyKey}
 use Rattle.delivery_token.specs.declared.Job.{Job}
 use Rattle.delivery_token.specs.declared.Verdict.TheVariants.{Stored}
@@ -47,7 +48,7 @@ key = key_at 0 0 0 0
 
 abbrev judged : List Judged
 judged = record {
-  message = record { keys = key ∷ []; mailboxes = 0 ∷ []; text = codes "Return-Path: <s@a.example>\r\nhi\r\n" };
+  message = record { keys = key ∷ []; mailboxes = 0 ∷ []; text = undated (codes "Return-Path: <s@a.example>\r\nhi\r\n") };
   verdicts = Stored 7 ∷ [];
 } ∷ []
 
@@ -65,7 +66,7 @@ spoken = record {
   whole = refl;
   woven = line (codes "LHLO c.example") (Line (codes "LHLO c.example")) refl tt refl (line (codes "MAIL FROM:<s@a.example>") (Line (codes "MAIL FROM:<s@a.example>")) refl tt refl
       (line (codes "RCPT TO:<alice@example.org>") (Line (codes "RCPT TO:<alice@example.org>")) refl tt refl (line (codes "DATA") (Line (codes "DATA")) refl tt refl (line (codes "hi") (Line (codes "hi")) refl tt refl
-      (submits (codes ".") (Line (codes ".")) (record { keys = key ∷ []; mailboxes = 0 ∷ []; text = codes "Return-Path: <s@a.example>\r\nhi\r\n" }) (Stored 7 ∷ []) refl tt refl refl
+      (submits (codes ".") (Line (codes ".")) (record { keys = key ∷ []; mailboxes = 0 ∷ []; text = undated (codes "Return-Path: <s@a.example>\r\nhi\r\n") }) (Stored 7 ∷ []) refl tt refl refl
       (line (codes "QUIT") (Line (codes "QUIT")) refl tt refl none))))));
   replies = refl;
   messages = refl;
@@ -96,7 +97,7 @@ abbrev note : Noted
 note = record { key = key; mailbox = 0; verdict = Stored 7 }
 
 abbrev copy : Job
-copy = record { key = key; mailbox = 0; text = codes "Return-Path: <s@a.example>\r\nhi\r\n"; flags = no_flags }
+copy = record { key = key; mailbox = 0; text = undated (codes "Return-Path: <s@a.example>\r\nhi\r\n"); flags = no_flags }
 
 abbrev entries : List (Entry Job)
 entries = Item 0 copy ∷ End 0 ∷ []
@@ -155,7 +156,7 @@ account = record {
 abbrev accepted : List (List (CopyKey × ℕ))
 accepted = ((key, 7) ∷ []) ∷ []
 
-abbrev texts : List (List (ℕ × List ℕ))
+abbrev texts : List (List (ℕ × Text))
 texts = ((7, copy.text) ∷ []) ∷ []
 
 agree : ListsAgree alice true ((note ∷ []) ∷ []) ((copy ∷ []) ∷ []) accepted texts

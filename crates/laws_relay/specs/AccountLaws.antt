@@ -2,6 +2,7 @@
 use Rattle.std.specs.Prelude.{◌≡◌, ◌<◌, ℕ, Bool, false, List, [], ◌∷◌, ◌++◌, length, map, Contains, slice_index_or}
 use Rattle.std.specs.List.{list_any}
 use Rattle.std.specs.List.Sorted.{IsStrictlyIncreasing}
+use Rattle.delivery_token.specs.Text.{Text}
 use Rattle.delivery_token.specs.declared.CopyKey.{CopyKey}
 use Rattle.delivery_token.specs.declared.Job.{Job}
 use Rattle.delivery_token.specs.declared.log.Noted.{Noted}
@@ -43,7 +44,7 @@ DoUidsRise accepted = (mailbox : ℕ) → IsStrictlyIncreasing (map (λ (pair : 
 -- A worker's account beside lists that agree: of each of its connections a relay may conclude.
 abbrev pub AccountsConclude : Type 0
 AccountsConclude = (house : Premises) (seat : ℕ) (connections replies : List (List ℕ)) (heard : List (Entry Noted)) (said : List (List (Entry Job)))
-    (whole : Bool) (logs : List (List Noted)) (copies : List (List Job)) (accepted : List (List (CopyKey × ℕ))) (texts : List (List (ℕ × List ℕ)))
+    (whole : Bool) (logs : List (List Noted)) (copies : List (List Job)) (accepted : List (List (CopyKey × ℕ))) (texts : List (List (ℕ × Text)))
     → IsInLine house.host → seat < length logs
     → AccountOfLines house seat connections replies (slice_index_or logs seat []) heard said
     → ListsAgree house.directory whole logs copies accepted texts
@@ -54,7 +55,7 @@ AccountsConclude = (house : Premises) (seat : ℕ) (connections replies : List (
 -- and so it is with shards that were closed
 abbrev pub AccountsKeepClosed : Type 0
 AccountsKeepClosed = (house : Premises) (seat : ℕ) (connections replies : List (List ℕ)) (heard : List (Entry Noted)) (said : List (List (Entry Job)))
-    (whole : Bool) (logs : List (List Noted)) (copies : List (List Job)) (accepted : List (List (CopyKey × ℕ))) (texts : List (List (ℕ × List ℕ)))
+    (whole : Bool) (logs : List (List Noted)) (copies : List (List Job)) (accepted : List (List (CopyKey × ℕ))) (texts : List (List (ℕ × Text)))
     → 0 < house.directory.shards → seat < length logs
     → AccountOfLines house seat connections replies (slice_index_or logs seat []) heard said
     → ListsAgree house.directory whole logs copies accepted texts

@@ -1,5 +1,6 @@
 -- What a relay may conclude of a whole house: which copies of the messages that it handed over on one connection stand, and where.
 use Rattle.std.specs.Prelude.{◌≡◌, ℕ, ◌<◌, ◌≤◌, ◌⊎◌, true, false, List, ◌∷◌, [], ◌++◌, length, slice_index_or, AllPairs, Contains}
+use Rattle.delivery_token.specs.Text.{undated}
 use Rattle.change_ring.specs.Log.{no_flags}
 use Rattle.delivery_token.specs.Keys.{Below}
 use Rattle.delivery_token.specs.declared.CopyKey.{CopyKey}
@@ -44,7 +45,7 @@ pub record StandsAsSent (directory : Directory) (w : World) (message : Handed) (
   pub uid : ℕ
   pub once : StandsOnce (pairs (w.box mailbox).accepted) key uid
   pub copy : Job
-  pub is : copy ≡ record { key = key; mailbox = mailbox; text = stored_text sender message.lines; flags = no_flags }
+  pub is : copy ≡ record { key = key; mailbox = mailbox; text = undated (stored_text sender message.lines); flags = no_flags }
   pub here : Contains (w.box mailbox).accepted (copy, uid)
   pub alone : (other : ℕ) (entry : Job × ℕ) → Contains (w.box other).accepted entry → entry.0.key ≡ key → (other ≡ mailbox) × (entry.0 ≡ copy)
 
@@ -58,7 +59,7 @@ pub record IsHandedOver (directory : Directory) (seat serial : ℕ) (fates : Lis
   pub named : Names directory (slice_index_or (message_at whole i).recipients j []) mailbox
   pub sender : List ℕ
   pub from : IsSender (message_at whole i).mail sender
-  pub text : copy.text ≡ stored_text sender (message_at whole i).lines
+  pub text : copy.text ≡ undated (stored_text sender (message_at whole i).lines)
   pub read : (is_taken (message_at known i) j ≡ true) ⊎ (length (message_at known i).replies ≤ j)
 
 -- Of a relay that sent these bytes on the connection of this serial at this seat, and was told those; these others were printed for it too, and haven't reached it:

@@ -1,5 +1,6 @@
 -- What a relay may conclude of a house that ran, by the bytes that it sent and was told on a connection.
 use Rattle.std.specs.Prelude.{◌≡◌, ◌<◌, ℕ, true, false, List, [], ◌∷◌, ◌++◌, length, Contains, Option, Some, slice_get, slice_index_or}
+use Rattle.delivery_token.specs.Text.{Text, undated}
 use Rattle.delivery_token.specs.declared.CopyKey.{CopyKey}
 use Rattle.delivery_token.specs.Keys.{Below}
 use Rattle.envelope.specs.Directory.{Directory}
@@ -14,14 +15,14 @@ use Rattle.laws_relay.specs.Entries.{StandsNowhere, StandsOnce, with_uid}
 abbrev pub message_at : List Handed → ℕ → Handed
 message_at messages k = slice_index_or messages k no_message
 
--- the text that is stored of it: that of the MAIL line's path and of the lines of the data, without the dots that were put before them
-pub record IsTextOf (message : Handed) (text : List ℕ) : Type 0 where
+-- the text that is stored of it: that of the MAIL line's path and of the lines of the data, without the dots that were put before them, and no date beside it
+pub record IsTextOf (message : Handed) (text : Text) : Type 0 where
   pub sender : List ℕ
   pub from : IsSender message.mail sender
-  pub is : text ≡ stored_text sender message.lines
+  pub is : text ≡ undated (stored_text sender message.lines)
 
 -- The i-th recipient's copy stands in the mailbox that the i-th accepted RCPT line names, once, and nowhere else. `texts`: the messages that are there still, each with its UID.
-pub record IsStored (directory : Directory) (accepted : List (List (CopyKey × ℕ))) (texts : List (List (ℕ × List ℕ))) (key : CopyKey) (message : Handed) (i : ℕ) : Type 0 where
+pub record IsStored (directory : Directory) (accepted : List (List (CopyKey × ℕ))) (texts : List (List (ℕ × Text))) (key : CopyKey) (message : Handed) (i : ℕ) : Type 0 where
   pub mailbox : ℕ
   pub there : mailbox < length directory.homes
   pub names : Names directory (slice_index_or message.recipients i []) mailbox
@@ -30,7 +31,7 @@ pub record IsStored (directory : Directory) (accepted : List (List (CopyKey × �
   -- no other copy was accepted there under its UID
   pub alone : with_uid uid (slice_index_or accepted mailbox []) ≡ (key, uid) ∷ []
   -- a message with this UID has its text
-  pub text : (text : List ℕ) → Contains (slice_index_or texts mailbox []) (uid, text) → IsTextOf message text
+  pub text : (text : Text) → Contains (slice_index_or texts mailbox []) (uid, text) → IsTextOf message text
 
 -- ---- a connection
 
@@ -38,7 +39,7 @@ abbrev pub key_at : (seat serial number recipient : ℕ) → CopyKey
 key_at seat serial number recipient = record { seat = seat; serial = serial; message = number; recipient = recipient }
 
 -- The connection with this serial number of the worker with this seat: these bytes were sent, and these replied in all. The relay was told any front of the replies.
-pub record ConnectionConcludes (directory : Directory) (seat serial : ℕ) (sent replied : List ℕ) (accepted : List (List (CopyKey × ℕ))) (texts : List (List (ℕ × List ℕ))) : Type 0 where
+pub record ConnectionConcludes (directory : Directory) (seat serial : ℕ) (sent replied : List ℕ) (accepted : List (List (CopyKey × ℕ))) (texts : List (List (ℕ × Text))) : Type 0 where
   -- The house numbered the messages that were submitted, in their order: this is the number of the k-th that was handed over, if it was not refused as a whole. It is part of the keys of its copies.
   pub number : ℕ → Option ℕ
   pub rises : (k m a b : ℕ) → k < m → number k ≡ Some a → number m ≡ Some b → a < b
@@ -56,14 +57,14 @@ pub record ConnectionConcludes (directory : Directory) (seat serial : ℕ) (sent
   pub nothing_else : (mailbox uid : ℕ) (key : CopyKey) → Contains (slice_index_or accepted mailbox []) (key, uid) → key.seat ≡ seat → key.serial ≡ serial
       → (k : ℕ) × (number k ≡ Some key.message) × (is_taken (message_at (handed_over sent replied) k) key.recipient ≡ true)
   -- and a message that is there has the text of such a recipient's message, or was accepted as another's
-  pub texts_are : (mailbox uid : ℕ) (text : List ℕ) → Contains (slice_index_or texts mailbox []) (uid, text)
+  pub texts_are : (mailbox uid : ℕ) (text : Text) → Contains (slice_index_or texts mailbox []) (uid, text)
       → (key : CopyKey) × Contains (slice_index_or accepted mailbox []) (key, uid)
       × (key.seat ≡ seat → key.serial ≡ serial → (k : ℕ) × (number k ≡ Some key.message) × IsTextOf (message_at (handed_over sent replied) k) text)
 
 -- ---- a worker
 
 -- All connections of a worker, by the bytes that were sent on each, and perhaps more behind them, and by what was replied.
-pub record RelaysConclude (directory : Directory) (seat : ℕ) (connections replies : List (List ℕ)) (accepted : List (List (CopyKey × ℕ))) (texts : List (List (ℕ × List ℕ))) : Type 0 where
+pub record RelaysConclude (directory : Directory) (seat : ℕ) (connections replies : List (List ℕ)) (accepted : List (List (CopyKey × ℕ))) (texts : List (List (ℕ × Text))) : Type 0 where
   pub replied : length replies ≡ length connections
   pub each : (serial : ℕ) → serial < length connections → (more : List ℕ)
       → ConnectionConcludes directory seat serial (slice_index_or connections serial [] ++ more) (slice_index_or replies serial []) accepted texts

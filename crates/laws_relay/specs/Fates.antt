@@ -1,6 +1,7 @@
 -- What became of the messages that a relay handed over, by the dialogue that the server had with it.
 use Rattle.std.specs.Prelude.{◌≡◌, ℕ, Bool, true, false, codes, List, [], ◌∷◌, ◌++◌, length, map, not, Ok, if◌then◌else◌, slice_index_or}
 use Rattle.std.specs.List.{list_all}
+use Rattle.delivery_token.specs.Text.{undated}
 use Rattle.delivery_token.specs.declared.Verdict.{Verdict}
 use Rattle.envelope.specs.Values.{Path, Mail, Rcpt}
 use Rattle.envelope.specs.Directory.{Directory, lookup}
@@ -88,7 +89,7 @@ pub record IsSubmitted (directory : Directory) (message : Handed) (submission : 
   pub names : AreNamed directory message.recipients submission.mailboxes
   pub sender : List ℕ
   pub from : IsSender message.mail sender
-  pub text : submission.text ≡ stored_text sender message.lines
+  pub text : submission.text ≡ undated (stored_text sender message.lines)
 
 -- ---- fates
 

@@ -1,5 +1,6 @@
 -- Which of the messages that were handed over is which of those that were submitted: the ones that were turned away aren't counted there.
 use Rattle.std.specs.Prelude.{◌≡◌, ℕ, ◌<◌, Bool, true, false, List, [], length, map, take, slice_index_or}
+use Rattle.delivery_token.specs.Text.{undated}
 use Rattle.envelope.specs.Directory.{Directory}
 use Rattle.lmtp_machine.specs.Dialogue.{Submission}
 use Rattle.laws_relay.specs.ReplyLaws.{is_stored}
@@ -18,7 +19,7 @@ number_of fates k = length (all_submitted (take k fates))
 
 -- where there is no submission of a number
 abbrev pub no_submission : Submission
-no_submission = record { keys = []; mailboxes = []; text = [] }
+no_submission = record { keys = []; mailboxes = []; text = undated [] }
 
 pub record AreNumbered (directory : Directory) (messages : List Handed) (fates : List Fate) : Type 0 where
   -- the k-th message, where it was submitted, is of the submission of this number

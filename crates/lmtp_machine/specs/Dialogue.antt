@@ -8,6 +8,7 @@ use Rattle.envelope.specs.declared.command.CommandFault.{CommandFault}
 use Rattle.envelope.specs.declared.command.CommandFault.TheVariants as faults
 use Rattle.envelope.specs.declared.directory.NoSuch.{NoSuch}
 use Rattle.envelope.specs.declared.directory.NoSuch.TheVariants.{System, User}
+use Rattle.delivery_token.specs.Text.{Text, undated}
 use Rattle.delivery_token.specs.declared.CopyKey.{CopyKey}
 use Rattle.delivery_token.specs.declared.Verdict.{Verdict}
 use Rattle.delivery_token.specs.declared.Verdict.TheVariants.{Stored, Refused}
@@ -49,7 +50,7 @@ pub record Setting : Type 0 where
 pub record Submission : Type 0 where
   pub keys : List CopyKey
   pub mailboxes : List ℕ
-  pub text : List ℕ
+  pub text : Text
 
 -- what happens on a connection
 pub data Event : Type 0 where
@@ -164,7 +165,7 @@ on_outcome setting n sender recipients lines outcomes.Ok = record {
   submissions = record {
     keys = keys_from setting n 0 recipients;
     mailboxes = recipients;
-    text = stored_text sender lines;
+    text = undated (stored_text sender lines);
   } ∷ [];
 }
 

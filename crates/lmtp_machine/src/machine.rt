@@ -8,6 +8,7 @@ ghost use Rattle.lmtp_machine.specs.Conversation.{Conversation, opened};
 ghost use Rattle.envelope.specs.Directory.{Directory};
 ghost use Rattle.lmtp_machine.specs.LmtpMachine.{StandsFor, is_data};
 ghost use Rattle.lmtp_machine.specs.Standing.{IsOpen};
+ghost use Rattle.delivery_token.specs.Text.{undated};
 ghost use Rattle.lmtp_machine.specs.Message.{plain, return_path};
 ghost use Rattle.dot_stuffing.specs.Unstuffing.{IsBehind};
 ghost use Rattle.lmtp_machine.specs.Dialogue.{keys_from, on_outcome};
@@ -395,7 +396,7 @@ impl LmtpMachine {
           keys = keys_from self.now.setting self.now.commands.submitted 0
               self.now.commands.recipients;
           mailboxes = self.now.commands.recipients;
-          text = text.items;
+          text = undated text.items;
         }) }
     {
         let recipients = self.commands.recipients();

@@ -10,6 +10,7 @@ use Rattle.change_ring.specs.declared.flag_op.FlagOp.{FlagOp}
 use Rattle.change_ring.specs.Log.{IsLegalLog, rows_of}
 use Rattle.change_ring.specs.Logged.{arrival, discards, flags_after, flags_logged, removals, removals_if, seen_logged}
 use Rattle.cursor_set.specs.Cursors.{CursorHandle}
+use Rattle.delivery_token.specs.Text.{Text}
 use Rattle.delivery_token.specs.declared.CopyKey.{CopyKey}
 use Rattle.delivery_token.specs.declared.Job.{Job}
 use Rattle.delivery_token.specs.declared.Refusal.{Refusal}
@@ -311,7 +312,7 @@ found_text events n uid (m ∷ ms) texts = go (m.uid == uid) (found_text events 
 
 answered_text : (events : List Event) (n : ℕ) (f : Message → Row) (o : Option Message) → ((m : Message) → (f m).uid ≡ m.uid) → ((m : Message) → (f m).text ≡ m.text) → IfSome o (λ (m : Message). HasText events n m.uid m.text)
     → IfSome (option_map f o) (λ (r : Row). HasText events n r.uid r.text)
-answered_text events n f (Some m) uids texts has = subst (λ (x : ℕ × List ℕ). HasText events n x.0 x.1) (λ i. (sym (uids m) i, sym (texts m) i)) has
+answered_text events n f (Some m) uids texts has = subst (λ (x : ℕ × Text). HasText events n x.0 x.1) (λ i. (sym (uids m) i, sym (texts m) i)) has
 answered_text events n f None uids texts has = tt
 
 some_weaker : (o : Option Row) (P Q : Row → Type 0) → ((r : Row) → P r → Q r) → IfSome o P → IfSome o Q

@@ -24,7 +24,7 @@ is_zone b = is_letter b || ((b == 43) || (b == 45))
 digit_open : (b : ℕ) → is_digit b ≡ true → is_open b ≡ false
 digit_open b h = grind (arith, nat_tests)
 
-digit_letter : (b : ℕ) → is_digit b ≡ true → is_letter b ≡ false
+pub digit_letter : (b : ℕ) → is_digit b ≡ true → is_letter b ≡ false
 digit_letter b h = grind (arith, nat_tests)
 
 letter_open : (b : ℕ) → is_letter b ≡ true → is_open b ≡ false
@@ -50,7 +50,7 @@ open_letter b h = grind (arith, nat_tests)
 
 -- ---- parts
 
-regroup : (text a b rest : List ℕ) → text ≡ a ++ b → text ++ rest ≡ a ++ (b ++ rest)
+pub regroup : (text a b rest : List ℕ) → text ≡ a ++ b → text ++ rest ≡ a ++ (b ++ rest)
 regroup text a b rest e = ap (λ (t : List ℕ). t ++ rest) e ∙ append_assoc a b rest
 
 long_false : (text : List ℕ) → 0 < length text → (length text == 0) ≡ false
@@ -105,13 +105,13 @@ told n rest = Some (n, rest)
 pub said : (m n : ℕ) (rest : List ℕ) → m ≡ n → told m rest ≡ told n rest
 said m n rest e = ap (λ (k : ℕ). told k rest) e
 
-two_again : (n : ℕ) (text rest : List ℕ) → Digits 2 n text → two_at (text ++ rest) ≡ Some (n, rest)
+pub two_again : (n : ℕ) (text rest : List ℕ) → Digits 2 n text → two_at (text ++ rest) ≡ Some (n, rest)
 two_again n [] rest d = absurd (let e = d.0 in omega (arith, e))
 two_again n (a ∷ []) rest d = absurd (let e = d.0 in omega (arith, e))
 two_again n (a ∷ b ∷ []) rest d = two_is a b rest d.1.0 d.1.1.0 ∙ said ((a - 48) * 10 + (b - 48)) n rest (let v = d.2 in omega (arith, v))
 two_again n (a ∷ b ∷ c ∷ cs) rest d = absurd (let e = d.0 in omega (arith, e))
 
-digits_start : (k n : ℕ) (text : List ℕ) → Digits (suc k) n text → Starts is_digit text
+pub digits_start : (k n : ℕ) (text : List ℕ) → Digits (suc k) n text → Starts is_digit text
 digits_start k n [] d = absurd (let e = d.0 in omega (arith, e))
 digits_start k n (a ∷ more) d = d.1.0
 
@@ -270,10 +270,10 @@ name_stops text rest (inr j) s =
 
 -- ---- zones
 
-abbrev OffsetText : ℕ → ℕ → List ℕ → Type 0
+abbrev pub OffsetText : ℕ → ℕ → List ℕ → Type 0
 OffsetText h m = Joined (Digits 2 h) (Digits 2 m)
 
-offset_again : (w : Bool) (h m : ℕ) (text rest : List ℕ) → OffsetText h m text → offset_at w (text ++ rest) ≡ Some (offset w h m, rest)
+pub offset_again : (w : Bool) (h m : ℕ) (text rest : List ℕ) → OffsetText h m text → offset_at w (text ++ rest) ≡ Some (offset w h m, rest)
 offset_again w h m text rest j =
     ap (offset_at w) (regroup text j.front j.back rest j.parts)
     ∙ ap (λ (o : Option (ℕ × List ℕ)). o >>= (λ (x : ℕ × List ℕ). two_at x.1 >>= (λ (y : ℕ × List ℕ). Some (offset w x.0 y.0, y.1)))) (two_again h j.front (j.back ++ rest) j.first)
@@ -386,7 +386,7 @@ date_start y m d text j = subst (Starts is_digit) (sym j.parts) (starts_on is_di
 
 -- ---- the whole
 
-append_none : (xs : List ℕ) → xs ++ [] ≡ xs
+pub append_none : (xs : List ℕ) → xs ++ [] ≡ xs
 append_none [] = refl
 append_none (x ∷ xs) = ap (λ (l : List ℕ). x ∷ l) (append_none xs)
 

@@ -9,8 +9,9 @@ use Rattle.mail_date.specs.Bytes.{is_digit}
 use Rattle.mail_date.specs.Dates.{month_names, offset, is_date}
 use Rattle.mail_date.specs.Reading.{◌>>=◌, past_byte, two_at, month_at, signed_at, stamped, if_ended}
 use Rattle.mail_date.specs.Internal.{digit, two_digits, four_digits, name_at, internal_text}
-use Rattle.mail_date.specs.InternalBack.{four_at, fixed_date_at, fixed_time_at, internal_date}
+use Rattle.mail_date.specs.InternalBack.{four_at, fixed_day_at, fixed_date_at, fixed_time_at, internal_date}
 use Rattle.mail_date.proofs.Again.{two_is, said}
+use Rattle.mail_date.proofs.GivenAgain.{no_space}
 
 pub digit_is : (n : ℕ) → n < 10 → is_digit (digit n) ≡ true
 digit_is n h = ap (λ (t : Bool). t && nat_le (digit n) 57) (le-leb 48 (digit n) (omega (arith, h))) ∙ le-leb (digit n) 57 (omega (arith, h))
@@ -19,6 +20,9 @@ two_back : (n : ℕ) (rest : List ℕ) → n ≤ 99 → two_at (two_digits n ++ 
 two_back n rest h =
     two_is (digit (n / 10)) (digit (n % 10)) rest (digit_is (n / 10) (omega (arith, h))) (digit_is (n % 10) (omega arith))
     ∙ said ((digit (n / 10) - 48) * 10 + (digit (n % 10) - 48)) n rest (omega (arith, h))
+
+day_back : (n : ℕ) (rest : List ℕ) → n ≤ 99 → fixed_day_at (two_digits n ++ rest) ≡ Some (n, rest)
+day_back n rest h = no_space (two_digits n) rest (digit_is (n / 10) (omega (arith, h))) ∙ two_back n rest h
 
 four_back : (n : ℕ) (rest : List ℕ) → n ≤ 9999 → four_at (four_digits n ++ rest) ≡ Some (n, rest)
 four_back n rest h =
@@ -60,7 +64,7 @@ date_back : (y m d : ℕ) (rest : List ℕ) → (n : Month m) → y ≤ 9999 →
     → fixed_date_at (two_digits d ++ (45 ∷ n.a ∷ n.b ∷ n.c ∷ 45 ∷ (four_digits y ++ rest))) ≡ Some ((y, m, d), rest)
 date_back y m d rest n p q =
     ap (λ (o : Option (ℕ × List ℕ)). o >>= (λ (d : ℕ × List ℕ). past_byte 45 d.1 >>= (λ (a : List ℕ). month_at a >>= (λ (m : ℕ × List ℕ). past_byte 45 m.1 >>= (λ (b : List ℕ). four_at b >>= (λ (y : ℕ × List ℕ). Some ((y.0, m.0, d.0), y.1)))))))
-    (two_back d (45 ∷ n.a ∷ n.b ∷ n.c ∷ 45 ∷ (four_digits y ++ rest)) q)
+    (day_back d (45 ∷ n.a ∷ n.b ∷ n.c ∷ 45 ∷ (four_digits y ++ rest)) q)
     ∙ ap (λ (o : Option (ℕ × List ℕ)). o >>= (λ (m : ℕ × List ℕ). past_byte 45 m.1 >>= (λ (b : List ℕ). four_at b >>= (λ (y : ℕ × List ℕ). Some ((y.0, m.0, d), y.1)))))
     (n.reads (four_digits y ++ rest))
     ∙ ap (λ (o : Option (ℕ × List ℕ)). o >>= (λ (y : ℕ × List ℕ). Some ((y.0, m, d), y.1))) (four_back y rest p)

@@ -3,6 +3,8 @@ pub mod Blanks
 pub mod Sound
 pub mod BlanksAgain
 pub mod Again
+pub mod GivenSound
+pub mod GivenAgain
 pub mod Back
 pub mod Plain
 pub mod HeaderSound

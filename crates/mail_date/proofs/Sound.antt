@@ -27,7 +27,7 @@ moved : (P : List ℕ → Type 0) (bytes rest other : List ℕ) → rest ≡ oth
 moved P bytes rest other e f = subst (Front P bytes) e f
 
 -- two parts are one
-joined : (P Q : List ℕ → Type 0) (a b c : List ℕ) → Front P a b → Front Q b c → Front (Joined P Q) a c
+pub joined : (P Q : List ℕ → Type 0) (a b c : List ℕ) → Front P a b → Front Q b c → Front (Joined P Q) a c
 joined P Q a b c f g =
     record {
       text = f.text ++ g.text;
@@ -37,7 +37,7 @@ joined P Q a b c f g =
 
 -- ---- blanks and marks
 
-some_is : {A : Type 0} (x y : A) → Some x ≡ Some y → x ≡ y
+pub some_is : {A : Type 0} (x y : A) → Some x ≡ Some y → x ≡ y
 some_is x y e = cc
 
 blank_sound : (bytes r : List ℕ) → past_blank bytes ≡ Some r → Front Blank bytes r
@@ -45,11 +45,11 @@ blank_sound bytes r e =
     let b = bind_some (blank_len outside bytes) (λ (n : ℕ). Some (drop n bytes)) r e in
     moved Blank bytes (drop b.0 bytes) r (some_is (drop b.0 bytes) r b.2) (taken Blank b.0 bytes (blank_found bytes false 0 b.0 b.1))
 
-first_cons : (c : ℕ) (l : List ℕ) → first_is c l ≡ true → l ≡ c ∷ drop 1 l
+pub first_cons : (c : ℕ) (l : List ℕ) → first_is c l ≡ true → l ≡ c ∷ drop 1 l
 first_cons c [] e = absurd cc
 first_cons c (x ∷ xs) e = ap (λ (y : ℕ). y ∷ xs) ((Decides-eqb x c).0 e)
 
-byte_sound : (c : ℕ) (bytes r : List ℕ) → past_byte c bytes ≡ Some r → Front (λ t. t ≡ c ∷ []) bytes r
+pub byte_sound : (c : ℕ) (bytes r : List ℕ) → past_byte c bytes ≡ Some r → Front (λ t. t ≡ c ∷ []) bytes r
 byte_sound c bytes r e =
     let g = guard_some (first_is c bytes) (drop 1 bytes) r e in
     record { text = c ∷ []; parts = first_cons c bytes g.0 ∙ ap (λ (l : List ℕ). c ∷ l) g.1; is = refl }
@@ -63,19 +63,19 @@ mark_sound c bytes r e =
 
 -- ---- digits
 
-record One (bytes : List ℕ) (y : ℕ × List ℕ) : Type 0 where
+pub record One (bytes : List ℕ) (y : ℕ × List ℕ) : Type 0 where
   byte : ℕ
   parts : bytes ≡ byte ∷ y.1
   digit : is_digit byte ≡ true
   value : y.0 ≡ byte - 48
 
-one_sound : (bytes : List ℕ) (y : ℕ × List ℕ) → one_at bytes ≡ Some y → One bytes y
+pub one_sound : (bytes : List ℕ) (y : ℕ × List ℕ) → one_at bytes ≡ Some y → One bytes y
 one_sound [] y e = absurd cc
 one_sound (a ∷ rest) y e =
     let g = guard_some (is_digit a) (a - 48, rest) y e in
     record { byte = a; parts = ap (λ (p : ℕ × List ℕ). a ∷ p.1) g.1; digit = g.0; value = sym (ap (λ (p : ℕ × List ℕ). p.0) g.1) }
 
-one_front : (bytes : List ℕ) (y : ℕ × List ℕ) → One bytes y → Front (Digits 1 y.0) bytes y.1
+pub one_front : (bytes : List ℕ) (y : ℕ × List ℕ) → One bytes y → Front (Digits 1 y.0) bytes y.1
 one_front bytes y o =
     let v = o.value in
     record { text = o.byte ∷ []; parts = o.parts; is = (refl, (o.digit, tt), omega (arith, v)) }
@@ -90,7 +90,7 @@ two_front bytes x y z o p e f =
       is = (refl, (o.digit, (p.digit, tt)), omega (arith, v, w, e));
     }
 
-two_sound : (bytes : List ℕ) (z : ℕ × List ℕ) → two_at bytes ≡ Some z → Front (Digits 2 z.0) bytes z.1
+pub two_sound : (bytes : List ℕ) (z : ℕ × List ℕ) → two_at bytes ≡ Some z → Front (Digits 2 z.0) bytes z.1
 two_sound bytes z e =
     let a = bind_some (one_at bytes) (λ (a : ℕ × List ℕ). one_at a.1 >>= (λ (b : ℕ × List ℕ). Some (a.0 * 10 + b.0, b.1))) z e in
     let b = bind_some (one_at a.0.1) (λ (b : ℕ × List ℕ). Some (a.0.0 * 10 + b.0, b.1)) z a.2 in
@@ -150,7 +150,7 @@ four_front bytes x y w v n o p q r e =
     }
 
 -- the same text under another rule
-ruled : (P Q : List ℕ → Type 0) (bytes a b : List ℕ) → a ≡ b → ((text : List ℕ) → P text → Q text) → Front P bytes a → Front Q bytes b
+pub ruled : (P Q : List ℕ → Type 0) (bytes a b : List ℕ) → a ≡ b → ((text : List ℕ) → P text → Q text) → Front P bytes a → Front Q bytes b
 ruled P Q bytes a b e f g = record { text = g.text; parts = g.parts ∙ ap (λ (l : List ℕ). g.text ++ l) e; is = f g.text g.is }
 
 day_two : (bytes : List ℕ) (a z : ℕ × List ℕ) → One bytes a → (o : Option (ℕ × List ℕ)) → one_at a.1 ≡ o → second_digit a o ≡ z → Front (Day z.0) bytes z.1
@@ -277,14 +277,17 @@ offset_sound west bytes z e =
       west_is = refl;
     })
 
+abbrev Signed : Zone → List ℕ → Type 0
+Signed zone = Joined (Sign zone.is_west) (Joined (Digits 2 zone.hours) (Digits 2 zone.minutes))
+
 signed : (west : Bool) (c : ℕ) (bytes : List ℕ) (z : Zone × List ℕ) → ((w : Bool) → w ≡ west → Sign w (c ∷ [])) → first_is c bytes ≡ true
-    → offset_at west (drop 1 bytes) ≡ Some z → Front (ZoneText z.0) bytes z.1
+    → offset_at west (drop 1 bytes) ≡ Some z → Front (Signed z.0) bytes z.1
 signed west c bytes z s f e =
     let o = offset_sound west (drop 1 bytes) z e in
     record {
       text = c ∷ o.front.text;
       parts = first_cons c bytes f ∙ ap (λ (l : List ℕ). c ∷ l) o.front.parts;
-      is = inl (record { front = c ∷ []; back = o.front.text; parts = refl; first = s z.0.is_west o.west_is; second = o.front.is });
+      is = record { front = c ∷ []; back = o.front.text; parts = refl; first = s z.0.is_west o.west_is; second = o.front.is };
     }
 
 plus : (w : Bool) → w ≡ false → Sign w (43 ∷ [])
@@ -293,7 +296,7 @@ plus w e = subst (λ (v : Bool). Sign v (43 ∷ [])) (sym e) refl
 minus : (w : Bool) → w ≡ true → Sign w (45 ∷ [])
 minus w e = subst (λ (v : Bool). Sign v (45 ∷ [])) (sym e) refl
 
-signed_sound : (bytes : List ℕ) (z : Zone × List ℕ) → signed_at bytes ≡ Some z → Front (ZoneText z.0) bytes z.1
+pub signed_sound : (bytes : List ℕ) (z : Zone × List ℕ) → signed_at bytes ≡ Some z → Front (Signed z.0) bytes z.1
 signed_sound bytes z e =
     elim (either (first_is 43 bytes) (offset_at false (drop 1 bytes)) (cond (first_is 45 bytes) (offset_at true (drop 1 bytes)) None) (Some z) e) [
       | inl q ↦ signed false 43 bytes z plus q.0 q.1
@@ -313,7 +316,7 @@ named_sound bytes z e =
 zone_sound : (bytes : List ℕ) (z : Zone × List ℕ) → zone_at bytes ≡ Some z → Front (ZoneText z.0) bytes z.1
 zone_sound bytes z e =
     elim (either (first_is 43 bytes || first_is 45 bytes) (signed_at bytes) (named_at bytes) (Some z) e) [
-      | inl q ↦ signed_sound bytes z q.1
+      | inl q ↦ ruled (Signed z.0) (ZoneText z.0) bytes z.1 z.1 refl (λ text d. inl d) (signed_sound bytes z q.1)
       | inr q ↦ named_sound bytes z q.1
     ]
 
@@ -400,7 +403,7 @@ append_none : (xs : List ℕ) → xs ++ [] ≡ xs
 append_none [] = refl
 append_none (x ∷ xs) = ap (λ (l : List ℕ). x ∷ l) (append_none xs)
 
-ended : (P : List ℕ → Type 0) (text rest : List ℕ) (s z : Stamp) → Front P text rest → if_ended rest s ≡ Some z → P text × (is_date s ≡ true) × (s ≡ z)
+pub ended : (P : List ℕ → Type 0) (text rest : List ℕ) (s z : Stamp) → Front P text rest → if_ended rest s ≡ Some z → P text × (is_date s ≡ true) × (s ≡ z)
 ended P text [] s z f e =
     let g = guard_some (is_date s) s z e in
     (subst P (sym (f.parts ∙ append_none f.text)) f.is, g.0, g.1)

@@ -5,7 +5,7 @@ use Rattle.std.specs.Str.{str_eq_ignore_ascii_case as is_same}
 use Rattle.mail_date.specs.declared.stamp.Stamp.{Stamp}
 use Rattle.mail_date.specs.declared.place.Place.{Place}
 use Rattle.mail_date.specs.Bytes.{is_blank, first_is, is_folded}
-use Rattle.mail_date.specs.Dates.{offset}
+use Rattle.mail_date.specs.Dates.{is_date, offset}
 use Rattle.mail_date.specs.Reading.{◌>>=◌, outside, is_outside, behind, past_byte, date_time}
 
 -- this byte, before these, is the LF that ends a field: no space or tab folds it
@@ -71,3 +71,8 @@ date_or_none (Some s) = s
 -- the date of a message
 unfoldable pub message_date : List ℕ → Stamp
 message_date text = date_or_none (received_date text)
+
+-- the date of a message that came with this one, or with none: the one that it came with counts where the calendar and the clock have it
+abbrev pub date_or : Option Stamp → List ℕ → Stamp
+date_or None text = message_date text
+date_or (Some s) text = if is_date s then s else message_date text

@@ -6,4 +6,5 @@ pub mod Fields
 pub mod Header
 pub mod Internal
 pub mod InternalBack
+pub mod Given
 pub mod rows

@@ -3,7 +3,7 @@
 
 ghost use Rattle.std.specs.Prelude.{◌≡◌, ◌≤◌, ◌<◌, ◌+◌, length, IfSome, is_some, true, None, codes};
 ghost use Rattle.std.specs.Option.{option_copied};
-ghost use Rattle.mail_date.specs.Fields.{ends_field, field_len, is_empty_line, past_word, past_colon, past_name, received_body, last_semicolon, date_part, received_date, no_date, message_date};
+ghost use Rattle.mail_date.specs.Fields.{ends_field, field_len, is_empty_line, past_word, past_colon, past_name, received_body, last_semicolon, date_part, received_date, no_date, message_date, date_or};
 ghost use Rattle.mail_date.specs.Reading.{outside};
 ghost use Rattle.mail_date.specs.Bytes.{is_blank};
 ghost use Rattle.mail_date.specs.Dates.{is_date};
@@ -12,7 +12,7 @@ ghost use Rattle.std.specs.List.{prefix_len};
 use crate::front::{is_blank, past_byte};
 use crate::parts::read_date_time;
 use crate::place::{behind, is_outside, outside};
-use crate::stamp::{Stamp, Zone};
+use crate::stamp::{Stamp, Zone, is_date};
 
 /// Whether this byte, before these, is the LF that ends a field: no space or tab behind it folds the line (RFC 5322, section 2.2.3).
 pub fn ends_field(b: u8, rest: &[u8]) -> bool
@@ -182,5 +182,21 @@ pub fn message_date(text: &[u8]) -> Stamp
     match received_date(text) {
         Some(stamp) => stamp,
         None => no_date(),
+    }
+}
+
+/// The date of a message that came with this date, or with none (RFC 9051, section 2.3.3): the one that it came with, where the calendar and the
+/// clock have it, or else `message_date`, for which alone the text is read. The answer can always be written.
+pub fn received(given: Option<Stamp>, text: &[u8]) -> Stamp
+    ensures value { result ≡ date_or given text.now }
+    ensures date { is_date result ≡ true }
+{
+    let Some(date) = given else {
+        return message_date(text);
+    };
+    if is_date(&date) {
+        date
+    } else {
+        message_date(text)
     }
 }

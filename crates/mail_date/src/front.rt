@@ -85,7 +85,8 @@ pub(crate) fn past_mark(b: u8, bytes: &[u8]) -> Option<&[u8]>
     past_blank(rest)
 }
 
-fn one_at(bytes: &[u8]) -> Option<(u8, &[u8])>
+/// The number that one digit says, and what follows it.
+pub(crate) fn one_at(bytes: &[u8]) -> Option<(u8, &[u8])>
     ensures value { option_map (λ x. (x.0, x.1.now)) result ≡ one_at bytes.now }
     ensures bound { IfSome result (λ x. x.0 ≤ 9) }
 {
@@ -217,7 +218,7 @@ fn offset_at(is_west: bool, bytes: &[u8]) -> Option<(Zone, &[u8])>
 }
 
 /// A sign and four digits, and what follows them.
-fn signed_at(bytes: &[u8]) -> Option<(Zone, &[u8])>
+pub(crate) fn signed_at(bytes: &[u8]) -> Option<(Zone, &[u8])>
     ensures value { option_map (λ x. (x.0, x.1.now)) result ≡ signed_at bytes.now }
 {
     match bytes {

@@ -7,6 +7,7 @@ ghost use Rattle.mail_date.specs.declared.stamp.Stamp.{Stamp};
 ghost use Rattle.mail_date.specs.Grammar.{DateTime};
 ghost use Rattle.mail_date.specs.Reading.{date_time};
 ghost use Rattle.mail_date.specs.Dates.{is_date};
+ghost use Rattle.mail_date.specs.Given.{GivenDate};
 ghost use Rattle.mail_date.specs.Internal.{internal_text};
 ghost use Rattle.mail_date.specs.InternalBack.{internal_date};
 
@@ -23,6 +24,13 @@ pub fn what_is_spelled_is_read()
 /// What is written of a date in IMAP's form is read back as that date.
 pub fn what_is_written_is_read()
     ensures { (s : Stamp) → is_date s ≡ true → internal_date (internal_text s) ≡ Some s }
+{}
+
+/// Each date that is read as IMAP's clients give one is spelled by the written rules, and each that they spell is read (RFC 9051, 9: date-time).
+pub fn a_given_date_is_read()
+    ensures sound { (text : List ℕ) (s : Stamp) → internal_date text ≡ Some s → GivenDate s text }
+    ensures complete { (text : List ℕ) (s : Stamp) →
+        GivenDate s text → internal_date text ≡ Some s }
 {}
 
 /// The field whose date is taken is the first Received field of the header, by the written rules: each body that is

@@ -5,6 +5,7 @@
 
 mod field;
 mod front;
+mod given;
 mod internal;
 mod laws;
 mod parts;
@@ -13,11 +14,15 @@ mod stamp;
 #[cfg(test)]
 mod tests;
 
-pub use field::{begins_field, ends_field, field_len, is_empty_line, message_date, past_colon};
+pub use field::{
+    begins_field, ends_field, field_len, is_empty_line, message_date, past_colon, received,
+};
 pub use front::{day_at, month_at, two_at};
+pub use given::read_internal_date;
 pub use internal::{INTERNAL_LEN, write_internal_date};
 pub use laws::{
-    a_message_has_the_date_that_it_says, the_first_received_is_taken, the_last_semicolon_is_taken,
-    what_is_read_is_spelled, what_is_spelled_is_read, what_is_written_is_read,
+    a_given_date_is_read, a_message_has_the_date_that_it_says, the_first_received_is_taken,
+    the_last_semicolon_is_taken, what_is_read_is_spelled, what_is_spelled_is_read,
+    what_is_written_is_read,
 };
 pub use stamp::{Stamp, Zone};

@@ -1,7 +1,7 @@
 //! What a date is, as plain data, and which dates the calendar and the clock have.
 //! No text is read or written here.
 
-ghost use Rattle.std.specs.Prelude.{◌≡◌, ◌≤◌};
+ghost use Rattle.std.specs.Prelude.{◌≡◌, ◌≤◌, true, Some, None, if◌then◌else◌};
 ghost use Rattle.mail_date.specs.Dates.{is_leap, days_of, is_date};
 
 /// How far a clock was from UTC (RFC 5322, section 3.3). West of it by nothing, which is written -0000, says that
@@ -69,4 +69,11 @@ pub(crate) fn is_date(stamp: &Stamp) -> bool
         && stamp.second <= 59
         && stamp.zone.hours <= 99
         && stamp.zone.minutes <= 59
+}
+
+/// The date, where the calendar and the clock have it.
+pub(crate) fn if_date(stamp: Stamp) -> Option<Stamp>
+    ensures { result ≡ (if is_date stamp then Some stamp else None) }
+{
+    if is_date(&stamp) { Some(stamp) } else { None }
 }

@@ -11,13 +11,14 @@ use Rattle.change_ring.specs.Log.{no_flags}
 use Rattle.change_ring.specs.Logged.{arrival, flags_logged, new_flags}
 use Rattle.change_ring.specs.Window.{total}
 use Rattle.cursor_set.proofs.Positions.{Rises, Rises-from}
+use Rattle.delivery_token.specs.Text.{Text}
 use Rattle.mailbox.specs.Events.{Logs}
 use Rattle.mailbox.specs.Mailbox.{Mailbox, Message, flagged, is_spent, message_with, next_uid, row_of, uids_of}
 use Rattle.mailbox.specs.Stands.{Stands}
 use Rattle.mailbox.proofs.MessageLaws.{eqb_less, logged_with}
 
 -- the message before its flags are set
-abbrev pub bare : ℕ → List ℕ → Message
+abbrev pub bare : ℕ → Text → Message
 bare uid text = record { uid = uid; flags = no_flags; text = text }
 
 -- what all are, the last one is
@@ -25,27 +26,27 @@ last_is : (P : ℕ → Type 0) (ms : List Message) (x : Message) → AllByRecurs
 last_is P [] x h = h.0
 last_is P (m ∷ ms) x h = last_is P ms x h.1
 
-there : (uid : ℕ) (text : List ℕ) (ms : List Message) → Rises (uids_of (ms ++ bare uid text ∷ [])) → message_with uid (ms ++ bare uid text ∷ []) ≡ Some (bare uid text)
+there : (uid : ℕ) (text : Text) (ms : List Message) → Rises (uids_of (ms ++ bare uid text ∷ [])) → message_with uid (ms ++ bare uid text ∷ []) ≡ Some (bare uid text)
 there uid text [] up = rw (eq-eqb uid uid refl) refl
 there uid text (m ∷ ms) up = rw (eqb_less m.uid uid (last_is (λ v. m.uid < v) ms (bare uid text) up.0)) (there uid text ms up.1)
 
-set_last : (uid : ℕ) (flags : Flags) (text : List ℕ) (ms : List Message) → Rises (uids_of (ms ++ bare uid text ∷ []))
+set_last : (uid : ℕ) (flags : Flags) (text : Text) (ms : List Message) → Rises (uids_of (ms ++ bare uid text ∷ []))
     → flagged uid (Set flags) (ms ++ bare uid text ∷ []) ≡ ms ++ record { uid = uid; flags = flags; text = text } ∷ []
 set_last uid flags text [] up = rw (eq-eqb uid uid refl) refl
 set_last uid flags text (m ∷ ms) up =
     rw (eqb_less m.uid uid (last_is (λ v. m.uid < v) ms (bare uid text) up.0)) (ap (λ (ns : List Message). m ∷ ns) (set_last uid flags text ms up.1))
 
 -- it is the one of its UID
-pub arrived_there : (uid : ℕ) (text : List ℕ) (ms : List Message) → IsStrictlyIncreasing (uids_of (ms ++ bare uid text ∷ [])) → message_with uid (ms ++ bare uid text ∷ []) ≡ Some (bare uid text)
+pub arrived_there : (uid : ℕ) (text : Text) (ms : List Message) → IsStrictlyIncreasing (uids_of (ms ++ bare uid text ∷ [])) → message_with uid (ms ++ bare uid text ∷ []) ≡ Some (bare uid text)
 arrived_there uid text ms up = there uid text ms (Rises-from (uids_of (ms ++ bare uid text ∷ [])) up)
 
 -- setting the flags logs what is still missing
-pub arrived_logged : (uid : ℕ) (flags : Flags) (text : List ℕ) (ms : List Message) → IsStrictlyIncreasing (uids_of (ms ++ bare uid text ∷ []))
+pub arrived_logged : (uid : ℕ) (flags : Flags) (text : Text) (ms : List Message) → IsStrictlyIncreasing (uids_of (ms ++ bare uid text ∷ []))
     → flags_logged (map row_of (ms ++ bare uid text ∷ [])) uid (Set flags) ≡ new_flags uid no_flags flags
 arrived_logged uid flags text ms up = logged_with (Set flags) uid (ms ++ bare uid text ∷ []) (bare uid text) (arrived_there uid text ms up)
 
 -- and then the message has them
-pub arrived_flagged : (uid : ℕ) (flags : Flags) (text : List ℕ) (ms : List Message) → IsStrictlyIncreasing (uids_of (ms ++ bare uid text ∷ []))
+pub arrived_flagged : (uid : ℕ) (flags : Flags) (text : Text) (ms : List Message) → IsStrictlyIncreasing (uids_of (ms ++ bare uid text ∷ []))
     → flagged uid (Set flags) (ms ++ bare uid text ∷ []) ≡ ms ++ record { uid = uid; flags = flags; text = text } ∷ []
 arrived_flagged uid flags text ms up = set_last uid flags text ms (Rises-from (uids_of (ms ++ bare uid text ∷ [])) up)
 

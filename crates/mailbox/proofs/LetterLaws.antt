@@ -13,6 +13,7 @@ use Rattle.std.proofs.lemmas.List.Sums.{count_by-le-length, sum_by-cons, sum_by-
 use Rattle.std.proofs.lemmas.Option.{slice_get-get_or, slice_get_within}
 use Rattle.change_ring.specs.declared.change.Flags.{Flags}
 use Rattle.cursor_set.proofs.Positions.{Rises, Rises-first, Rises-from, Rises-to}
+use Rattle.delivery_token.specs.Text.{Text}
 use Rattle.mailbox.proofs.MarkLaws.{length_reflagged, not_falling}
 use Rattle.mailbox.specs.Counts.{bytes_in_all, unseen_count}
 use Rattle.mailbox.specs.declared.letters.Letter.{Letter}
@@ -54,15 +55,15 @@ flags_of_none (Some m) e = cc
 
 -- ---- a letter of another UID in front of messages
 
-front_with : (uid u : ℕ) (flags : Flags) (t : Option (List ℕ)) (ms : List Message) → (u == uid) ≡ false → message_with uid (in_front u flags t ms) ≡ message_with uid ms
+front_with : (uid u : ℕ) (flags : Flags) (t : Option Text) (ms : List Message) → (u == uid) ≡ false → message_with uid (in_front u flags t ms) ≡ message_with uid ms
 front_with uid u flags None ms off = refl
 front_with uid u flags (Some t) ms off = ap (λ (b : Bool). if b then Some (message_of u flags t) else message_with uid ms) off
 
-front_without : (uid u : ℕ) (flags : Flags) (t : Option (List ℕ)) (ms : List Message) → (u == uid) ≡ false → without_message uid (in_front u flags t ms) ≡ in_front u flags t (without_message uid ms)
+front_without : (uid u : ℕ) (flags : Flags) (t : Option Text) (ms : List Message) → (u == uid) ≡ false → without_message uid (in_front u flags t ms) ≡ in_front u flags t (without_message uid ms)
 front_without uid u flags None ms off = refl
 front_without uid u flags (Some t) ms off = ap (λ (b : Bool). if b then ms else message_of u flags t ∷ without_message uid ms) off
 
-front_reflagged : (uid u : ℕ) (new flags : Flags) (t : Option (List ℕ)) (ms : List Message) → (u == uid) ≡ false →
+front_reflagged : (uid u : ℕ) (new flags : Flags) (t : Option Text) (ms : List Message) → (u == uid) ≡ false →
     reflagged uid new (in_front u flags t ms) ≡ in_front u flags t (reflagged uid new ms)
 front_reflagged uid u new flags None ms off = refl
 front_reflagged uid u new flags (Some t) ms off = ap (λ (b : Bool). if b then record (message_of u flags t) { flags = new } ∷ ms else message_of u flags t ∷ reflagged uid new ms) off
@@ -101,11 +102,11 @@ low u (x ∷ ls) (suc k) l up within at = low u ls k l up.1 (omega (arith, withi
 
 -- what is found
 pub with_at : (ls : List Filed) (position : ℕ) (l : Filed) → Rises (letter_uids ls) → position < length ls → get_or ls position l ≡ l →
-    message_with l.uid (messages_of ls) ≡ option_map (λ (t : List ℕ). message_of l.uid l.flags t) l.text
+    message_with l.uid (messages_of ls) ≡ option_map (λ (t : Text). message_of l.uid l.flags t) l.text
 with_at [] position l up within at = absurd (omega (arith, within))
-with_at (x ∷ ls) zero l up within at = subst (λ (y : Filed). message_with y.uid (messages_of (x ∷ ls)) ≡ option_map (λ (t : List ℕ). message_of y.uid y.flags t) y.text) at (by_case x.text)
+with_at (x ∷ ls) zero l up within at = subst (λ (y : Filed). message_with y.uid (messages_of (x ∷ ls)) ≡ option_map (λ (t : Text). message_of y.uid y.flags t) y.text) at (by_case x.text)
   where
-    by_case : (t : Option (List ℕ)) → message_with x.uid (in_front x.uid x.flags t (messages_of ls)) ≡ option_map (λ (y : List ℕ). message_of x.uid x.flags y) t
+    by_case : (t : Option Text) → message_with x.uid (in_front x.uid x.flags t (messages_of ls)) ≡ option_map (λ (y : Text). message_of x.uid x.flags y) t
     by_case None = none_above x.uid ls up.0
     by_case (Some t) = ap (λ (b : Bool). if b then Some (message_of x.uid x.flags t) else message_with x.uid (messages_of ls)) (eq-eqb x.uid x.uid refl)
 with_at (x ∷ ls) (suc k) l up within at =
@@ -118,7 +119,7 @@ reflagged_at flags [] position l up within at = absurd (omega (arith, within))
 reflagged_at flags (x ∷ ls) zero l up within at =
     subst (λ (y : Filed). messages_of (slice_set (x ∷ ls) 0 (record { uid = y.uid; flags = flags; text = y.text })) ≡ reflagged y.uid flags (messages_of (x ∷ ls))) at (by_case x.text)
   where
-    by_case : (t : Option (List ℕ)) → in_front x.uid flags t (messages_of ls) ≡ reflagged x.uid flags (in_front x.uid x.flags t (messages_of ls))
+    by_case : (t : Option Text) → in_front x.uid flags t (messages_of ls) ≡ reflagged x.uid flags (in_front x.uid x.flags t (messages_of ls))
     by_case None = sym (reflagged_none x.uid flags (messages_of ls) (none_above x.uid ls up.0))
     by_case (Some t) = sym (ap (λ (b : Bool). if b then message_of x.uid flags t ∷ messages_of ls else message_of x.uid x.flags t ∷ reflagged x.uid flags (messages_of ls)) (eq-eqb x.uid x.uid refl))
 reflagged_at flags (x ∷ ls) (suc k) l up within at =
@@ -132,7 +133,7 @@ without_at [] position l up within at = absurd (omega (arith, within))
 without_at (x ∷ ls) zero l up within at =
     subst (λ (y : Filed). messages_of (slice_set (x ∷ ls) 0 (record { uid = y.uid; flags = y.flags; text = None })) ≡ without_message y.uid (messages_of (x ∷ ls))) at (by_case x.text)
   where
-    by_case : (t : Option (List ℕ)) → messages_of ls ≡ without_message x.uid (in_front x.uid x.flags t (messages_of ls))
+    by_case : (t : Option Text) → messages_of ls ≡ without_message x.uid (in_front x.uid x.flags t (messages_of ls))
     by_case None = sym (without_none x.uid (messages_of ls) (none_above x.uid ls up.0))
     by_case (Some t) = sym (ap (λ (b : Bool). if b then messages_of ls else message_of x.uid x.flags t ∷ without_message x.uid (messages_of ls)) (eq-eqb x.uid x.uid refl))
 without_at (x ∷ ls) (suc k) l up within at =
@@ -196,7 +197,7 @@ none_there uid (u ∷ us) (l ∷ ls) none = elim (eqb_tells u uid) [
 
 -- what is known of the letter at a position that has a UID
 pub record IsAt (us : List ℕ) (ls : List Letter) (position uid : ℕ) (l : Letter) : Type 0 where
-  pub found : message_with uid (messages_of (filed us ls)) ≡ option_map (λ (t : List ℕ). message_of uid l.flags t) l.text
+  pub found : message_with uid (messages_of (filed us ls)) ≡ option_map (λ (t : Text). message_of uid l.flags t) l.text
   pub set : (flags : Flags) → messages_of (filed us (slice_set ls position (record { flags = flags; text = l.text }))) ≡ reflagged uid flags (messages_of (filed us ls))
   pub taken : messages_of (filed us (slice_set ls position (record { flags = l.flags; text = None }))) ≡ without_message uid (messages_of (filed us ls))
 
@@ -214,12 +215,12 @@ at_position us ls position uid l rising beside found is =
     }
 
 -- its text was taken
-pub text_gone : (t : Option (List ℕ)) → is_some t ≡ false → t ≡ None
+pub text_gone : (t : Option Text) → is_some t ≡ false → t ≡ None
 text_gone None e = refl
 text_gone (Some t) e = cc
 
 -- and where it wasn't it is there
-pub text_there : (t : Option (List ℕ)) → is_some t ≡ true → (x : List ℕ) × (t ≡ Some x)
+pub text_there : (t : Option Text) → is_some t ≡ true → (x : Text) × (t ≡ Some x)
 text_there None e = cc
 text_there (Some x) e = (x, refl)
 
@@ -245,7 +246,7 @@ messages_more : (ls : List Filed) (l : Filed) → messages_of (ls ++ l ∷ []) �
 messages_more [] l = refl
 messages_more (x ∷ ls) l = by_case x.text (messages_more ls l)
   where
-    by_case : (t : Option (List ℕ)) → messages_of (ls ++ l ∷ []) ≡ messages_of ls ++ in_front l.uid l.flags l.text [] →
+    by_case : (t : Option Text) → messages_of (ls ++ l ∷ []) ≡ messages_of ls ++ in_front l.uid l.flags l.text [] →
         in_front x.uid x.flags t (messages_of (ls ++ l ∷ [])) ≡ in_front x.uid x.flags t (messages_of ls) ++ in_front l.uid l.flags l.text []
     by_case None h = h
     by_case (Some t) h = ap (λ (ms : List Message). message_of x.uid x.flags t ∷ ms) h
@@ -267,11 +268,11 @@ messages_there [] ls = refl
 messages_there (u ∷ us) [] = refl
 messages_there (u ∷ us) (l ∷ ls) = by_case l.text refl (messages_there us ls)
   where
-    by_case : (t : Option (List ℕ)) → l.text ≡ t → messages_of (filed (uids_of (messages_of (filed us ls))) (there ls)) ≡ messages_of (filed us ls) →
+    by_case : (t : Option Text) → l.text ≡ t → messages_of (filed (uids_of (messages_of (filed us ls))) (there ls)) ≡ messages_of (filed us ls) →
         messages_of (filed (uids_of (in_front u l.flags t (messages_of (filed us ls)))) (cond (is_some t) (l ∷ there ls) (there ls))) ≡ in_front u l.flags t (messages_of (filed us ls))
     by_case None is h = h
     by_case (Some t) is h =
-        ap (λ (x : Option (List ℕ)). in_front u l.flags x (messages_of (filed (uids_of (messages_of (filed us ls))) (there ls)))) is ∙ ap (λ (ms : List Message). message_of u l.flags t ∷ ms) h
+        ap (λ (x : Option Text). in_front u l.flags x (messages_of (filed (uids_of (messages_of (filed us ls))) (there ls)))) is ∙ ap (λ (ms : List Message). message_of u l.flags t ∷ ms) h
 
 -- and as many
 pub length_there : (us : List ℕ) (ls : List Letter) → length ls ≡ length us → length (there ls) ≡ length (messages_of (filed us ls))
@@ -280,7 +281,7 @@ length_there [] (l ∷ ls) beside = absurd (omega (arith, beside))
 length_there (u ∷ us) [] beside = absurd (omega (arith, beside))
 length_there (u ∷ us) (l ∷ ls) beside = by_case l.text (length_there us ls (omega (arith, beside)))
   where
-    by_case : (t : Option (List ℕ)) → length (there ls) ≡ length (messages_of (filed us ls)) → length (cond (is_some t) (l ∷ there ls) (there ls)) ≡ length (in_front u l.flags t (messages_of (filed us ls)))
+    by_case : (t : Option Text) → length (there ls) ≡ length (messages_of (filed us ls)) → length (cond (is_some t) (l ∷ there ls) (there ls)) ≡ length (in_front u l.flags t (messages_of (filed us ls)))
     by_case None h = h
     by_case (Some t) h = ap suc h
 
@@ -290,7 +291,7 @@ module _ (P : ℕ → Type 0) where
   all_there [] h = tt
   all_there (l ∷ ls) h = by_case l.text (all_there ls h.1)
     where
-      by_case : (t : Option (List ℕ)) → AllByRecursion P (uids_of (messages_of ls)) → AllByRecursion P (uids_of (in_front l.uid l.flags t (messages_of ls)))
+      by_case : (t : Option Text) → AllByRecursion P (uids_of (messages_of ls)) → AllByRecursion P (uids_of (in_front l.uid l.flags t (messages_of ls)))
       by_case None rest = rest
       by_case (Some t) rest = (h.0, rest)
 
@@ -298,7 +299,7 @@ rising_there : (ls : List Filed) → Rises (letter_uids ls) → Rises (uids_of (
 rising_there [] up = tt
 rising_there (l ∷ ls) up = by_case l.text (rising_there ls up.1)
   where
-    by_case : (t : Option (List ℕ)) → Rises (uids_of (messages_of ls)) → Rises (uids_of (in_front l.uid l.flags t (messages_of ls)))
+    by_case : (t : Option Text) → Rises (uids_of (messages_of ls)) → Rises (uids_of (in_front l.uid l.flags t (messages_of ls)))
     by_case None rest = rest
     by_case (Some t) rest = (all_there (λ v. l.uid < v) ls up.0, rest)
 
@@ -312,7 +313,7 @@ messages_few [] ls = omega arith
 messages_few (u ∷ us) [] = omega arith
 messages_few (u ∷ us) (l ∷ ls) = by_case l.text (messages_few us ls)
   where
-    by_case : (t : Option (List ℕ)) → length (messages_of (filed us ls)) ≤ length us → length (in_front u l.flags t (messages_of (filed us ls))) ≤ suc (length us)
+    by_case : (t : Option Text) → length (messages_of (filed us ls)) ≤ length us → length (in_front u l.flags t (messages_of (filed us ls))) ≤ suc (length us)
     by_case None h = omega (arith, h)
     by_case (Some t) h = omega (arith, h)
 
@@ -322,7 +323,7 @@ each_there [] ls full = refl
 each_there (u ∷ us) [] full = absurd (omega (arith, full))
 each_there (u ∷ us) (l ∷ ls) full = by_case l.text full (messages_few us ls) (λ e. each_there us ls e)
   where
-    by_case : (t : Option (List ℕ)) → length (in_front u l.flags t (messages_of (filed us ls))) ≡ suc (length us) → length (messages_of (filed us ls)) ≤ length us →
+    by_case : (t : Option Text) → length (in_front u l.flags t (messages_of (filed us ls))) ≡ suc (length us) → length (messages_of (filed us ls)) ≤ length us →
         (length (messages_of (filed us ls)) ≡ length us → uids_of (messages_of (filed us ls)) ≡ us) → uids_of (in_front u l.flags t (messages_of (filed us ls))) ≡ u ∷ us
     by_case None full few h = absurd (omega (arith, full, few))
     by_case (Some t) full few h = ap (λ (vs : List ℕ). u ∷ vs) (h (omega (arith, full)))
@@ -336,10 +337,10 @@ comes us ls position u l within beside is at =
     ap (λ (vs : List ℕ). messages_of (filed vs (drop position ls))) uids ∙ ap (λ (xs : List Letter). messages_of (filed (u ∷ drop (position + 1) us) xs)) letters
 
 -- where its text is there it is a message
-pub comes_one : (us : List ℕ) (ls : List Letter) (position u : ℕ) (l : Letter) (t : List ℕ) → position < length us → length ls ≡ length us → u ≡ get_or us position u → l ≡ get_or ls position l →
+pub comes_one : (us : List ℕ) (ls : List Letter) (position u : ℕ) (l : Letter) (t : Text) → position < length us → length ls ≡ length us → u ≡ get_or us position u → l ≡ get_or ls position l →
     l.text ≡ Some t → messages_of (filed (drop position us) (drop position ls)) ≡ message_of u l.flags t ∷ messages_of (filed (drop (position + 1) us) (drop (position + 1) ls))
 comes_one us ls position u l t within beside is at there =
-    comes us ls position u l within beside is at ∙ ap (λ (x : Option (List ℕ)). in_front u l.flags x (messages_of (filed (drop (position + 1) us) (drop (position + 1) ls)))) there
+    comes us ls position u l within beside is at ∙ ap (λ (x : Option Text). in_front u l.flags x (messages_of (filed (drop (position + 1) us) (drop (position + 1) ls)))) there
 
 -- and where it was taken none
 pub comes_none : (us : List ℕ) (ls : List Letter) (position : ℕ) (l : Letter) → position < length us → length ls ≡ length us → l ≡ get_or ls position l → l.text ≡ None →
@@ -347,7 +348,7 @@ pub comes_none : (us : List ℕ) (ls : List Letter) (position : ℕ) (l : Letter
 comes_none us ls position l within beside at gone =
     let u = get_or us position 0 in
     comes us ls position u l within beside (get_or_default us position 0 u within) at
-    ∙ ap (λ (x : Option (List ℕ)). in_front u l.flags x (messages_of (filed (drop (position + 1) us) (drop (position + 1) ls)))) gone
+    ∙ ap (λ (x : Option Text). in_front u l.flags x (messages_of (filed (drop (position + 1) us) (drop (position + 1) ls)))) gone
 
 -- ---- the UIDs close up
 
@@ -420,7 +421,7 @@ length_without uid (m ∷ ms) x found = by_case (m.uid == uid) found (λ h. leng
 
 -- ---- what holds of each message, where its text alone counts
 
-module _ (P : List ℕ → Type 0) where
+module _ (P : Text → Type 0) where
   texts_without : (uid : ℕ) (ms : List Message) → AllByRecursion (λ (m : Message). P m.text) ms → AllByRecursion (λ (m : Message). P m.text) (without_message uid ms)
   texts_without uid [] h = tt
   texts_without uid (m ∷ ms) h = by_case (m.uid == uid) (texts_without uid ms h.1)
@@ -447,12 +448,12 @@ module _ (P : List ℕ → Type 0) where
 -- ---- what is counted
 
 -- the texts are few
-pub bytes_few : (ms : List Message) → All (λ (m : Message). length m.text ≤ 0xffff_ffff_ffff_ffff) ms → bytes_in_all ms ≤ length ms * 0xffff_ffff_ffff_ffff
-bytes_few ms small = sum_by-le (λ (m : Message). length m.text) 0xffff_ffff_ffff_ffff ms small
+pub bytes_few : (ms : List Message) → All (λ (m : Message). length m.text.bytes ≤ 0xffff_ffff_ffff_ffff) ms → bytes_in_all ms ≤ length ms * 0xffff_ffff_ffff_ffff
+bytes_few ms small = sum_by-le (λ (m : Message). length m.text.bytes) 0xffff_ffff_ffff_ffff ms small
 
 pub AreCounted-add : (b : Inside) (us : Vec ℕ) (ls : Vec Letter) (x : Message) → AreCounted b → IsStrictlyIncreasing us.items → length ls.items ≡ length us.items →
-    messages_of (filed us.items ls.items) ≡ messages_of (filed b.uids.items b.letters.items) ++ x ∷ [] → x.flags.seen ≡ false → length x.text ≤ 0xffff_ffff_ffff_ffff →
-    AreCounted (record { uids = us; letters = ls; count = b.count + 1; unseen = b.unseen + 1; bytes = b.bytes + length x.text })
+    messages_of (filed us.items ls.items) ≡ messages_of (filed b.uids.items b.letters.items) ++ x ∷ [] → x.flags.seen ≡ false → length x.text.bytes ≤ 0xffff_ffff_ffff_ffff →
+    AreCounted (record { uids = us; letters = ls; count = b.count + 1; unseen = b.unseen + 1; bytes = b.bytes + length x.text.bytes })
 AreCounted-add b us ls x h rising beside is off short =
     let ms = messages_of (filed b.uids.items b.letters.items) in
     let one : one_if (not x.flags.seen) ≡ 1 = ap (λ (s : Bool). one_if (not s)) off in
@@ -461,8 +462,8 @@ AreCounted-add b us ls x h rising beside is off short =
       beside = beside;
       count = omega (arith, h.count, ap length is, length_push ms x);
       unseen = omega (arith, h.unseen, ap unseen_count is, sum_by_push (λ (m : Message). one_if (not m.flags.seen)) ms x, one);
-      bytes = omega (arith, h.bytes, ap bytes_in_all is, sum_by_push (λ (m : Message). length m.text) ms x);
-      small = subst (All (λ (m : Message). length m.text ≤ 0xffff_ffff_ffff_ffff)) (sym is) (All-push (λ (m : Message). length m.text ≤ 0xffff_ffff_ffff_ffff) ms x h.small short);
+      bytes = omega (arith, h.bytes, ap bytes_in_all is, sum_by_push (λ (m : Message). length m.text.bytes) ms x);
+      small = subst (All (λ (m : Message). length m.text.bytes ≤ 0xffff_ffff_ffff_ffff)) (sym is) (All-push (λ (m : Message). length m.text.bytes ≤ 0xffff_ffff_ffff_ffff) ms x h.small short);
     }
   where
     length_push : (ms : List Message) (x : Message) → length (ms ++ x ∷ []) ≡ length ms + 1
@@ -479,13 +480,13 @@ AreCounted-set b new uid flags x unseen h beside is found counts =
       beside = beside;
       count = omega (arith, h.count, ap length is, length_reflagged uid flags ms);
       unseen = omega (arith, counts, h.unseen, ap unseen_count is, sum_reflagged (λ (m : Message). one_if (not m.flags.seen)) uid flags ms x found);
-      bytes = omega (arith, h.bytes, ap bytes_in_all is, sum_reflagged (λ (m : Message). length m.text) uid flags ms x found);
-      small = subst (All (λ (m : Message). length m.text ≤ 0xffff_ffff_ffff_ffff)) (sym is) (all_reflagged (λ (t : List ℕ). length t ≤ 0xffff_ffff_ffff_ffff) uid flags ms h.small);
+      bytes = omega (arith, h.bytes, ap bytes_in_all is, sum_reflagged (λ (m : Message). length m.text.bytes) uid flags ms x found);
+      small = subst (All (λ (m : Message). length m.text.bytes ≤ 0xffff_ffff_ffff_ffff)) (sym is) (all_reflagged (λ (t : Text). length t.bytes ≤ 0xffff_ffff_ffff_ffff) uid flags ms h.small);
     }
 
 pub AreCounted-remove : (b : Inside) (new : Vec Letter) (uid : ℕ) (x : Message) (count unseen bytes : ℕ) → AreCounted b → length new.items ≡ length b.uids.items →
     messages_of (filed b.uids.items new.items) ≡ without_message uid (messages_of (filed b.uids.items b.letters.items)) → message_with uid (messages_of (filed b.uids.items b.letters.items)) ≡ Some x →
-    count + 1 ≡ b.count → unseen + one_if (not x.flags.seen) ≡ b.unseen → bytes + length x.text ≡ b.bytes → AreCounted (record { uids = b.uids; letters = new; count = count; unseen = unseen; bytes = bytes })
+    count + 1 ≡ b.count → unseen + one_if (not x.flags.seen) ≡ b.unseen → bytes + length x.text.bytes ≡ b.bytes → AreCounted (record { uids = b.uids; letters = new; count = count; unseen = unseen; bytes = bytes })
 AreCounted-remove b new uid x count unseen bytes h beside is found less counts sums =
     let ms = messages_of (filed b.uids.items b.letters.items) in
     record {
@@ -493,8 +494,8 @@ AreCounted-remove b new uid x count unseen bytes h beside is found less counts s
       beside = beside;
       count = omega (arith, less, h.count, ap length is, length_without uid ms x found);
       unseen = omega (arith, counts, h.unseen, ap unseen_count is, sum_without (λ (m : Message). one_if (not m.flags.seen)) uid ms x found);
-      bytes = omega (arith, sums, h.bytes, ap bytes_in_all is, sum_without (λ (m : Message). length m.text) uid ms x found);
-      small = subst (All (λ (m : Message). length m.text ≤ 0xffff_ffff_ffff_ffff)) (sym is) (all_without (λ (t : List ℕ). length t ≤ 0xffff_ffff_ffff_ffff) uid ms h.small);
+      bytes = omega (arith, sums, h.bytes, ap bytes_in_all is, sum_without (λ (m : Message). length m.text.bytes) uid ms x found);
+      small = subst (All (λ (m : Message). length m.text.bytes ≤ 0xffff_ffff_ffff_ffff)) (sym is) (all_without (λ (t : Text). length t.bytes ≤ 0xffff_ffff_ffff_ffff) uid ms h.small);
     }
 
 -- the same messages in other letters
@@ -506,15 +507,15 @@ AreCounted-same b us ls h rising beside is = record {
   count = h.count ∙ sym (ap length is);
   unseen = h.unseen ∙ sym (ap unseen_count is);
   bytes = h.bytes ∙ sym (ap bytes_in_all is);
-  small = subst (All (λ (m : Message). length m.text ≤ 0xffff_ffff_ffff_ffff)) (sym is) h.small;
+  small = subst (All (λ (m : Message). length m.text.bytes ≤ 0xffff_ffff_ffff_ffff)) (sym is) h.small;
 }
 
 -- one of them is at most all
 pub unseen_there : (uid : ℕ) (ms : List Message) (x : Message) → message_with uid ms ≡ Some x → one_if (not x.flags.seen) ≤ unseen_count ms
 unseen_there uid ms x found = omega (arith, sum_without (λ (m : Message). one_if (not m.flags.seen)) uid ms x found)
 
-pub bytes_there : (uid : ℕ) (ms : List Message) (x : Message) → message_with uid ms ≡ Some x → length x.text ≤ bytes_in_all ms
-bytes_there uid ms x found = omega (arith, sum_without (λ (m : Message). length m.text) uid ms x found)
+pub bytes_there : (uid : ℕ) (ms : List Message) (x : Message) → message_with uid ms ≡ Some x → length x.text.bytes ≤ bytes_in_all ms
+bytes_there uid ms x found = omega (arith, sum_without (λ (m : Message). length m.text.bytes) uid ms x found)
 
 pub unseen_few : (ms : List Message) → unseen_count ms ≤ length ms
 unseen_few ms = count_by-le-length (λ (m : Message). not m.flags.seen) ms

@@ -21,6 +21,7 @@ use Rattle.cursor_set.proofs.LegalLaws.{legal_log, legal_rises}
 use Rattle.cursor_set.proofs.OpenedLemmas.{held_in_slot}
 use Rattle.cursor_set.proofs.Positions.{Rises, Rises-from, Rises-to}
 use Rattle.delivery_token.specs.declared.CopyKey.{CopyKey}
+use Rattle.delivery_token.specs.Text.{Text}
 use Rattle.mailbox.specs.Events.{Logs}
 use Rattle.mailbox.specs.inner.Events.{GoesOn}
 use Rattle.mailbox.specs.Mailbox.{Mailbox, Message, row_of, uids_of, accepted_uids, next_uid}
@@ -107,7 +108,7 @@ Stands-changed m n log cs s fits rows goes adds accepted first cursors =
     (same ∙ s.numbered ∙ ap₂ range_with_len (sym first) (ap length (sym accepted))) cursors
 
 -- a delivery
-pub Stands-deliver : (m n : Mailbox) (log : List Change) (key : CopyKey) (uid : ℕ) (text : List ℕ) → uid ≡ next_uid m →
+pub Stands-deliver : (m n : Mailbox) (log : List Change) (key : CopyKey) (uid : ℕ) (text : Text) → uid ≡ next_uid m →
     n.messages ≡ m.messages ++ record { uid = uid; flags = no_flags; text = text } ∷ [] →
     GoesOn m.window n.window (Add uid ∷ []) →
     n.accepted ≡ m.accepted ++ (key, uid) ∷ [] → n.cursors ≡ m.cursors → n.first_uid ≡ m.first_uid → Stands m log → Stands n (log ++ Add uid ∷ [])

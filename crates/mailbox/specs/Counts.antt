@@ -12,4 +12,4 @@ deleted_count messages = count_by (λ m. m.flags.deleted) messages
 
 -- the bytes of all texts
 abbrev pub bytes_in_all : List Message → ℕ
-bytes_in_all messages = sum_by (λ m. length m.text) messages
+bytes_in_all messages = sum_by (λ m. length m.text.bytes) messages

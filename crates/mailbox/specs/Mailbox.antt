@@ -6,6 +6,7 @@ use Rattle.change_ring.specs.Log.{Row}
 use Rattle.change_ring.specs.Logged.{arrival, flags_after}
 use Rattle.change_ring.specs.Window.{Window, total}
 use Rattle.cursor_set.specs.Cursors.{CursorSet}
+use Rattle.delivery_token.specs.Text.{Text}
 use Rattle.delivery_token.specs.declared.CopyKey.{CopyKey}
 use Rattle.mailbox.specs.declared.history.History.{History}
 
@@ -13,7 +14,7 @@ use Rattle.mailbox.specs.declared.history.History.{History}
 pub record Message : Type 0 where
   pub uid : ℕ
   pub flags : Flags
-  pub text : List ℕ
+  pub text : Text
 
 -- its number and UIDVALIDITY, the first UID, how many messages may be there, the messages, the last changes, the copies that were
 -- accepted, each with its UID, whether these are kept, and the clients' cursors
@@ -61,7 +62,7 @@ abbrev pub uids_of : List Message → List ℕ
 uids_of messages = map (λ (m : Message). m.uid) messages
 
 -- UID and text of each message
-abbrev pub texts_of : List Message → List (ℕ × List ℕ)
+abbrev pub texts_of : List Message → List (ℕ × Text)
 texts_of messages = map (λ (m : Message). (m.uid, m.text)) messages
 
 -- the UIDs that were given out

@@ -3,6 +3,7 @@ use Rattle.std.specs.Prelude.{◌≡◌, ℕ, List, Vec, length, map}
 use Rattle.std.specs.List.{range_with_len}
 use Rattle.std.specs.List.Sorted.{IsStrictlyIncreasing}
 use Rattle.std.specs.Global.{Global}
+use Rattle.delivery_token.specs.Text.{Text}
 use Rattle.delivery_token.specs.declared.CopyKey.{CopyKey}
 use Rattle.house_history.specs.declared.event.Event.{Event}
 use mathlib.Core.List.{IsPrefix}
@@ -15,7 +16,7 @@ abbrev pub AreNumbered : List (CopyKey × ℕ) → Type 0
 AreNumbered accepted = (first : ℕ) × (map (λ pair. pair.1) accepted ≡ range_with_len first (length accepted))
 
 -- The UIDs of the messages that are there rise: none is told twice.
-abbrev pub AreToldOnce : List (ℕ × List ℕ) → Type 0
+abbrev pub AreToldOnce : List (ℕ × Text) → Type 0
 AreToldOnce texts = IsStrictlyIncreasing (map (λ text. text.0) texts)
 
 -- these are the copies that mailbox m accepted, by the history

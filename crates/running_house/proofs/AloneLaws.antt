@@ -3,6 +3,7 @@ use Rattle.std.proofs.Common.{◌≡◌, ◌≢◌, ◌<◌, ◌≤◌, ◌-◌,
 use Rattle.std.proofs.lemmas.Bool.{cases_lt}
 use Rattle.std.proofs.lemmas.List.{length-drop, length-replicate, take-append-drop}
 use Rattle.change_ring.specs.Log.{no_flags}
+use Rattle.delivery_token.specs.Text.{undated}
 use Rattle.delivery_token.specs.declared.Job.{Job}
 use Rattle.lane_work.specs.Copies.{FilledAlone, Room}
 use Rattle.lane_work.proofs.FullLaws.{found_full}
@@ -83,7 +84,7 @@ full_alone room jobs alone many =
     )
 
 abbrev some_copy : Job
-some_copy = record { key = record { seat = 0; serial = 0; message = 0; recipient = 0 }; mailbox = 0; text = []; flags = no_flags }
+some_copy = record { key = record { seat = 0; serial = 0; message = 0; recipient = 0 }; mailbox = 0; text = undated []; flags = no_flags }
 
 -- with another one: its copies wait
 full_beside : (room : Room) (seat other : ℕ) (jobs : List Job) → seat < room.producers → other < room.producers → seat ≢ other → CanBeFull room seat (map (λ job. Item seat job) jobs)

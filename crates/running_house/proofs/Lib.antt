@@ -12,6 +12,7 @@ pub mod LogLaws
 pub mod ClosedLaws
 pub mod RiseLaws
 pub mod WalkLaws
+pub mod TextLaws
 pub mod MetLaws
 pub mod OrderLaws
 pub mod Moves

@@ -3,6 +3,7 @@ use Rattle.std.proofs.Common.{◌≡◌, inl, inr, ℕ, ◌<◌, List, [], ◌�
 use Rattle.std.specs.Prelude.{All, AllPairs, flat_map, zip}
 use Rattle.std.proofs.lemmas.List.{map-append}
 use Rattle.std.proofs.lemmas.List.Elements.{All-head, All-tail, Contains-append_left, Contains-append_cases}
+use Rattle.delivery_token.specs.Text.{Text}
 use Rattle.delivery_token.specs.declared.CopyKey.{CopyKey}
 use Rattle.delivery_token.specs.declared.Job.{Job}
 use Rattle.delivery_token.specs.declared.Verdict.{Verdict}
@@ -32,7 +33,7 @@ record Notes (keys : List CopyKey) (mailboxes : List ℕ) (verdicts : List Verdi
   their_mailboxes : map (λ (n : Noted). n.mailbox) notes ≡ mailboxes
   their_verdicts : map (λ (n : Noted). n.verdict) notes ≡ verdicts
 
-message_noted : (keys : List CopyKey) (mailboxes text : List ℕ) (verdicts : List Verdict) → length mailboxes ≡ length keys → length verdicts ≡ length keys
+message_noted : (keys : List CopyKey) (mailboxes : List ℕ) (text : Text) (verdicts : List Verdict) → length mailboxes ≡ length keys → length verdicts ≡ length keys
     → Notes keys mailboxes verdicts (map note_of (zip (copies keys mailboxes text) verdicts))
 message_noted [] [] text [] m v = record { their_keys = refl; their_mailboxes = refl; their_verdicts = refl }
 message_noted [] (x ∷ xs) text verdicts m v = absurd (omega (arith, m))

@@ -1,14 +1,14 @@
 -- Messages that are met have the texts of their copies.
 use Rattle.std.proofs.Common.{◌≡◌, ℕ, suc, ◌==◌, ◌&&◌, Bool, true, false, ap, ap₂, refl, sym, subst, ◌∙◌, List, [], ◌∷◌, arith, All, Contains, Option, Some, None, if◌then◌else◌}
-use Rattle.std.specs.Str.{bytes_eq}
-use Rattle.std.proofs.lemmas.Slice.Eq.{bytes_eq-Decides}
 use Rattle.std.proofs.lemmas.Bool.Decides.{Decides-and, Decides-eqb}
 use Rattle.std.proofs.lemmas.List.Elements.{All-cons, All-nil}
+use Rattle.delivery_token.specs.Text.{Text}
 use Rattle.delivery_token.specs.declared.CopyKey.{CopyKey}
 use Rattle.delivery_token.specs.declared.Job.{Job}
 use Rattle.delivery_token.specs.declared.log.Noted.{Noted}
 use Rattle.running_house.specs.Lists.{IsOfCopy, MailboxAgrees}
-use Rattle.running_house.specs.Walk.{pair_with, is_key, copy_with, with_text, with_copy, are_met, MailboxMet}
+use Rattle.running_house.specs.Walk.{is_text, pair_with, is_key, copy_with, with_text, with_copy, are_met, MailboxMet}
+use Rattle.running_house.proofs.TextLaws.{is_text-Decides}
 
 later : {A : Type 0} (x y : A) (xs : List A) → Contains xs x → Contains (y ∷ xs) x
 later x y xs c = (suc c.0, (let u = c.1 in omega (arith, u)), c.2)
@@ -40,7 +40,7 @@ pair_there uid [] found is = absurd (no is) where
   no e = cc
 pair_there uid (pair ∷ pairs) found is = pair_case uid pair pairs (pair.1 == uid) (Decides-eqb pair.1 uid).0 found (pair_there uid pairs) is
 
-pub record IsTaken (mailbox : ℕ) (key : CopyKey) (copies : List Job) (found : List ℕ × List Job) : Type 0 where
+pub record IsTaken (mailbox : ℕ) (key : CopyKey) (copies : List Job) (found : Text × List Job) : Type 0 where
   pub copy : Job
   pub taken : Contains copies copy
   pub here : copy.mailbox ≡ mailbox
@@ -54,8 +54,8 @@ same_key a b h =
     let e = (Decides-and _ _ (Decides-eqb a.seat b.seat) (Decides-and _ _ (Decides-eqb a.serial b.serial) (Decides-and _ _ (Decides-eqb a.message b.message) (Decides-eqb a.recipient b.recipient)))).0 h in
     ap₂ (λ (x : ℕ × ℕ) (y : ℕ × ℕ). record { seat = x.0; serial = x.1; message = y.0; recipient = y.1 }) (ap₂ (λ s t. (s, t)) e.0 e.1.0) (ap₂ (λ s t. (s, t)) e.1.1.0 e.1.1.1)
 
-copy_case : (mailbox : ℕ) (key : CopyKey) (copy : Job) (copies : List Job) (b : Bool) → (b ≡ true → (copy.mailbox ≡ mailbox) × (copy.key ≡ key)) → (found : List ℕ × List Job)
-    → ((f : List ℕ × List Job) → copy_with mailbox key copies ≡ Some f → IsTaken mailbox key copies f)
+copy_case : (mailbox : ℕ) (key : CopyKey) (copy : Job) (copies : List Job) (b : Bool) → (b ≡ true → (copy.mailbox ≡ mailbox) × (copy.key ≡ key)) → (found : Text × List Job)
+    → ((f : Text × List Job) → copy_with mailbox key copies ≡ Some f → IsTaken mailbox key copies f)
     → (if b then Some (copy.text, copies) else copy_with mailbox key copies) ≡ Some found → IsTaken mailbox key (copy ∷ copies) found
 copy_case mailbox key copy copies true same found before is =
     subst (IsTaken mailbox key (copy ∷ copies)) (some_is is)
@@ -66,7 +66,7 @@ copy_case mailbox key copy copies false same found before is =
     let h = before found is in
     record { copy = h.copy; taken = later h.copy copy copies h.taken; here = h.here; key_is = h.key_is; text = h.text; others = λ x k. later x copy copies (h.others x k) }
 
-pub copy_there : (mailbox : ℕ) (key : CopyKey) (copies : List Job) (found : List ℕ × List Job) → copy_with mailbox key copies ≡ Some found → IsTaken mailbox key copies found
+pub copy_there : (mailbox : ℕ) (key : CopyKey) (copies : List Job) (found : Text × List Job) → copy_with mailbox key copies ≡ Some found → IsTaken mailbox key copies found
 copy_there mailbox key [] found is = absurd (no is) where
   no : {A : Type 0} {x : A} → None ≡ Some x → ⊥
   no e = cc
@@ -90,9 +90,9 @@ is_same_key mailbox copy key here e =
 false_not_true : false ≡ true → ⊥
 false_not_true e = cc
 
-by_text : (mailbox : ℕ) (accepted : List (CopyKey × ℕ)) (copies : List Job) (message : ℕ × List ℕ) (texts : List (ℕ × List ℕ)) (left : List (CopyKey × ℕ) × List Job)
+by_text : (mailbox : ℕ) (accepted : List (CopyKey × ℕ)) (copies : List Job) (message : ℕ × Text) (texts : List (ℕ × Text)) (left : List (CopyKey × ℕ) × List Job)
     → ((x : CopyKey × ℕ) → Contains left.0 x → Contains accepted x) → ((x : Job) → Contains left.1 x → Contains copies x) → ((l : List (CopyKey × ℕ) × List Job) → ((x : CopyKey × ℕ) → Contains l.0 x → Contains accepted x) → ((x : Job) → Contains l.1 x → Contains copies x) → are_met mailbox (Some l) texts ≡ true → All (IsOfCopy mailbox accepted copies) texts)
-    → (found : CopyKey × List (CopyKey × ℕ)) (got : List ℕ × List Job) → IsPair message.0 left.0 found → IsTaken mailbox found.0 left.1 got → (b : Bool) → (b ≡ true → message.1 ≡ got.0)
+    → (found : CopyKey × List (CopyKey × ℕ)) (got : Text × List Job) → IsPair message.0 left.0 found → IsTaken mailbox found.0 left.1 got → (b : Bool) → (b ≡ true → message.1 ≡ got.0)
     → are_met mailbox (if b then Some (found.1, got.1) else None) texts ≡ true → All (IsOfCopy mailbox accepted copies) (message ∷ texts)
 by_text mailbox accepted copies message texts left pairs_in copies_in again found got p t true same k =
     All-cons (IsOfCopy mailbox accepted copies) message texts
@@ -106,15 +106,15 @@ by_text mailbox accepted copies message texts left pairs_in copies_in again foun
     (again (found.1, got.1) (λ x m. pairs_in x (p.others x m)) (λ x m. copies_in x (t.others x m)) k)
 by_text mailbox accepted copies message texts left pairs_in copies_in again found got p t false same k = absurd (false_not_true k)
 
-by_copy : (mailbox : ℕ) (accepted : List (CopyKey × ℕ)) (copies : List Job) (message : ℕ × List ℕ) (texts : List (ℕ × List ℕ)) (left : List (CopyKey × ℕ) × List Job)
+by_copy : (mailbox : ℕ) (accepted : List (CopyKey × ℕ)) (copies : List Job) (message : ℕ × Text) (texts : List (ℕ × Text)) (left : List (CopyKey × ℕ) × List Job)
     → ((x : CopyKey × ℕ) → Contains left.0 x → Contains accepted x) → ((x : Job) → Contains left.1 x → Contains copies x) → ((l : List (CopyKey × ℕ) × List Job) → ((x : CopyKey × ℕ) → Contains l.0 x → Contains accepted x) → ((x : Job) → Contains l.1 x → Contains copies x) → are_met mailbox (Some l) texts ≡ true → All (IsOfCopy mailbox accepted copies) texts)
-    → (found : CopyKey × List (CopyKey × ℕ)) → IsPair message.0 left.0 found → (got : Option (List ℕ × List Job)) → copy_with mailbox found.0 left.1 ≡ got
+    → (found : CopyKey × List (CopyKey × ℕ)) → IsPair message.0 left.0 found → (got : Option (Text × List Job)) → copy_with mailbox found.0 left.1 ≡ got
     → are_met mailbox (with_text message.1 found.1 got) texts ≡ true → All (IsOfCopy mailbox accepted copies) (message ∷ texts)
 by_copy mailbox accepted copies message texts left pairs_in copies_in again found p None is k = absurd (false_not_true k)
 by_copy mailbox accepted copies message texts left pairs_in copies_in again found p (Some got) is k =
-    by_text mailbox accepted copies message texts left pairs_in copies_in again found got p (copy_there mailbox found.0 left.1 got is) (bytes_eq message.1 got.0) (bytes_eq-Decides message.1 got.0).0 k
+    by_text mailbox accepted copies message texts left pairs_in copies_in again found got p (copy_there mailbox found.0 left.1 got is) (is_text message.1 got.0) (is_text-Decides message.1 got.0).0 k
 
-by_pair : (mailbox : ℕ) (accepted : List (CopyKey × ℕ)) (copies : List Job) (message : ℕ × List ℕ) (texts : List (ℕ × List ℕ)) (left : List (CopyKey × ℕ) × List Job)
+by_pair : (mailbox : ℕ) (accepted : List (CopyKey × ℕ)) (copies : List Job) (message : ℕ × Text) (texts : List (ℕ × Text)) (left : List (CopyKey × ℕ) × List Job)
     → ((x : CopyKey × ℕ) → Contains left.0 x → Contains accepted x) → ((x : Job) → Contains left.1 x → Contains copies x) → ((l : List (CopyKey × ℕ) × List Job) → ((x : CopyKey × ℕ) → Contains l.0 x → Contains accepted x) → ((x : Job) → Contains l.1 x → Contains copies x) → are_met mailbox (Some l) texts ≡ true → All (IsOfCopy mailbox accepted copies) texts)
     → (found : Option (CopyKey × List (CopyKey × ℕ))) → pair_with message.0 left.0 ≡ found
     → are_met mailbox (with_copy mailbox message.1 left.1 found) texts ≡ true → All (IsOfCopy mailbox accepted copies) (message ∷ texts)
@@ -122,7 +122,7 @@ by_pair mailbox accepted copies message texts left pairs_in copies_in again None
 by_pair mailbox accepted copies message texts left pairs_in copies_in again (Some found) is k =
     by_copy mailbox accepted copies message texts left pairs_in copies_in again found (pair_there message.0 left.0 found is) (copy_with mailbox found.0 left.1) refl k
 
-pub met_of_copies : (mailbox : ℕ) (accepted : List (CopyKey × ℕ)) (copies : List Job) (texts : List (ℕ × List ℕ)) (left : List (CopyKey × ℕ) × List Job)
+pub met_of_copies : (mailbox : ℕ) (accepted : List (CopyKey × ℕ)) (copies : List Job) (texts : List (ℕ × Text)) (left : List (CopyKey × ℕ) × List Job)
     → ((x : CopyKey × ℕ) → Contains left.0 x → Contains accepted x) → ((x : Job) → Contains left.1 x → Contains copies x)
     → are_met mailbox (Some left) texts ≡ true → All (IsOfCopy mailbox accepted copies) texts
 met_of_copies mailbox accepted copies [] left pairs_in copies_in h = All-nil (IsOfCopy mailbox accepted copies)
@@ -130,7 +130,7 @@ met_of_copies mailbox accepted copies (message ∷ texts) left pairs_in copies_i
     by_pair mailbox accepted copies message texts left pairs_in copies_in (met_of_copies mailbox accepted copies texts) (pair_with message.0 left.0) refl h
 
 -- one mailbox's lists that are met agree
-pub agrees_when_met : (whole : Bool) (logs : List (List Noted)) (copies : List Job) (mailbox : ℕ) (accepted : List (CopyKey × ℕ)) (texts : List (ℕ × List ℕ))
+pub agrees_when_met : (whole : Bool) (logs : List (List Noted)) (copies : List Job) (mailbox : ℕ) (accepted : List (CopyKey × ℕ)) (texts : List (ℕ × Text))
     → MailboxMet whole logs copies mailbox accepted texts → MailboxAgrees whole logs copies mailbox accepted texts
 agrees_when_met whole logs copies mailbox accepted texts h =
     record { told = h.told; there = met_of_copies mailbox accepted copies texts (accepted, copies) (λ x m. m) (λ x m. m) h.met; each = h.each }

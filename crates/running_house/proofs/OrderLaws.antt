@@ -1,19 +1,19 @@
 -- Messages that stand in order and have the texts of their copies are met.
 use Rattle.std.proofs.Common.{◌≡◌, inl, inr, ℕ, zero, suc, ◌<◌, ◌==◌, ◌&&◌, Bool, true, false, ap, refl, sym, subst, ◌∙◌, List, [], ◌∷◌, length, map, slice_index_or, arith, All, Contains, Option, Some, None, if◌then◌else◌}
-use Rattle.std.specs.Str.{bytes_eq}
 use Rattle.std.specs.List.{AllPairs}
 use Rattle.std.specs.List.Sorted.{IsStrictlyIncreasing}
-use Rattle.std.proofs.lemmas.Slice.Eq.{bytes_eq-Decides}
 use Rattle.std.proofs.lemmas.Bool.Decides.{Decides-eqb}
 use Rattle.std.proofs.lemmas.List.Elements.{All-cons, All-nil, All-head, All-tail, All-contains}
 use Rattle.std.proofs.lemmas.List.Kept.{AllPairs-from_increasing}
+use Rattle.delivery_token.specs.Text.{Text}
 use Rattle.delivery_token.specs.declared.CopyKey.{CopyKey}
 use Rattle.delivery_token.specs.declared.Job.{Job}
 use Rattle.delivery_token.specs.declared.log.Noted.{Noted}
 use Rattle.running_house.specs.Lists.{IsOfCopy, MailboxAgrees}
 use Rattle.running_house.specs.ListOrder.{AreTakenInOrder, HaveOneText, IsInOrder}
-use Rattle.running_house.specs.Walk.{pair_with, is_key, copy_with, with_text, with_copy, behind, are_met, MailboxMet}
+use Rattle.running_house.specs.Walk.{is_text, pair_with, is_key, copy_with, with_text, with_copy, behind, are_met, MailboxMet}
 use Rattle.running_house.proofs.MetLaws.{IsTaken, copy_there, is_same_key}
+use Rattle.running_house.proofs.TextLaws.{is_text-Decides}
 
 -- ---- numbers that rise
 
@@ -53,10 +53,10 @@ if_false true x y e = absurd (e refl)
 if_false false x y e = refl
 
 -- the first copy with the first pair's key, and those behind it
-abbrev pub CopyIsFound : ℕ → CopyKey → List (CopyKey × ℕ) → Option (List ℕ × List Job) → Type 0
-CopyIsFound m key pairs got = (found : List ℕ × List Job) × (got ≡ Some found) × AreTakenInOrder m pairs found.1
+abbrev pub CopyIsFound : ℕ → CopyKey → List (CopyKey × ℕ) → Option (Text × List Job) → Type 0
+CopyIsFound m key pairs got = (found : Text × List Job) × (got ≡ Some found) × AreTakenInOrder m pairs found.1
 
-copy_case : (m : ℕ) (key : CopyKey) (pairs : List (CopyKey × ℕ)) (copy : Job) (copies : List Job) (got : Option (List ℕ × List Job)) (b : Bool) → AreTakenInOrder m pairs copies
+copy_case : (m : ℕ) (key : CopyKey) (pairs : List (CopyKey × ℕ)) (copy : Job) (copies : List Job) (got : Option (Text × List Job)) (b : Bool) → AreTakenInOrder m pairs copies
     → CopyIsFound m key pairs got → CopyIsFound m key pairs (if b then Some (copy.text, copies) else got)
 copy_case m key pairs copy copies got true h k = ((copy.text, copies), refl, h)
 copy_case m key pairs copy copies got false h k = k
@@ -128,7 +128,7 @@ all_both P Q R both (x ∷ xs) p q = All-cons R x xs (both x (All-head P x xs p)
 
 still_of_copy : (m : ℕ) (pairs less : List (CopyKey × ℕ)) (copies fewer : List Job) (uid : ℕ) → ((x : CopyKey × ℕ) → Contains pairs x → uid < x.1 → Contains less x)
     → ((x : Job) → Contains fewer x → Contains copies x) → HaveOneText m copies → AreTakenInOrder m less fewer
-    → (t : ℕ × List ℕ) → uid < t.0 → IsOfCopy m pairs copies t → IsOfCopy m less fewer t
+    → (t : ℕ × Text) → uid < t.0 → IsOfCopy m pairs copies t → IsOfCopy m less fewer t
 still_of_copy m pairs less copies fewer uid above others once taken t later c =
     let p = above (c.copy.key, t.0) c.pair later in
     let f = copy_of m less fewer taken (c.copy.key, t.0) p in
@@ -140,7 +140,7 @@ still_of_copy m pairs less copies fewer uid above others once taken t later c =
       text = c.text ∙ once c.copy f.0 c.taken (others f.0 f.1) c.here f.2 (sym f.3);
     }
 
-pub met_in_order : (m : ℕ) (texts : List (ℕ × List ℕ)) (pairs : List (CopyKey × ℕ)) (copies : List Job) → Rising (λ pair. pair.1) pairs → Rising (λ t. t.0) texts → AreTakenInOrder m pairs copies
+pub met_in_order : (m : ℕ) (texts : List (ℕ × Text)) (pairs : List (CopyKey × ℕ)) (copies : List Job) → Rising (λ pair. pair.1) pairs → Rising (λ t. t.0) texts → AreTakenInOrder m pairs copies
     → HaveOneText m copies → All (IsOfCopy m pairs copies) texts → are_met m (Some (pairs, copies)) texts ≡ true
 met_in_order m [] pairs copies rise texts_rise taken once all = refl
 met_in_order m (t ∷ texts) pairs copies rise texts_rise taken once all =
@@ -150,14 +150,14 @@ met_in_order m (t ∷ texts) pairs copies rise texts_rise taken once all =
     let k : IsTaken m c.copy.key copies f.0 = copy_there m c.copy.key copies f.0 f.1 in
     let same : t.1 ≡ f.0.0 = c.text ∙ once c.copy k.copy c.taken k.taken c.here k.here (sym k.key_is) ∙ k.text in
     let e : behind m t (pairs, copies) ≡ Some (p.others, f.0.1) =
-    ap (with_copy m t.1 copies) p.is ∙ ap (with_text t.1 p.others) f.1 ∙ if_true (bytes_eq t.1 f.0.0) (Some (p.others, f.0.1)) None ((bytes_eq-Decides t.1 f.0.0).1 same) in
+    ap (with_copy m t.1 copies) p.is ∙ ap (with_text t.1 p.others) f.1 ∙ if_true (is_text t.1 f.0.0) (Some (p.others, f.0.1)) None ((is_text-Decides t.1 f.0.0).1 same) in
     ap (λ l. are_met m l texts) e
     ∙ met_in_order m texts p.others f.0.1 p.rise texts_rise.1 f.2 (λ a b x y. once a b (k.others a x) (k.others b y))
     (all_both (λ x. t.0 < x.0) (IsOfCopy m pairs copies) (IsOfCopy m p.others f.0.1) (still_of_copy m pairs p.others copies f.0.1 t.0 p.above k.others once f.2) texts
     texts_rise.0 (All-tail (IsOfCopy m pairs copies) t texts all))
 
 -- one mailbox's lists that agree and stand in order are met
-pub met_when_in_order : (whole : Bool) (logs : List (List Noted)) (copies : List Job) (m : ℕ) (accepted : List (CopyKey × ℕ)) (texts : List (ℕ × List ℕ))
+pub met_when_in_order : (whole : Bool) (logs : List (List Noted)) (copies : List Job) (m : ℕ) (accepted : List (CopyKey × ℕ)) (texts : List (ℕ × Text))
     → IsInOrder copies m accepted texts → MailboxAgrees whole logs copies m accepted texts → MailboxMet whole logs copies m accepted texts
 met_when_in_order whole logs copies m accepted texts order h = record {
   told = h.told;

@@ -3,16 +3,16 @@ use Rattle.std.proofs.Common.{◌≡◌, ◌++◌, ◌+◌, ◌<◌, ◌==◌, �
 use Rattle.std.specs.Global.{Global}
 use Rattle.std.specs.List.{list_all, range_with_len}
 use Rattle.std.specs.List.Sorted.{IsStrictlyIncreasing}
-use Rattle.std.specs.Str.{bytes_eq}
 use Rattle.std.proofs.lemmas.Bool.Decides.{Decides-and, Decides-eqb}
 use Rattle.std.proofs.lemmas.List.Elements.{All-head, All-tail}
-use Rattle.std.proofs.lemmas.Slice.Eq.{bytes_eq-Decides}
+use Rattle.delivery_token.specs.Text.{Text}
 use Rattle.delivery_token.specs.declared.CopyKey.{CopyKey}
 use Rattle.delivery_token.specs.declared.Job.{Job}
-use Rattle.running_house.specs.Walk.{are_met, copy_with, is_key, pair_with, with_copy, with_text}
+use Rattle.running_house.specs.Walk.{is_text, are_met, copy_with, is_key, pair_with, with_copy, with_text}
 use Rattle.reckoning.specs.Shelves.{AreNumbered, AreToldOnce}
 use Rattle.running_house.specs.inner.Begun.{begins_at}
 use Rattle.running_house.specs.Order.{AreInLaneOrder, none, next}
+use Rattle.running_house.proofs.TextLaws.{is_text-Decides}
 
 some_is : {A : Type 0} {x y : A} → Some x ≡ Some y → x ≡ y
 some_is e = cc
@@ -46,7 +46,7 @@ pair_split uid [] found is = absurd (not_some is)
 pair_split uid (pair ∷ pairs) found is = pair_here uid pair pairs found (pair.1 == uid) (Decides-eqb pair.1 uid).0 (λ k. pair_split uid pairs found k) is
 
 -- the copy that was found, and those before it
-record IsSplit (mailbox : ℕ) (key : CopyKey) (copies : List Job) (found : List ℕ × List Job) : Type 0 where
+record IsSplit (mailbox : ℕ) (key : CopyKey) (copies : List Job) (found : Text × List Job) : Type 0 where
   before : List Job
   copy : Job
   here : copy.mailbox ≡ mailbox
@@ -63,7 +63,7 @@ is_it mailbox key copy h =
     let both = and_true (copy.mailbox == mailbox) (is_key copy.key key) h in
     ((Decides-eqb copy.mailbox mailbox).0 both.0, same_key copy.key key both.1)
 
-copy_here : (mailbox : ℕ) (key : CopyKey) (copy : Job) (copies : List Job) (found : List ℕ × List Job) (b : Bool) → (b ≡ true → (copy.mailbox ≡ mailbox) × (copy.key ≡ key))
+copy_here : (mailbox : ℕ) (key : CopyKey) (copy : Job) (copies : List Job) (found : Text × List Job) (b : Bool) → (b ≡ true → (copy.mailbox ≡ mailbox) × (copy.key ≡ key))
     → (copy_with mailbox key copies ≡ Some found → IsSplit mailbox key copies found) → (if b then Some (copy.text, copies) else copy_with mailbox key copies) ≡ Some found
     → IsSplit mailbox key (copy ∷ copies) found
 copy_here mailbox key copy copies found true same again k =
@@ -73,14 +73,14 @@ copy_here mailbox key copy copies found true same again k =
       copy = copy;
       here = (same refl).0;
       key_is = (same refl).1;
-      text = ap (λ (f : List ℕ × List Job). f.0) e;
-      split = ap (λ (f : List ℕ × List Job). copy ∷ f.1) e;
+      text = ap (λ (f : Text × List Job). f.0) e;
+      split = ap (λ (f : Text × List Job). copy ∷ f.1) e;
     }
 copy_here mailbox key copy copies found false same again k =
     let h = again k in
     record { before = copy ∷ h.before; copy = h.copy; here = h.here; key_is = h.key_is; text = h.text; split = ap (λ l. copy ∷ l) h.split }
 
-copy_split : (mailbox : ℕ) (key : CopyKey) (copies : List Job) (found : List ℕ × List Job) → copy_with mailbox key copies ≡ Some found → IsSplit mailbox key copies found
+copy_split : (mailbox : ℕ) (key : CopyKey) (copies : List Job) (found : Text × List Job) → copy_with mailbox key copies ≡ Some found → IsSplit mailbox key copies found
 copy_split mailbox key [] found is = absurd (not_some is)
 copy_split mailbox key (copy ∷ copies) found is =
     copy_here mailbox key copy copies found (copy.mailbox == mailbox && is_key copy.key key) (λ h. is_it mailbox key copy h) (λ k. copy_split mailbox key copies found k) is
@@ -88,10 +88,10 @@ copy_split mailbox key (copy ∷ copies) found is =
 -- ---- one message after another
 
 -- what is known of the messages behind
-abbrev Again : ℕ → List (ℕ × List ℕ) → Type 0
+abbrev Again : ℕ → List (ℕ × Text) → Type 0
 Again mailbox texts = (accepted : List (CopyKey × ℕ)) (copies : List Job) → are_met mailbox (Some (accepted, copies)) texts ≡ true → AreInLaneOrder mailbox texts accepted copies
 
-by_text : (mailbox uid : ℕ) (words : List ℕ) (texts : List (ℕ × List ℕ)) (accepted : List (CopyKey × ℕ)) (copies : List Job) → Again mailbox texts → (found : CopyKey × List (CopyKey × ℕ)) (got : List ℕ × List Job)
+by_text : (mailbox uid : ℕ) (words : Text) (texts : List (ℕ × Text)) (accepted : List (CopyKey × ℕ)) (copies : List Job) → Again mailbox texts → (found : CopyKey × List (CopyKey × ℕ)) (got : Text × List Job)
     → (before : List (CopyKey × ℕ)) → accepted ≡ before ++ (found.0, uid) ∷ found.1 → IsSplit mailbox found.0 copies got
     → (b : Bool) → (b ≡ true → words ≡ got.0) → are_met mailbox (if b then Some (found.1, got.1) else None) texts ≡ true → AreInLaneOrder mailbox ((uid, words) ∷ texts) accepted copies
 by_text mailbox uid words texts accepted copies again found got before split t false same k = absurd (not_true k)
@@ -99,25 +99,25 @@ by_text mailbox uid words texts accepted copies again found got before split t t
     let one = next before t.before t.copy uid t.here (again found.1 got.1 k) in
     let text : t.copy.text ≡ words = t.text ∙ sym (same refl) in
     let pairs : before ++ (t.copy.key, uid) ∷ found.1 ≡ accepted = ap (λ (key : CopyKey). before ++ (key, uid) ∷ found.1) t.key_is ∙ sym split in
-    subst (λ (said : List ℕ). AreInLaneOrder mailbox ((uid, said) ∷ texts) accepted copies) text
+    subst (λ (said : Text). AreInLaneOrder mailbox ((uid, said) ∷ texts) accepted copies) text
     (subst (λ (those : List (CopyKey × ℕ)). AreInLaneOrder mailbox ((uid, t.copy.text) ∷ texts) those copies) pairs
     (subst (λ (jobs : List Job). AreInLaneOrder mailbox ((uid, t.copy.text) ∷ texts) (before ++ (t.copy.key, uid) ∷ found.1) jobs) (sym t.split) one))
 
-by_copy : (mailbox uid : ℕ) (words : List ℕ) (texts : List (ℕ × List ℕ)) (accepted : List (CopyKey × ℕ)) (copies : List Job) → Again mailbox texts → (found : CopyKey × List (CopyKey × ℕ))
-    → (before : List (CopyKey × ℕ)) → accepted ≡ before ++ (found.0, uid) ∷ found.1 → (got : Option (List ℕ × List Job)) → copy_with mailbox found.0 copies ≡ got
+by_copy : (mailbox uid : ℕ) (words : Text) (texts : List (ℕ × Text)) (accepted : List (CopyKey × ℕ)) (copies : List Job) → Again mailbox texts → (found : CopyKey × List (CopyKey × ℕ))
+    → (before : List (CopyKey × ℕ)) → accepted ≡ before ++ (found.0, uid) ∷ found.1 → (got : Option (Text × List Job)) → copy_with mailbox found.0 copies ≡ got
     → are_met mailbox (with_text words found.1 got) texts ≡ true → AreInLaneOrder mailbox ((uid, words) ∷ texts) accepted copies
 by_copy mailbox uid words texts accepted copies again found before split None is k = absurd (not_true k)
 by_copy mailbox uid words texts accepted copies again found before split (Some got) is k =
-    by_text mailbox uid words texts accepted copies again found got before split (copy_split mailbox found.0 copies got is) (bytes_eq words got.0) (bytes_eq-Decides words got.0).0 k
+    by_text mailbox uid words texts accepted copies again found got before split (copy_split mailbox found.0 copies got is) (is_text words got.0) (is_text-Decides words got.0).0 k
 
-by_pair : (mailbox uid : ℕ) (words : List ℕ) (texts : List (ℕ × List ℕ)) (accepted : List (CopyKey × ℕ)) (copies : List Job) → Again mailbox texts → (found : Option (CopyKey × List (CopyKey × ℕ)))
+by_pair : (mailbox uid : ℕ) (words : Text) (texts : List (ℕ × Text)) (accepted : List (CopyKey × ℕ)) (copies : List Job) → Again mailbox texts → (found : Option (CopyKey × List (CopyKey × ℕ)))
     → pair_with uid accepted ≡ found → are_met mailbox (with_copy mailbox words copies found) texts ≡ true → AreInLaneOrder mailbox ((uid, words) ∷ texts) accepted copies
 by_pair mailbox uid words texts accepted copies again None is k = absurd (not_true k)
 by_pair mailbox uid words texts accepted copies again (Some found) is k =
     let p = pair_split uid accepted found is in
     by_copy mailbox uid words texts accepted copies again found p.0 p.1 (copy_with mailbox found.0 copies) refl k
 
-pub in_lane_order : (mailbox : ℕ) (texts : List (ℕ × List ℕ)) (accepted : List (CopyKey × ℕ)) (copies : List Job) → are_met mailbox (Some (accepted, copies)) texts ≡ true → AreInLaneOrder mailbox texts accepted copies
+pub in_lane_order : (mailbox : ℕ) (texts : List (ℕ × Text)) (accepted : List (CopyKey × ℕ)) (copies : List Job) → are_met mailbox (Some (accepted, copies)) texts ≡ true → AreInLaneOrder mailbox texts accepted copies
 in_lane_order mailbox [] accepted copies met = none
 in_lane_order mailbox ((uid, words) ∷ texts) accepted copies met =
     by_pair mailbox uid words texts accepted copies (λ those jobs k. in_lane_order mailbox texts those jobs k) (pair_with uid accepted) refl met
@@ -152,7 +152,7 @@ numbered_from uid (box ∷ boxes) all begins (suc m) =
     second_true true b e = e
     second_true false b e = absurd (not_true e)
 
-pub told_once : (boxes : List (Vec (ℕ × List ℕ) Global)) → All (λ v. AreToldOnce v.items) boxes → (m : ℕ) → AreToldOnce (slice_index_or (map (λ v. v.items) boxes) m [])
+pub told_once : (boxes : List (Vec (ℕ × Text) Global)) → All (λ v. AreToldOnce v.items) boxes → (m : ℕ) → AreToldOnce (slice_index_or (map (λ v. v.items) boxes) m [])
 told_once [] all m = λ k under. absurd (omega (arith, under))
-told_once (box ∷ boxes) all zero = All-head (λ (v : Vec (ℕ × List ℕ) Global). AreToldOnce v.items) box boxes all
-told_once (box ∷ boxes) all (suc m) = told_once boxes (All-tail (λ (v : Vec (ℕ × List ℕ) Global). AreToldOnce v.items) box boxes all) m
+told_once (box ∷ boxes) all zero = All-head (λ (v : Vec (ℕ × Text) Global). AreToldOnce v.items) box boxes all
+told_once (box ∷ boxes) all (suc m) = told_once boxes (All-tail (λ (v : Vec (ℕ × Text) Global). AreToldOnce v.items) box boxes all) m

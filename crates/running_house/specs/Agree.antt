@@ -1,6 +1,7 @@
 -- What a report says of a run: how what the threads left agrees.
 use Rattle.std.specs.Prelude.{◌≡◌, ◌==◌, ◌+◌, ◌++◌, ℕ, ◌<◌, List, [], ◌∷◌, length, map, All, Some, slice_get, slice_index_or}
 use Rattle.std.specs.List.{range_with_len}
+use Rattle.delivery_token.specs.Text.{Text}
 use Rattle.delivery_token.specs.declared.CopyKey.{CopyKey}
 use Rattle.delivery_token.specs.declared.Job.{Job}
 use Rattle.delivery_token.specs.declared.log.Noted.{Noted}
@@ -47,7 +48,7 @@ abbrev pub accepted_of : Report → List (List (CopyKey × ℕ))
 accepted_of r = map (λ v. v.items) r.accepted.items
 
 -- and the messages that are there
-abbrev pub texts_of : Report → List (List (ℕ × List ℕ))
+abbrev pub texts_of : Report → List (List (ℕ × Text))
 texts_of r = map (λ v. v.items) r.texts.items
 
 -- all that was taken from each lane

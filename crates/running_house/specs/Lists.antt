@@ -1,6 +1,7 @@
 -- When the lists that a run leaves agree: what the mailboxes accepted, what the workers heard, what the consumers took, and which messages
 -- are there.
 use Rattle.std.specs.Prelude.{◌≡◌, ◌==◌, Bool, true, ℕ, ◌<◌, List, [], ◌∷◌, length, map, filter, All, Contains, slice_index_or}
+use Rattle.delivery_token.specs.Text.{Text}
 use Rattle.delivery_token.specs.declared.CopyKey.{CopyKey}
 use Rattle.delivery_token.specs.declared.Job.{Job}
 use Rattle.delivery_token.specs.declared.log.Noted.{Noted}
@@ -36,7 +37,7 @@ pub record AreTold (logs : List (List Noted)) (mailbox : ℕ) (accepted : List (
 -- ---- the messages that are there: each with its UID and its text
 
 -- A message's UID is that of an accepted copy, and its text is the one of the copy with that key which was taken from the lane.
-pub record IsOfCopy (mailbox : ℕ) (accepted : List (CopyKey × ℕ)) (copies : List Job) (message : ℕ × List ℕ) : Type 0 where
+pub record IsOfCopy (mailbox : ℕ) (accepted : List (CopyKey × ℕ)) (copies : List Job) (message : ℕ × Text) : Type 0 where
   pub copy : Job
   pub taken : Contains copies copy
   pub here : copy.mailbox ≡ mailbox
@@ -44,21 +45,21 @@ pub record IsOfCopy (mailbox : ℕ) (accepted : List (CopyKey × ℕ)) (copies :
   pub text : message.1 ≡ copy.text
 
 -- there is a message of each accepted copy, in the same order
-abbrev pub IsEachThere : List (CopyKey × ℕ) → List (ℕ × List ℕ) → Type 0
+abbrev pub IsEachThere : List (CopyKey × ℕ) → List (ℕ × Text) → Type 0
 IsEachThere accepted texts = map (λ t. t.0) texts ≡ map (λ pair. pair.1) accepted
 
 -- ---- one mailbox and all
 
 -- `logs`: what each worker heard; `copies`: what was taken from the lane of the mailbox's shard; `whole`: nobody could have removed a message
 pub record MailboxAgrees (whole : Bool) (logs : List (List Noted)) (copies : List Job) (mailbox : ℕ)
-    (accepted : List (CopyKey × ℕ)) (texts : List (ℕ × List ℕ)) : Type 0 where
+    (accepted : List (CopyKey × ℕ)) (texts : List (ℕ × Text)) : Type 0 where
   pub told : AreTold logs mailbox accepted
   pub there : All (IsOfCopy mailbox accepted copies) texts
   pub each : whole ≡ true → IsEachThere accepted texts
 
 -- `copies`: what was taken from each shard's lane; `accepted` and `texts`: what each mailbox accepted, and what is there
 pub record ListsAgree (directory : Directory) (whole : Bool) (logs : List (List Noted)) (copies : List (List Job))
-    (accepted : List (List (CopyKey × ℕ))) (texts : List (List (ℕ × List ℕ))) : Type 0 where
+    (accepted : List (List (CopyKey × ℕ))) (texts : List (List (ℕ × Text))) : Type 0 where
   pub mailboxes : (length accepted ≡ length directory.homes) × (length texts ≡ length directory.homes)
   pub mailbox : (m : ℕ) → m < length directory.homes
       → MailboxAgrees whole logs (slice_index_or copies (shard_of directory m) []) m

@@ -2,6 +2,7 @@
 use Rattle.std.specs.Prelude.{ℕ, List, Vec}
 use Rattle.std.specs.Global.{Global}
 use Rattle.delivery_token.specs.WorkerLog.{WorkerLog}
+use Rattle.delivery_token.specs.Text.{Text}
 use Rattle.delivery_token.specs.declared.CopyKey.{CopyKey}
 use Rattle.delivery_token.specs.declared.Job.{Job}
 use Rattle.delivery_token.specs.declared.log.Noted.{Noted}
@@ -18,7 +19,7 @@ pub record Report : Type 0 where
   pub replies : Vec (Vec (Vec ℕ Global) Global) Global  -- of each worker, of each of its connections, what was replied
   pub logs : Vec WorkerLog Global  -- of each worker, and behind them of each session, what it heard
   pub accepted : Vec (Vec (CopyKey × ℕ) Global) Global  -- of each mailbox, the copies that it accepted, with their UIDs
-  pub texts : Vec (Vec (ℕ × List ℕ) Global) Global  -- and the messages that are there
+  pub texts : Vec (Vec (ℕ × Text) Global) Global  -- and the messages that are there
   pub sessions : Vec (Vec ℕ Global) Global  -- what each session said
   pub closed : Closes
   pub history : List Event  -- how the history begins that all threads shared

@@ -3,9 +3,8 @@
 //! and a message is looked for behind the one before. What the workers heard does not belong here.
 
 ghost use Rattle.std.specs.Prelude.{◌≡◌, ◌↔◌, IsTrue, Some, option_map};
-ghost use Rattle.std.specs.Str.{bytes_eq};
 ghost use Rattle.running_house.specs.Lists.{IsEachThere};
-ghost use Rattle.running_house.specs.Walk.{are_met, copy_with, pair_with};
+ghost use Rattle.running_house.specs.Walk.{are_met, copy_with, is_text, pair_with};
 
 use delivery_token::{CopyKey, Job, Text};
 
@@ -34,11 +33,11 @@ fn copy_with(mailbox: u8, copies: &[Job], key: CopyKey) -> Option<(&Text, &[Job]
     None
 }
 
-/// Whether the bytes are the same.
+/// Whether the bytes are the same, and the date that came with them.
 fn is_same_text(some: &Text, other: &Text) -> bool
-    ensures { result ≡ bytes_eq some.now other.now }
+    ensures { result ≡ is_text some.now other.now }
 {
-    some.as_slice() == other.as_slice()
+    some.as_slice() == other.as_slice() && some.given_date() == other.given_date()
 }
 
 /// Whether each message is met, in order: with an accepted copy under its UID, and with the text with

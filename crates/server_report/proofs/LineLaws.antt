@@ -5,6 +5,7 @@ use Rattle.std.proofs.lemmas.List.{length-take-le}
 use Rattle.std.proofs.Transfers.{starts_with_of_append, starts_with_trans}
 use Rattle.std.specs.Io.{StartsWith}
 use Rattle.change_ring.specs.Log.{no_flags}
+use Rattle.delivery_token.specs.Text.{Text}
 use Rattle.delivery_token.specs.declared.CopyKey.{CopyKey}
 use Rattle.delivery_token.specs.declared.Job.{Job}
 use Rattle.delivery_token.specs.declared.Verdict.{Verdict}
@@ -21,8 +22,8 @@ zip_next (a ∷ xs) [] x y same = absurd (omega arith)
 zip_next (a ∷ xs) (b ∷ ys) x y same = ap (λ l. (a, b) ∷ l) (zip_next xs ys x y (omega arith))
 
 -- the line of one copy more
-pub lines_next : (homes : List Home) (workers : ℕ) (keys : List CopyKey) (mailboxes : List ℕ) (text : List ℕ) (verdicts : List Verdict) (i : ℕ) (k : CopyKey) (m : ℕ) (v : Verdict) (size : ℕ) (old was new : List ℕ)
-    → size ≡ length text → length mailboxes ≡ length keys → length verdicts ≡ length keys → i < length verdicts → k ≡ slice_index_or keys i k → m ≡ slice_index_or mailboxes i m → v ≡ slice_index_or verdicts i v
+pub lines_next : (homes : List Home) (workers : ℕ) (keys : List CopyKey) (mailboxes : List ℕ) (text : Text) (verdicts : List Verdict) (i : ℕ) (k : CopyKey) (m : ℕ) (v : Verdict) (size : ℕ) (old was new : List ℕ)
+    → size ≡ length text.bytes → length mailboxes ≡ length keys → length verdicts ≡ length keys → i < length verdicts → k ≡ slice_index_or keys i k → m ≡ slice_index_or mailboxes i m → v ≡ slice_index_or verdicts i v
     → new ≡ was ++ copy_line homes (Mail (call_number workers k.seat k.serial)) k.message m (Some size) v
     → was ≡ old ++ mail_lines homes workers (zip (copies (take i keys) (take i mailboxes) text) (take i verdicts))
     → new ≡ old ++ mail_lines homes workers (zip (copies (take (i + 1) keys) (take (i + 1) mailboxes) text) (take (i + 1) verdicts))

@@ -52,7 +52,7 @@ copy_line homes caller message mailbox size verdict =
 -- of a copy of mail, with its verdict: who called is told by its key
 abbrev pub mail_line : List Home → (workers : ℕ) → Job × Verdict → List ℕ
 mail_line homes workers judged =
-    copy_line homes (Mail (call_number workers judged.0.key.seat judged.0.key.serial)) judged.0.key.message judged.0.mailbox (Some (length judged.0.text)) judged.1
+    copy_line homes (Mail (call_number workers judged.0.key.seat judged.0.key.serial)) judged.0.key.message judged.0.mailbox (Some (length judged.0.text.bytes)) judged.1
 
 -- a line for each copy, in their order
 abbrev pub mail_lines : List Home → (workers : ℕ) → List (Job × Verdict) → List ℕ

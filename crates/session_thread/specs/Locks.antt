@@ -123,7 +123,7 @@ abbrev pub HasOpening : Opening → Type 0
 HasOpening opening = (opening.uidnext < 2 ^ 32) × (opening.uidvalidity < 2 ^ 32)
 
 abbrev pub HasRow : Option Row → Type 0
-HasRow row = IfSome row (λ found. length found.text < 2 ^ 64)
+HasRow row = IfSome row (λ found. length found.text.bytes < 2 ^ 64)
 
 -- One call of a session over locks, with its answer. Of the mailbox nothing is known but what the call finds, and what the history says of it by then; and its
 -- number: the one that was asked for, and in a mailbox that was entered the handle's, which is that one. A call that is refused leaves the session as it was.

@@ -6,6 +6,7 @@ ghost use Rattle.std.specs.Prelude.{◌<◌};
 use change_ring::{Change, FlagOp, Flags, NO_FLAGS};
 use cursor_set::{CursorHandle, FeedFault, Stranger};
 use delivery_token::{CopyKey, Job, Refusal, Text, Verdict};
+use mail_date::{Stamp, Zone, read_internal_date};
 use mailbox::{
     History, Limits, MailFault, Mailbox, Opening, Status, every_mailbox_keeps, verdict_of,
 };
@@ -703,5 +704,50 @@ fn falls_behind(alloc: Global, mailbox: &mut Mailbox) -> Result<bool, AllocError
 fn a_window_grows_for_a_client_that_falls_behind(rt: HostRuntime) -> Result<(), AllocError> {
     let mut mailbox = filled(rt.alloc(), 0, GROWING, 8)?;
     assert!(rt; falls_behind(rt.alloc(), &mut mailbox)?);
+    Ok(())
+}
+
+// The date of the example of FETCH (RFC 9051, section 8).
+const CAME_WITH: Stamp = Stamp {
+    year: 1996,
+    month: 7,
+    day: 17,
+    hour: 2,
+    minute: 44,
+    second: 25,
+    zone: Zone {
+        is_west: true,
+        hours: 7,
+        minutes: 0,
+    },
+};
+
+// A copy that came with that date.
+fn dated(alloc: Global) -> Result<Job, AllocError> {
+    let copy = job(alloc, 0, b"hi\r\n", NO_FLAGS)?;
+    let date = read_internal_date(b"17-Jul-1996 02:44:25 -0700");
+    let text = Text::with_date(Vec::from_slice(alloc, b"hi\r\n")?, date)?;
+    Ok(Job { text, ..copy })
+}
+
+// What date the message of this UID is read with.
+fn date_read(mailbox: &mut Mailbox, handle: &CursorHandle, uid: u32) -> Option<Stamp> {
+    match mailbox.read(handle, uid, false) {
+        Ok(Some(row)) => Some(row.text.date()),
+        _ => None,
+    }
+}
+
+fn keeps_its_date(alloc: Global) -> Result<bool, AllocError> {
+    let mut mailbox = filled(alloc, 0, SMALL, 1)?;
+    let is_stored = verdict_of(mailbox.deliver(&dated(alloc)?)) == Verdict::Stored { uid: 2 };
+    let (handle, _opening) = opened(&mut mailbox)?;
+    let date = date_read(&mut mailbox, &handle, 2);
+    Ok(leaves(&mut mailbox, handle, false) == Ok(0) && is_stored && date == Some(CAME_WITH))
+}
+
+#[test]
+fn a_message_is_read_with_the_date_that_came_with_it(rt: HostRuntime) -> Result<(), AllocError> {
+    assert!(rt; keeps_its_date(rt.alloc())?);
     Ok(())
 }

@@ -5,6 +5,7 @@ ghost use Rattle.std.specs.Prelude.{◌≡◌};
 use change_ring::NO_FLAGS;
 use delivery_token::{CopyKey, Job, Text, Verdict, WorkerLog};
 use envelope::Directory;
+use mail_date::read_internal_date;
 use running_house::lists_agree;
 use std::alloc::{AllocError, Global};
 
@@ -18,6 +19,9 @@ struct Case {
     accepted: &'static [(u8, u32, u32)],
     // What is there: UID and text.
     there: &'static [(u32, &'static str)],
+    // The dates that came with what was taken, and with what is there: none where it is no date.
+    taken_at: &'static [u8],
+    there_at: &'static [u8],
     whole: bool,
     agree: bool,
 }
@@ -27,6 +31,8 @@ const GOOD: Case = Case {
     taken: &[(0, "one"), (1, "two")],
     accepted: &[(0, 0, 7), (0, 1, 8)],
     there: &[(7, "one"), (8, "two")],
+    taken_at: b"",
+    there_at: b"",
     whole: true,
     agree: true,
 };
@@ -36,6 +42,28 @@ const CASES: &[Case] = &[
     // Another text.
     Case {
         there: &[(7, "one"), (8, "tow")],
+        agree: false,
+        ..GOOD
+    },
+    // The date that the copies came with, another one, none, and one with copies that came without.
+    Case {
+        taken_at: b"17-Jul-1996 02:44:25 -0700",
+        there_at: b"17-Jul-1996 02:44:25 -0700",
+        ..GOOD
+    },
+    Case {
+        taken_at: b"17-Jul-1996 02:44:25 -0700",
+        there_at: b"17-Jul-1996 09:44:25 +0000",
+        agree: false,
+        ..GOOD
+    },
+    Case {
+        taken_at: b"17-Jul-1996 02:44:25 -0700",
+        agree: false,
+        ..GOOD
+    },
+    Case {
+        there_at: b"17-Jul-1996 02:44:25 -0700",
         agree: false,
         ..GOOD
     },
@@ -94,8 +122,11 @@ fn key(seat: u8, message: u32) -> CopyKey {
     }
 }
 
-fn text(alloc: Global, word: &str) -> Result<Text, AllocError> {
-    Text::new(Vec::from_slice(alloc, word.as_bytes())?)
+fn text(alloc: Global, word: &str, date: &[u8]) -> Result<Text, AllocError> {
+    Text::with_date(
+        Vec::from_slice(alloc, word.as_bytes())?,
+        read_internal_date(date),
+    )
 }
 
 fn logs(alloc: Global, heard: &[(u32, u32)]) -> Result<Vec<WorkerLog>, AllocError> {
@@ -107,13 +138,13 @@ fn logs(alloc: Global, heard: &[(u32, u32)]) -> Result<Vec<WorkerLog>, AllocErro
     Ok(vec![in alloc; log]?)
 }
 
-fn copies(alloc: Global, taken: &[(u32, &str)]) -> Result<Vec<Job>, AllocError> {
+fn copies(alloc: Global, taken: &[(u32, &str)], date: &[u8]) -> Result<Vec<Job>, AllocError> {
     let mut copies = Vec::new(alloc);
     for (message, word) in taken {
         copies.push(Job {
             key: key(0, *message),
             mailbox: 0,
-            text: text(alloc, word)?,
+            text: text(alloc, word, date)?,
             flags: NO_FLAGS,
         })?;
     }
@@ -131,10 +162,14 @@ fn pairs(
     Ok(vec![in alloc; pairs]?)
 }
 
-fn texts(alloc: Global, there: &[(u32, &str)]) -> Result<Vec<Vec<(u32, Text)>>, AllocError> {
+fn texts(
+    alloc: Global,
+    there: &[(u32, &str)],
+    date: &[u8],
+) -> Result<Vec<Vec<(u32, Text)>>, AllocError> {
     let mut texts = Vec::new(alloc);
     for (uid, word) in there {
-        texts.push((*uid, text(alloc, word)?))?;
+        texts.push((*uid, text(alloc, word, date)?))?;
     }
     Ok(vec![in alloc; texts]?)
 }
@@ -147,9 +182,9 @@ fn agree(alloc: Global, directory: &Directory, case: &Case) -> Result<bool, Allo
         directory,
         case.whole,
         logs(alloc, case.heard)?.as_slice(),
-        vec![in alloc; copies(alloc, case.taken)?]?.as_slice(),
+        vec![in alloc; copies(alloc, case.taken, case.taken_at)?]?.as_slice(),
         pairs(alloc, case.accepted)?.as_slice(),
-        texts(alloc, case.there)?.as_slice(),
+        texts(alloc, case.there, case.there_at)?.as_slice(),
     )
 }
 

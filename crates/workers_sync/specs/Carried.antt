@@ -1,6 +1,7 @@
 -- A message that was carried to its mailbox.
-use Rattle.std.specs.Prelude.{ℕ, List}
+use Rattle.std.specs.Prelude.{ℕ}
 use Rattle.change_ring.specs.declared.change.Flags.{Flags}
+use Rattle.delivery_token.specs.Text.{Text}
 use Rattle.delivery_token.specs.declared.Job.{Job}
 use Rattle.delivery_token.specs.declared.Verdict.{Verdict}
 
@@ -8,7 +9,7 @@ use Rattle.delivery_token.specs.declared.Verdict.{Verdict}
 pub record Carried : Type 0 where
   pub message : ℕ
   pub mailbox : ℕ
-  pub text : List ℕ
+  pub text : Text
   pub flags : Flags
   pub verdict : Verdict
 

@@ -3,6 +3,7 @@ use Rattle.std.specs.Prelude.{List, [], ◌∷◌}
 use Rattle.change_ring.specs.Log.{no_flags}
 use Rattle.delivery_token.specs.declared.CopyKey.{CopyKey}
 use Rattle.delivery_token.specs.declared.Job.{Job}
+use Rattle.delivery_token.specs.Text.{undated}
 use Rattle.delivery_token.specs.declared.log.Noted.{Noted}
 use Rattle.delivery_token.specs.declared.Verdict.TheVariants.{Stored}
 use Rattle.world.specs.World.{Config, Event, Put, Take, Deliver, Answer, Hear, Enter, Feed}
@@ -17,7 +18,7 @@ one_key = record { seat = 0; serial = 0; message = 0; recipient = 0 }
 
 -- the copy
 abbrev pub one_copy : Job
-one_copy = record { key = one_key; mailbox = 0; text = 104 ∷ 105 ∷ []; flags = no_flags }
+one_copy = record { key = one_key; mailbox = 0; text = undated (104 ∷ 105 ∷ []); flags = no_flags }
 
 -- the reply to it
 abbrev pub one_reply : Noted

@@ -2,6 +2,7 @@
 -- lane is full too, and one that has not hears that it is full.
 use Rattle.std.specs.Prelude.{◌≡◌, [], ◌∷◌}
 use Rattle.change_ring.specs.Log.{no_flags}
+use Rattle.delivery_token.specs.Text.{undated}
 use Rattle.delivery_token.specs.declared.Job.{Job}
 use Rattle.delivery_token.specs.declared.Refusal.{Refusal}
 use Rattle.delivery_token.specs.declared.Refusal.TheVariants.{Full, Shut}
@@ -24,7 +25,7 @@ filled = puts empty_world 0 (Item 0 one_copy)
 
 -- the copy for the next recipient
 abbrev pub next_copy : Job
-next_copy = record { key = record { seat = 0; serial = 0; message = 0; recipient = 1 }; mailbox = 0; text = 104 ∷ 105 ∷ []; flags = no_flags }
+next_copy = record { key = record { seat = 0; serial = 0; message = 0; recipient = 1 }; mailbox = 0; text = undated (104 ∷ 105 ∷ []); flags = no_flags }
 
 -- the seat has heard that it was refused
 abbrev pub told : World → Refusal → World

@@ -7,7 +7,7 @@ use Rattle.imap_grammar.specs.declared.key_words.SingleKey.{SingleKey}
 use Rattle.imap_grammar.specs.declared.keys.Asked.{Asked}
 
 abbrev pub so : Asked → Key → Bool
-so asked key = matches key asked.last asked.message asked.flags asked.text.now
+so asked key = matches key asked.last asked.message asked.flags (record { bytes = asked.text.now; date = asked.date })
 
 abbrev pub single_and_rest : Asked → SingleKey × List ℕ → Bool × List ℕ
 single_and_rest asked read = (so asked (key_of read.0), read.1)

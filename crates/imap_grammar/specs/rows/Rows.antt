@@ -1,6 +1,8 @@
 -- Worked cases: lines and what they are, and what sets name.
 use Rattle.std.specs.Prelude.{◌≡◌, ℕ, List, Bool, Bool, codes, [], ◌∷◌, ◌++◌, Ok, Err, true, false, refl, Some, None, Option}
 use Rattle.change_ring.specs.declared.change.Flags.{Flags}
+use Rattle.mail_date.specs.InternalBack.{internal_date}
+use Rattle.mail_date.specs.declared.stamp.Stamp.{Stamp}
 use Rattle.imap_grammar.specs.declared.items.Section.{Section}
 use Rattle.imap_grammar.specs.declared.items.Span.{Span}
 use Rattle.imap_grammar.specs.declared.items.BodyPart.TheVariants as parts
@@ -29,7 +31,7 @@ abbrev body_item : Bool → Section → Option Span → FetchItem
 body_item peek section part = fetch.Body peek (parts.Section section) part
 
 abbrev appended : List ℕ → Flags → ℕ → Bool → Append
-appended name given size waits = record { name = name; flags = given; literal = record { size = size; waits = waits } }
+appended name given size waits = record { name = name; flags = given; date = None; literal = record { size = size; waits = waits } }
 
 noop : read (codes "a1 NOOP") ≡ Ok (codes "a1", say.Noop)
 unfolding read
@@ -209,17 +211,36 @@ uid_noop : read (codes "a1 UID NOOP") ≡ Err (Unknown (codes "a1"))
 unfolding read
 uid_noop = refl
 
+abbrev new_year : Stamp
+new_year = record { year = 2026; month = 1; day = 1; hour = 0; minute = 0; second = 0; zone = record { is_west = false; hours = 0; minutes = 0 } }
+
 append : read (codes "a1 APPEND INBOX {5+}") ≡ Ok (codes "a1", say.Append (appended (codes "INBOX") (flags false false false false false) 5 false))
 unfolding read
 append = refl
 
-append_flags : read (codes "a1 append INBOX (\\Seen \\Flagged $x) \" 1-Jan-2026 00:00:00 +0000\" {02} ") ≡ Ok (codes "a1", say.Append (appended (codes "INBOX") (flags false true false true false) 2 true))
-unfolding read
+append_flags : read (codes "a1 append INBOX (\\Seen \\Flagged $x) \" 1-Jan-2026 00:00:00 +0000\" {02} ")
+    ≡ Ok (codes "a1", say.Append (record (appended (codes "INBOX") (flags false true false true false) 2 true) { date = Some new_year }))
+unfolding read internal_date
 append_flags = refl
 
 append_dated : read (codes "a1 APPEND \"a b\" \"\" {0}") ≡ Ok (codes "a1", say.Append (appended (codes "a b") (flags false false false false false) 0 true))
-unfolding read
+unfolding read internal_date
 append_dated = refl
+
+-- a date of RFC 9051, and one that the calendar hasn't
+append_in_summer : read (codes "a1 APPEND INBOX \"17-Jul-1996 02:44:25 -0700\" {3}")
+    ≡ Ok (
+      codes "a1",
+      say.Append (record (appended (codes "INBOX") (flags false false false false false) 3 true) {
+        date = Some (record { year = 1996; month = 7; day = 17; hour = 2; minute = 44; second = 25; zone = record { is_west = true; hours = 7; minutes = 0 } });
+      }),
+    )
+unfolding read internal_date
+append_in_summer = refl
+
+append_no_such_day : read (codes "a1 APPEND INBOX \"30-Feb-2000 00:00:00 +0000\" {3}") ≡ Ok (codes "a1", say.Append (appended (codes "INBOX") (flags false false false false false) 3 true))
+unfolding read internal_date
+append_no_such_day = refl
 
 append_no_flags : read (codes "a1 APPEND INBOX () {7}") ≡ Ok (codes "a1", say.Append (appended (codes "INBOX") (flags false false false false false) 7 true))
 unfolding read
@@ -323,6 +344,22 @@ fields_among_items = refl
 no_fields : read (codes "a1 FETCH 1 BODY[HEADER.FIELDS ()]") ≡ Err (Arguments (codes "a1") verbs.Fetch)
 unfolding read
 no_fields = refl
+
+quoted_fields : read (codes "a1 FETCH 1 (BODY.PEEK[HEADER.FIELDS (\"Subject\" From)] UID)") ≡ Ok (codes "a1", say.Fetch (record { by_uid = false; set = range (Number 1) (Number 1) ∷ []; items = fetch.Body true (parts.Fields false (codes "\"Subject\"" ∷ codes "From" ∷ [])) None ∷ fetch.Uid ∷ [] }))
+unfolding read
+quoted_fields = refl
+
+a_space_in_a_quoted_field : read (codes "a1 FETCH 1 BODY[HEADER.FIELDS (\"Sub ject\")]") ≡ Err (Arguments (codes "a1") verbs.Fetch)
+unfolding read
+a_space_in_a_quoted_field = refl
+
+a_quoted_field_without_a_byte : read (codes "a1 FETCH 1 BODY[HEADER.FIELDS (\"\")]") ≡ Err (Arguments (codes "a1") verbs.Fetch)
+unfolding read
+a_quoted_field_without_a_byte = refl
+
+a_quote_that_is_not_closed : read (codes "a1 FETCH 1 BODY[HEADER.FIELDS (\"To)]") ≡ Err (Arguments (codes "a1") verbs.Fetch)
+unfolding read
+a_quote_that_is_not_closed = refl
 
 fields_without_a_space : read (codes "a1 FETCH 1 BODY[HEADER.FIELDS(TO)]") ≡ Err (Arguments (codes "a1") verbs.Fetch)
 unfolding read
@@ -458,7 +495,7 @@ unfolding read
 append_zeros = refl
 
 append_none_dated : read (codes "a1 APPEND INBOX () \"x\" {0}  ") ≡ Ok (codes "a1", say.Append (appended (codes "INBOX") (flags false false false false false) 0 true))
-unfolding read
+unfolding read internal_date
 append_none_dated = refl
 
 append_flagged : read (codes "a1 APPEND INBOX (\\flagged $x \\SEEN) {1}") ≡ Ok (codes "a1", say.Append (appended (codes "INBOX") (flags false true false true false) 1 true))

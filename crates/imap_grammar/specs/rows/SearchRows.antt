@@ -1,6 +1,8 @@
 -- Worked cases: searches, and of which messages their keys are so.
-use Rattle.std.specs.Prelude.{◌≡◌, ℕ, Bool, codes, List, [], ◌∷◌, ◌++◌, Ok, Err, true, false, refl}
+use Rattle.std.specs.Prelude.{◌≡◌, ℕ, Bool, codes, List, [], ◌∷◌, ◌++◌, Some, None, Ok, Err, true, false, refl}
 use Rattle.change_ring.specs.declared.change.Flags.{Flags}
+use Rattle.delivery_token.specs.Text.{Text, undated}
+use Rattle.mail_date.specs.declared.stamp.Stamp.{Stamp}
 use Rattle.mail_date.specs.Fields.{message_date, received_date}
 use Rattle.mail_date.specs.Reading.{date_time}
 use Rattle.imap_grammar.specs.Keys.{Key, Always, Never, Has, Lacks, Larger, Smaller, Before, On, Since, InField, InBody, InText, Positions, Uids, Not, Or, And}
@@ -14,6 +16,7 @@ use Rattle.imap_grammar.specs.declared.set.SeqNumber.{SeqNumber}
 use Rattle.imap_grammar.specs.declared.set.SeqNumber.TheVariants.{Number, Star}
 use Rattle.imap_grammar.specs.declared.set.SeqRange.{SeqRange}
 use Rattle.imap_grammar.specs.declared.view.Named.{Named}
+use Rattle.imap_grammar.specs.declared.command.SearchReturns.{SearchReturns}
 use Rattle.imap_grammar.specs.declared.command.Command.{Command}
 use Rattle.imap_grammar.specs.declared.command.Command.TheVariants as say
 use Rattle.imap_grammar.specs.declared.command.Verb.TheVariants as verbs
@@ -23,7 +26,14 @@ abbrev range : SeqNumber → SeqNumber → SeqRange
 range a b = record { from = a; to = b }
 
 abbrev search : Bool → Bool → Key → Command
-search by_uid known_charset keys = say.Search (record { by_uid = by_uid; known_charset = known_charset; keys = keys })
+search by_uid known_charset keys = say.Search (record { by_uid = by_uid; returns = None; known_charset = known_charset; keys = keys })
+
+abbrev asked : Bool → Bool → Bool → Bool → SearchReturns
+asked min max count all = record { min = min; max = max; count = count; all = all }
+
+abbrev returning : Bool → SearchReturns → Bool → Key → Command
+returning by_uid returns known_charset keys =
+    say.Search (record { by_uid = by_uid; returns = Some returns; known_charset = known_charset; keys = keys })
 
 -- ---- lines
 
@@ -85,9 +95,60 @@ another_key : read (codes "a1 SEARCH SEEN SENTSINCE 1-Feb-1994") ≡ Err (Argume
 unfolding read keys_in key_at
 another_key = refl
 
-results : read (codes "a1 UID SEARCH RETURN (MIN) ALL") ≡ Err (Arguments (codes "a1") verbs.UidSearch)
+-- what a search is to return: first the lines of RFC 9051, 6.4.4
+
+lowest_and_count : read (codes "A282 SEARCH RETURN (MIN COUNT) FLAGGED SINCE 1-Feb-1994 NOT FROM \"Smith\"") ≡ Ok (
+  codes "A282",
+  returning false (asked true false true false) true
+      (And (Has Flagged) (And (Since (record { year = 1994; month = 2; day = 1 })) (Not (InField (codes "From") (codes "Smith"))))),
+)
+unfolding read keys_in key_at date_in
+lowest_and_count = refl
+
+none_of_the_words : read (codes "A283 SEARCH RETURN () FLAGGED") ≡ Ok (codes "A283", returning false (asked false false false true) true (Has Flagged))
 unfolding read keys_in key_at
-results = refl
+none_of_the_words = refl
+
+each_word : read (codes "C1 UID SEARCH RETURN (MIN MAX COUNT ALL) 1:*") ≡ Ok
+    (codes "C1", returning true (asked true true true true) true (Positions (range (Number 1) Star ∷ [])))
+unfolding read keys_in key_at
+each_word = refl
+
+returns_in_any_case : read (codes "a1 search return  (Max  max) charset utf-8  all") ≡ Ok (codes "a1", returning false (asked false true false false) true Always)
+unfolding read keys_in key_at
+returns_in_any_case = refl
+
+other_charset_behind_return : read (codes "a1 SEARCH RETURN (ALL) CHARSET KOI8-R ALL") ≡ Ok (codes "a1", returning false (asked false false false true) false Always)
+unfolding read keys_in key_at
+other_charset_behind_return = refl
+
+a_word_that_asks_for_nothing : read (codes "a1 UID SEARCH RETURN (MIN SAVE) ALL") ≡ Err (Arguments (codes "a1") verbs.UidSearch)
+unfolding read keys_in key_at
+a_word_that_asks_for_nothing = refl
+
+a_return_without_parentheses : read (codes "a1 SEARCH RETURN MIN ALL") ≡ Err (Arguments (codes "a1") verbs.Search)
+unfolding read keys_in key_at
+a_return_without_parentheses = refl
+
+no_gap_behind_returns : read (codes "a1 SEARCH RETURN (MIN)ALL") ≡ Err (Arguments (codes "a1") verbs.Search)
+unfolding read keys_in key_at
+no_gap_behind_returns = refl
+
+no_gap_before_returns : read (codes "a1 SEARCH RETURN(MIN) ALL") ≡ Err (Arguments (codes "a1") verbs.Search)
+unfolding read keys_in key_at
+no_gap_before_returns = refl
+
+space_among_returns : read (codes "a1 SEARCH RETURN (MIN ) ALL") ≡ Err (Arguments (codes "a1") verbs.Search)
+unfolding read keys_in key_at
+space_among_returns = refl
+
+returns_and_no_key : read (codes "a1 SEARCH RETURN (MIN)") ≡ Err (Arguments (codes "a1") verbs.Search)
+unfolding read keys_in key_at
+returns_and_no_key = refl
+
+a_return_among_keys : read (codes "a1 SEARCH CHARSET UTF-8 RETURN (MIN) ALL") ≡ Err (Arguments (codes "a1") verbs.Search)
+unfolding read keys_in key_at
+a_return_among_keys = refl
 
 or_of_one : read (codes "a1 SEARCH OR SEEN") ≡ Err (Arguments (codes "a1") verbs.Search)
 unfolding read keys_in key_at
@@ -324,58 +385,58 @@ last = record { position = 3; uid = 9 }
 abbrev five : List ℕ
 five = codes "12345"
 
-not_so : matches (Not (Has Seen)) last middle seen five ≡ false
+not_so : matches (Not (Has Seen)) last middle seen (undated five) ≡ false
 not_so = refl
 
-not_seen : matches (Not (Has Seen)) last middle plain five ≡ true
+not_seen : matches (Not (Has Seen)) last middle plain (undated five) ≡ true
 not_seen = refl
 
-lacks_seen : matches (Lacks Seen) last middle seen five ≡ false
+lacks_seen : matches (Lacks Seen) last middle seen (undated five) ≡ false
 lacks_seen = refl
 
-one_of_two : matches (Or (Has Seen) (Has Draft)) last middle seen five ≡ true
+one_of_two : matches (Or (Has Seen) (Has Draft)) last middle seen (undated five) ≡ true
 one_of_two = refl
 
-none_of_two : matches (Or (Has Deleted) (Has Draft)) last middle seen five ≡ false
+none_of_two : matches (Or (Has Deleted) (Has Draft)) last middle seen (undated five) ≡ false
 none_of_two = refl
 
-both : matches (And (Has Seen) (Larger 4)) last middle seen five ≡ true
+both : matches (And (Has Seen) (Larger 4)) last middle seen (undated five) ≡ true
 both = refl
 
-not_both : matches (And (Has Seen) (Has Draft)) last middle seen five ≡ false
+not_both : matches (And (Has Seen) (Has Draft)) last middle seen (undated five) ≡ false
 not_both = refl
 
-no_larger : matches (Larger 5) last middle seen five ≡ false
+no_larger : matches (Larger 5) last middle seen (undated five) ≡ false
 no_larger = refl
 
-larger : matches (Larger 5) last middle seen (codes "123456") ≡ true
+larger : matches (Larger 5) last middle seen (undated (codes "123456")) ≡ true
 larger = refl
 
-no_smaller : matches (Smaller 5) last middle seen five ≡ false
+no_smaller : matches (Smaller 5) last middle seen (undated five) ≡ false
 no_smaller = refl
 
-smaller : matches (Smaller 5) last middle seen (codes "1234") ≡ true
+smaller : matches (Smaller 5) last middle seen (undated (codes "1234")) ≡ true
 smaller = refl
 
-position : matches (Positions (range (Number 2) (Number 2) ∷ [])) last middle plain five ≡ true
+position : matches (Positions (range (Number 2) (Number 2) ∷ [])) last middle plain (undated five) ≡ true
 position = refl
 
-position_of_another : matches (Uids (range (Number 2) (Number 2) ∷ [])) last middle plain five ≡ false
+position_of_another : matches (Uids (range (Number 2) (Number 2) ∷ [])) last middle plain (undated five) ≡ false
 position_of_another = refl
 
-last_position : matches (Positions (range Star Star ∷ [])) last last plain five ≡ true
+last_position : matches (Positions (range Star Star ∷ [])) last last plain (undated five) ≡ true
 last_position = refl
 
-before_the_last : matches (Positions (range Star Star ∷ [])) last middle plain five ≡ false
+before_the_last : matches (Positions (range Star Star ∷ [])) last middle plain (undated five) ≡ false
 before_the_last = refl
 
-uids_from : matches (Uids (range (Number 7) Star ∷ [])) last middle plain five ≡ true
+uids_from : matches (Uids (range (Number 7) Star ∷ [])) last middle plain (undated five) ≡ true
 uids_from = refl
 
-beyond_the_last : matches (Uids (range (Number 100) Star ∷ [])) last last plain five ≡ true
+beyond_the_last : matches (Uids (range (Number 100) Star ∷ [])) last last plain (undated five) ≡ true
 beyond_the_last = refl
 
-everything : matches (Positions (Keys.all_messages)) last middle plain five ≡ true
+everything : matches (Positions (Keys.all_messages)) last middle plain (undated five) ≡ true
 everything = refl
 
 -- ---- dates of messages
@@ -385,7 +446,7 @@ abbrev dated : List ℕ
 dated = codes "Received: from a.example by b.example; Fri, 27 Nov 2026 23:45:48 -0800\r\nDate: Sat, 28 Nov 2026 07:40:00 +0000\r\n\r\nx\r\n"
 
 abbrev is_so : Key → List ℕ → Bool
-is_so key text = matches key last middle plain text
+is_so key text = matches key last middle plain (undated text)
 
 before_the_day_before : is_so (Before (date 2026 11 26)) dated ≡ false
 unfolding message_date received_date date_time
@@ -456,6 +517,18 @@ on_no_date = refl
 not_before_no_date : is_so (Before (date 1970 1 1)) five ≡ false
 unfolding message_date received_date date_time
 not_before_no_date = refl
+
+-- the date that came with a message counts, and not the one that its header says
+abbrev with_own : Text
+with_own = record { bytes = dated; date = Some (record { year = 1996; month = 7; day = 17; hour = 2; minute = 44; second = 25; zone = record { is_west = true; hours = 7; minutes = 0 } }) }
+
+on_its_own_day : matches (On (date 1996 7 17)) last middle plain with_own ≡ true
+unfolding message_date received_date date_time
+on_its_own_day = refl
+
+not_on_the_day_of_its_header : matches (On (date 2026 11 27)) last middle plain with_own ≡ false
+unfolding message_date received_date date_time
+not_on_the_day_of_its_header = refl
 
 -- ---- words of messages
 

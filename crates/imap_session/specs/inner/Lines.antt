@@ -29,7 +29,7 @@ IsJoined (Some line) whole = line.items ≡ whole
 IsJoined None whole = most_line < length whole
 
 abbrev pub is_message : Purpose → Bool
-is_message (Message mailbox flags) = true
+is_message (Message mailbox flags date) = true
 is_message purpose = false
 
 -- the rest of a line behind a literal, once that isn't awaited any more

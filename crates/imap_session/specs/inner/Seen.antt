@@ -14,7 +14,7 @@ use Rattle.imap_session.specs.Exchange.{Argument, Batch, Client, Copied, Message
 use Rattle.imap_session.specs.Store.{most_first_room}
 
 abbrev pub purpose_of : purposes.Purpose → Purpose
-purpose_of (said.Message mailbox flags) = Message mailbox flags
+purpose_of (said.Message mailbox flags date) = Message mailbox flags date
 purpose_of (said.Argument line) = Argument line.items
 purpose_of (said.Response line) = Response line.items
 
@@ -43,7 +43,7 @@ IsRoomy (from.Copied b) = IsUnderWay b
 
 -- a line that goes on has room for as much as a line may have
 abbrev pub HasLineRoom : purposes.Purpose → Type 0
-HasLineRoom (said.Message mailbox flags) = Unit {0}
+HasLineRoom (said.Message mailbox flags date) = Unit {0}
 HasLineRoom (said.Argument line) = most_line ≤ vec_capacity line
 HasLineRoom (said.Response line) = most_line ≤ vec_capacity line
 

@@ -100,9 +100,9 @@ abbrev pub behind_notice : Option (List ℕ) → Command → Exchange → Exchan
 behind_notice None command x = x
 behind_notice (Some words) command x = completed command
 
-abbrev pub behind_first_line : Standing → Command → Exchange
-behind_first_line now commands.Logout = Done (response_text (texts.Completed verbs.Logout)) Bye
-behind_first_line now command = behind_notice (notice now.profile command) command (on_command now command)
+abbrev pub behind_first_line : (tag : List ℕ) → Standing → Command → Exchange
+behind_first_line tag now commands.Logout = Done (response_text (texts.Completed verbs.Logout)) Bye
+behind_first_line tag now command = behind_notice (notice now.profile command) command (on_command tag now command)
 
 -- what a client may send after a command that was done
 abbrev pub after_command : Command → After

@@ -10,6 +10,9 @@ use Rattle.delivery_token.specs.declared.Verdict.TheVariants as verdicts
 use Rattle.delivery_token.specs.declared.Refusal.TheVariants.{Full, MailboxFull}
 use Rattle.imap_grammar.specs.Literals.{announced}
 use Rattle.imap_grammar.specs.Reading.{read}
+use Rattle.mail_date.specs.InternalBack.{internal_date}
+use Rattle.mail_date.specs.declared.stamp.Stamp.{Stamp}
+use Rattle.delivery_token.specs.Text.{undated}
 use Rattle.imap_session.specs.Exchange.{Answer, Entered, Looked, Found, Counted, Altered, Expunged, Fed, Left, Refused, Starved, Turn, Sent, Standing, begun_with, may_send, nothing_sent}
 use Rattle.imap_grammar.specs.declared.command.Command.TheVariants as commands
 use Rattle.imap_session.specs.Exchange.{Client, Copied, Count, Discard, Discarded, Exchange, Done, Folder, Leave, Write}
@@ -94,7 +97,7 @@ set_before_feed = refl
 
 -- a plain FETCH of messages that are gone shows no EXPUNGE
 two_missed : written in_inbox
-    (Line (codes "a2 FETCH 1:3 (UID)") (Looked (1 ∷ 2 ∷ 3 ∷ []) ∷ Found None ∷ Found None ∷ Found (Some (record { uid = 3; flags = (flags false false false false false); newly_seen = false; text = codes "x" })) ∷ []) ∷ Line (codes "a3 NOOP") (Fed (1 ∷ 2 ∷ 3 ∷ []) (SetFlags 1 (flags false false true false false) ∷ SetFlags 2 (flags false false true false false) ∷ Gone 1 ∷ Gone 2 ∷ []) ∷ []) ∷ [])
+    (Line (codes "a2 FETCH 1:3 (UID)") (Looked (1 ∷ 2 ∷ 3 ∷ []) ∷ Found None ∷ Found None ∷ Found (Some (record { uid = 3; flags = (flags false false false false false); newly_seen = false; text = undated (codes "x") })) ∷ []) ∷ Line (codes "a3 NOOP") (Fed (1 ∷ 2 ∷ 3 ∷ []) (SetFlags 1 (flags false false true false false) ∷ SetFlags 2 (flags false false true false false) ∷ Gone 1 ∷ Gone 2 ∷ []) ∷ []) ∷ [])
     ≡ Some (codes "* 3 FETCH (UID 3)\r\na2 NO [EXPUNGEISSUED] Some messages are gone\r\n* 1 FETCH (UID 1 FLAGS (\\Deleted))\r\n* 2 FETCH (UID 2 FLAGS (\\Deleted))\r\n* 1 EXPUNGE\r\n* 1 EXPUNGE\r\na3 OK NOOP completed\r\n")
 unfolding read digits
 two_missed = refl
@@ -143,21 +146,21 @@ status_of_selected = refl
 
 -- a part of a text, and \Seen told
 part_of_text : written in_inbox
-    (Line (codes "a2 FETCH 1 BODY[TEXT]<1.3>") (Looked (1 ∷ []) ∷ Found (Some (record { uid = 1; flags = (flags false false false true false); newly_seen = true; text = codes "Return-Path: <s@a.example>\r\nSubject: x\r\n\r\nhello\r\n" })) ∷ []) ∷ Line (codes "a3 FETCH 1 RFC822.SIZE") (Looked (1 ∷ []) ∷ Found (Some (record { uid = 1; flags = (flags false false false true false); newly_seen = false; text = codes "Return-Path: <s@a.example>\r\nSubject: x\r\n\r\nhello\r\n" })) ∷ []) ∷ [])
+    (Line (codes "a2 FETCH 1 BODY[TEXT]<1.3>") (Looked (1 ∷ []) ∷ Found (Some (record { uid = 1; flags = (flags false false false true false); newly_seen = true; text = undated (codes "Return-Path: <s@a.example>\r\nSubject: x\r\n\r\nhello\r\n") })) ∷ []) ∷ Line (codes "a3 FETCH 1 RFC822.SIZE") (Looked (1 ∷ []) ∷ Found (Some (record { uid = 1; flags = (flags false false false true false); newly_seen = false; text = undated (codes "Return-Path: <s@a.example>\r\nSubject: x\r\n\r\nhello\r\n") })) ∷ []) ∷ [])
     ≡ Some (codes "* 1 FETCH (BODY[TEXT]<1> {3}\r\nell FLAGS (\\Seen))\r\na2 OK FETCH completed\r\n* 1 FETCH (RFC822.SIZE 49)\r\na3 OK FETCH completed\r\n")
 unfolding read digits
 part_of_text = refl
 
 -- the header of a text
 header : written in_inbox
-    (Line (codes "a2 FETCH 1 BODY.PEEK[HEADER]") (Looked (1 ∷ []) ∷ Found (Some (record { uid = 1; flags = (flags false false false false false); newly_seen = false; text = codes "Return-Path: <s@a.example>\r\nSubject: x\r\n\r\nhello\r\n" })) ∷ []) ∷ [])
+    (Line (codes "a2 FETCH 1 BODY.PEEK[HEADER]") (Looked (1 ∷ []) ∷ Found (Some (record { uid = 1; flags = (flags false false false false false); newly_seen = false; text = undated (codes "Return-Path: <s@a.example>\r\nSubject: x\r\n\r\nhello\r\n") })) ∷ []) ∷ [])
     ≡ Some (codes "* 1 FETCH (BODY[HEADER] {42}\r\nReturn-Path: <s@a.example>\r\nSubject: x\r\n\r\n)\r\na2 OK FETCH completed\r\n")
 unfolding read digits
 header = refl
 
 -- under EXAMINE a FETCH sets no \Seen
 whole_under_examine : written in_examined
-    (Line (codes "a2 FETCH 1 BODY[]") (Looked (1 ∷ []) ∷ Found (Some (record { uid = 1; flags = (flags false false false false false); newly_seen = false; text = codes "Return-Path: <s@a.example>\r\n" })) ∷ []) ∷ [])
+    (Line (codes "a2 FETCH 1 BODY[]") (Looked (1 ∷ []) ∷ Found (Some (record { uid = 1; flags = (flags false false false false false); newly_seen = false; text = undated (codes "Return-Path: <s@a.example>\r\n") })) ∷ []) ∷ [])
     ≡ Some (codes "* 1 FETCH (BODY[] {28}\r\nReturn-Path: <s@a.example>\r\n)\r\na2 OK FETCH completed\r\n")
 unfolding read digits
 whole_under_examine = refl
@@ -199,7 +202,7 @@ refusals = refl
 
 -- memory is refused for the answer of the second message
 starved : written in_inbox
-    (Line (codes "a2 FETCH 1:2 (UID)") (Looked (1 ∷ 2 ∷ []) ∷ Found (Some (record { uid = 1; flags = (flags false false false false false); newly_seen = false; text = codes "x" })) ∷ Found (Some (record { uid = 2; flags = (flags false false false false false); newly_seen = false; text = codes "y" })) ∷ Starved 0 ∷ []) ∷ [])
+    (Line (codes "a2 FETCH 1:2 (UID)") (Looked (1 ∷ 2 ∷ []) ∷ Found (Some (record { uid = 1; flags = (flags false false false false false); newly_seen = false; text = undated (codes "x") })) ∷ Found (Some (record { uid = 2; flags = (flags false false false false false); newly_seen = false; text = undated (codes "y") })) ∷ Starved 0 ∷ []) ∷ [])
     ≡ Some (codes "* 1 FETCH (UID 1)\r\na2 NO Out of memory\r\n")
 unfolding read digits
 starved = refl
@@ -329,14 +332,14 @@ silent_without_memory = refl
 -- ---- what the law of shown changes forbids
 
 -- a NOOP that shows nothing, where a mailbox is selected
-never_shown : ShowsInOrder in_inbox commands.Noop (completed commands.Noop) → ⊥
+never_shown : ShowsInOrder (codes "a1") in_inbox commands.Noop (completed commands.Noop) → ⊥
 never_shown p = differ (p refl)
 
 -- a CLOSE that tells of a message that is gone, and a NOOP that does
-told_by_close : (x : Exchange) → ShowsInOrder in_inbox commands.Close (Leave true (Write (codes "* 1 EXPUNGE\r\n") x)) → ⊥
+told_by_close : (x : Exchange) → ShowsInOrder (codes "a1") in_inbox commands.Close (Leave true (Write (codes "* 1 EXPUNGE\r\n") x)) → ⊥
 told_by_close x p = p.0
 
-told_by_noop : (x : Exchange) → ShowsInOrder in_inbox commands.Noop (Write (codes "* 1 EXPUNGE\r\n") x) → ⊥
+told_by_noop : (x : Exchange) → ShowsInOrder (codes "a1") in_inbox commands.Noop (Write (codes "* 1 EXPUNGE\r\n") x) → ⊥
 told_by_noop x p = p.0
 
 -- ---- APPEND
@@ -479,9 +482,23 @@ second_message : submitted (led awake
     (Line (codes "a1 APPEND INBOX {1+}") [] ∷ Literal true (codes "x") ∷ Line [] [] ∷ Heard (verdicts.Refused Full) []
     ∷ Line (codes "a2 APPEND Nope {1+}") [] ∷ Literal true (codes "x") ∷ Line [] []
     ∷ Line (codes "a3 APPEND Work (\\Flagged \\Seen) {5+}") [] ∷ Literal true (codes "h") ∷ Literal true (codes "el") ∷ Literal true (codes "lo") ∷ Line [] [] ∷ []))
-    ≡ Some (record { message = 1; mailbox = 1; text = codes "hello"; flags = (flags false true false true false) })
+    ≡ Some (record { message = 1; mailbox = 1; text = undated (codes "hello"); flags = (flags false true false true false) })
 unfolding read digits
 second_message = refl
+
+-- the date that the APPEND brought goes with its bytes; what the calendar hasn't is none
+february : Stamp
+february = record { year = 1994; month = 2; day = 7; hour = 21; minute = 52; second = 25; zone = record { is_west = true; hours = 8; minutes = 0 } }
+
+dated_message : submitted (led awake (Line (codes "a1 APPEND INBOX (\\Seen) \" 7-Feb-1994 21:52:25 -0800\" {5+}") [] ∷ Literal true (codes "hello") ∷ Line [] [] ∷ []))
+    ≡ Some (record { message = 0; mailbox = 0; text = record { bytes = codes "hello"; date = Some february }; flags = (flags false false false true false) })
+unfolding read digits internal_date february
+dated_message = refl
+
+no_such_date : submitted (led awake (Line (codes "a1 APPEND INBOX \"30-Feb-2000 00:00:00 +0000\" {5+}") [] ∷ Literal true (codes "hello") ∷ Line [] [] ∷ []))
+    ≡ Some (record { message = 0; mailbox = 0; text = undated (codes "hello"); flags = (flags false false false false false) })
+unfolding read digits internal_date
+no_such_date = refl
 
 -- as many bytes are waited for as are due
 waits_for_the_rest : option_map may_send (led awake (Line (codes "a1 APPEND INBOX {5+}") [] ∷ Literal true (codes "hel") ∷ [])) ≡ Some (afters.Literal 2)
@@ -500,7 +517,7 @@ unfolding read digits
 too_big_without_memory = refl
 
 abbrev sent_one : Standing
-sent_one = record awake { mailing = record (nothing_sent (Some 10)) { number = 1; sent = Some (record { tag = codes "a1"; append = record { message = 0; mailbox = 0; text = codes "x"; flags = (flags false false false false false) }; origin = Client }) } }
+sent_one = record awake { mailing = record (nothing_sent (Some 10)) { number = 1; sent = Some (record { tag = codes "a1"; append = record { message = 0; mailbox = 0; text = undated (codes "x"); flags = (flags false false false false false) }; origin = Client }) } }
 
 -- the OK isn't said before its mailbox is counted, nor without a verdict
 uncounted : turn_of_verdict sent_one (verdicts.Stored 1) [] ≡ None
@@ -555,7 +572,7 @@ lacking = refl
 logs_in_first : written at_the_door
     (Line (codes "a1 CAPABILITY") [] ∷ Line (codes "a2 NOOP") [] ∷ Line (codes "a3 SELECT INBOX") [] ∷ Line (codes "a4 AUTHENTICATE GSSAPI") [] ∷ Line (codes "a5 LOGIN smith SESAME") [] ∷ Line (codes "a6 LOGIN SMITH") []
     ∷ Line (codes "a7 LOGIN \"SMITH\" \"\"") [] ∷ Line (codes "a8 LOGIN SMITH SESAME") [] ∷ [])
-    ≡ Some (codes "* CAPABILITY IMAP4rev2 IMAP4rev1 AUTH=PLAIN ENABLE ID IDLE LITERAL- MOVE NAMESPACE SASL-IR UIDPLUS UNSELECT\r\na1 OK CAPABILITY completed\r\na2 OK NOOP completed\r\na3 BAD Wrong state\r\na4 NO [CANNOT] Not offered here\r\na5 NO [AUTHENTICATIONFAILED] Another user's port\r\na6 BAD Invalid arguments\r\na7 OK LOGIN completed\r\na8 BAD Wrong state\r\n")
+    ≡ Some (codes "* CAPABILITY IMAP4rev2 IMAP4rev1 AUTH=PLAIN ENABLE ESEARCH ID IDLE LITERAL- MOVE NAMESPACE SASL-IR UIDPLUS UNSELECT\r\na1 OK CAPABILITY completed\r\na2 OK NOOP completed\r\na3 BAD Wrong state\r\na4 NO [CANNOT] Not offered here\r\na5 NO [AUTHENTICATIONFAILED] Another user's port\r\na6 BAD Invalid arguments\r\na7 OK LOGIN completed\r\na8 BAD Wrong state\r\n")
 unfolding read digits announced
 logs_in_first = refl
 
@@ -615,7 +632,7 @@ abbrev at_examined : Standing
 at_examined = record inside { selected = Some (record { mailbox = 0; read_only = true }) }
 
 abbrev flagged_message : Answer
-flagged_message = Found (Some (record { uid = 5; flags = (flags false true false false false); newly_seen = false; text = codes "hello" }))
+flagged_message = Found (Some (record { uid = 5; flags = (flags false true false false false); newly_seen = false; text = undated (codes "hello") }))
 
 -- the copy's UID stands behind that of the message, and the UIDVALIDITY of the copy's mailbox before both
 copied : written at_inbox (Line (codes "a1 COPY 2 Work") (Looked (3 ∷ 5 ∷ []) ∷ flagged_message ∷ []) ∷ Heard (verdicts.Stored 9) (counted 7 ∷ Fed (3 ∷ 5 ∷ []) (Add 6 ∷ []) ∷ []) ∷ [])
@@ -625,7 +642,7 @@ copied = refl
 
 -- with its text and its flags
 copy_submitted : submitted (led at_inbox (Line (codes "a1 UID COPY 5 \"Work\"") (Looked (3 ∷ 5 ∷ []) ∷ flagged_message ∷ []) ∷ []))
-    ≡ Some (record { message = 0; mailbox = 1; text = codes "hello"; flags = (flags false true false false false) })
+    ≡ Some (record { message = 0; mailbox = 1; text = undated (codes "hello"); flags = (flags false true false false false) })
 unfolding read digits
 copy_submitted = refl
 
@@ -639,7 +656,7 @@ moved_away = refl
 
 -- several are read, and their copies go one after another; nothing is said before the last verdict
 abbrev plain_message : ℕ → Answer
-plain_message uid = Found (Some (record { uid = uid; flags = (flags false false false false false); newly_seen = false; text = codes "hi" }))
+plain_message uid = Found (Some (record { uid = uid; flags = (flags false false false false false); newly_seen = false; text = undated (codes "hi") }))
 
 abbrev three_read : List Answer
 three_read = Looked (3 ∷ 5 ∷ 6 ∷ []) ∷ plain_message 3 ∷ flagged_message ∷ plain_message 6 ∷ []
@@ -659,7 +676,7 @@ several_moved = refl
 
 -- the second goes with its own text and flags, under the next number
 second_submitted : submitted (led at_inbox (Line (codes "a1 COPY 1:3 Work") three_read ∷ Heard (verdicts.Stored 9) [] ∷ []))
-    ≡ Some (record { message = 1; mailbox = 1; text = codes "hello"; flags = (flags false true false false false) })
+    ≡ Some (record { message = 1; mailbox = 1; text = undated (codes "hello"); flags = (flags false true false false false) })
 unfolding read digits three_read
 second_submitted = refl
 
@@ -675,7 +692,7 @@ one_of_two_stored = record at_inbox {
     number = 2;
     sent = Some (record {
       tag = codes "a1";
-      append = record { message = 1; mailbox = 1; text = codes "hi"; flags = (flags false false false false false) };
+      append = record { message = 1; mailbox = 1; text = undated (codes "hi"); flags = (flags false false false false false) };
       origin = Copied (record { by_uid = false; moves = true; uids = 3 ∷ 5 ∷ []; left = []; copies = 9 ∷ [] });
     });
   };

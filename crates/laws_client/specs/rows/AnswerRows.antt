@@ -1,5 +1,5 @@
 -- How answers end, which numbers their last lines tell, and how a client cuts what it reads.
-use Rattle.std.specs.Prelude.{◌≡◌, ℕ, List, true, false, codes, [], ◌∷◌, Bool}
+use Rattle.std.specs.Prelude.{◌≡◌, ℕ, List, true, false, codes, [], ◌∷◌, Bool, Some, None}
 use Rattle.imap_grammar.specs.Literals.{announced}
 use Rattle.imap_grammar.specs.Reading.{read}
 use Rattle.imap_session.specs.Exchange.{Sent, Client, Copied, Batch, Folder}
@@ -7,13 +7,18 @@ use Rattle.std.specs.Fmt.{digits}
 use Rattle.std.proofs.Common.{refl, inl, sym}
 use Rattle.imap_session.specs.Commands.{appended_words, copied_words, with_copy}
 use Rattle.imap_session.specs.Telling.{tells_uid}
-use Rattle.laws_client.specs.Appends.{EndsWith, IsSentAs, IsSpelled, as_it_stands, last_line, with_literal, with_response, IsCopyOf, SaysMoved, SaysVerdict, awaits_next}
+use Rattle.laws_client.specs.Appends.{EndsWith, copy_under, IsSentAs, IsSpelled, as_it_stands, last_line, with_literal, with_response, IsCopyOf, SaysMoved, SaysVerdict, awaits_next}
 use Rattle.laws_client.specs.Clients.{Answer, Words}
 use Rattle.laws_client.specs.Cuts.{amid, between, cut_between, cuts, is_ended}
 use Rattle.imap_grammar.specs.declared.set.SeqNumber.TheVariants.{Number}
 use Rattle.exactly_once.specs.Found.{none_named, one_found, one_gone}
 use Rattle.mailbox.specs.declared.clients.Row.{Row}
 use Rattle.delivery_token.specs.declared.Verdict.TheVariants.{Stored, Refused}
+use Rattle.imap_answers.specs.Answers.{date_item}
+use Rattle.mail_date.specs.InternalBack.{internal_date}
+use Rattle.mail_date.specs.declared.stamp.Stamp.{Stamp}
+use Rattle.delivery_token.specs.declared.CopyKey.{CopyKey}
+use Rattle.delivery_token.specs.Text.{undated}
 use Rattle.delivery_token.specs.declared.Refusal.TheVariants.{Full}
 use Rattle.std.proofs.lemmas.Bool.{false≢true}
 
@@ -43,7 +48,7 @@ not_of_a_fetch = refl
 -- ---- which message was sent
 
 abbrev a_message : (mailbox : ℕ) → (text : List ℕ) → Sent
-a_message mailbox text = record { tag = codes "a1"; append = record { message = 0; mailbox = mailbox; flags = record { answered = false; flagged = false; deleted = false; seen = true; draft = false }; text = text }; origin = Client }
+a_message mailbox text = record { tag = codes "a1"; append = record { message = 0; mailbox = mailbox; flags = record { answered = false; flagged = false; deleted = false; seen = true; draft = false }; text = undated text }; origin = Client }
 
 -- a client that may first have said something else, and goes on behind
 sent_so : IsSentAs (record { name = codes "INBOX"; mailbox = 4 } ∷ []) (codes "a0 NOOP\r\na1 APPEND INBOX (\\Seen) {3}\r\nx\r\n\r\na2 LOGOUT\r\n") (a_message 4 (codes "x\r\n"))
@@ -53,14 +58,48 @@ sent_so = record {
   bytes = codes "a1 APPEND INBOX (\\Seen) {3}";
   line = codes "a1 APPEND INBOX (\\Seen) {3}";
   behind = codes "a2 LOGOUT\r\n";
-  append = record { name = codes "INBOX"; flags = record { answered = false; flagged = false; deleted = false; seen = true; draft = false }; literal = record { size = 3; waits = true } };
+  append = record { name = codes "INBOX"; flags = record { answered = false; flagged = false; deleted = false; seen = true; draft = false }; date = None; literal = record { size = 3; waits = true } };
   spelled = as_it_stands (codes "a1 APPEND INBOX (\\Seen) {3}");
   reads = refl;
   named = refl;
   flags = refl;
+  date = refl;
   size = refl;
   whole = refl;
 }
+
+-- one that brings a date (RFC 9051, 9: date-time; the date is that of the example in section 8)
+abbrev in_july : Stamp
+in_july = record { year = 1996; month = 7; day = 17; hour = 2; minute = 44; second = 25; zone = record { is_west = true; hours = 7; minutes = 0 } }
+
+abbrev a_dated_message : Sent
+a_dated_message = record (a_message 4 (codes "x\r\n")) { append = record (a_message 4 (codes "x\r\n")).append { text = record { bytes = codes "x\r\n"; date = Some in_july } } }
+
+sent_with_a_date : IsSentAs (record { name = codes "INBOX"; mailbox = 4 } ∷ []) (codes "a1 APPEND INBOX (\\Seen) \"17-Jul-1996 02:44:25 -0700\" {3+}\r\nx\r\n\r\n") a_dated_message
+unfolding read internal_date
+sent_with_a_date = record {
+  front = [];
+  bytes = codes "a1 APPEND INBOX (\\Seen) \"17-Jul-1996 02:44:25 -0700\" {3+}";
+  line = codes "a1 APPEND INBOX (\\Seen) \"17-Jul-1996 02:44:25 -0700\" {3+}";
+  behind = [];
+  append = record {
+    name = codes "INBOX";
+    flags = record { answered = false; flagged = false; deleted = false; seen = true; draft = false };
+    date = Some in_july;
+    literal = record { size = 3; waits = false };
+  };
+  spelled = as_it_stands (codes "a1 APPEND INBOX (\\Seen) \"17-Jul-1996 02:44:25 -0700\" {3+}");
+  reads = refl;
+  named = refl;
+  flags = refl;
+  date = refl;
+  size = refl;
+  whole = refl;
+}
+
+-- and this is what a FETCH tells of its copy
+its_date : (key : CopyKey) → date_item (copy_under key a_dated_message).text ≡ codes "INTERNALDATE \"17-Jul-1996 02:44:25 -0700\""
+its_date key = refl
 
 -- and one that names its mailbox by a literal
 sent_by_literals : IsSentAs (record { name = codes "INBOX"; mailbox = 4 } ∷ []) (codes "a1 APPEND {5}\r\ninbox (\\Seen) {3+}\r\nx\r\n\r\n") (a_message 4 (codes "x\r\n"))
@@ -70,11 +109,12 @@ sent_by_literals = record {
   bytes = codes "a1 APPEND {5}\r\ninbox (\\Seen) {3+}";
   line = codes "a1 APPEND \"inbox\" (\\Seen) {3+}";
   behind = [];
-  append = record { name = codes "inbox"; flags = record { answered = false; flagged = false; deleted = false; seen = true; draft = false }; literal = record { size = 3; waits = false } };
+  append = record { name = codes "inbox"; flags = record { answered = false; flagged = false; deleted = false; seen = true; draft = false }; date = None; literal = record { size = 3; waits = false } };
   spelled = with_literal (codes "a1 APPEND {5}") (codes "a1 APPEND {5}") (10, record { size = 5; waits = true }) (codes "inbox") (codes " (\\Seen) {3+}") (as_it_stands (codes "a1 APPEND {5}")) refl refl;
   reads = refl;
   named = refl;
   flags = refl;
+  date = refl;
   size = refl;
   whole = refl;
 }
@@ -184,6 +224,11 @@ two_answers = refl
 -- a line in pieces
 in_pieces : cuts (cuts (between [] []) (codes "a OK NO")) (codes "OP completed\r\n") ≡ between [] (codes "a OK NOOP completed\r\n" ∷ [])
 in_pieces = refl
+
+-- the tag of a search that stands in its untagged line (RFC 9051, 6.4.4) ends no answer
+a_search : cuts (between [] []) (codes "* ESEARCH (TAG \"A282\") MIN 2 COUNT 3\r\nA282 OK SEARCH completed\r\n")
+    ≡ between [] (codes "* ESEARCH (TAG \"A282\") MIN 2 COUNT 3\r\nA282 OK SEARCH completed\r\n" ∷ [])
+a_search = refl
 
 -- an IDLE is one answer with what it is told meanwhile
 idle_is_open : is_ended (codes "+ idling\r\n") ≡ false

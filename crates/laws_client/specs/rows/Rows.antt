@@ -43,6 +43,15 @@ lines_behind_a_short_count : reads fresh (select_of (codes "1") ++ codes "* 1 FE
     ≡ knowing (Some (unknown ∷ unknown ∷ []))
 lines_behind_a_short_count = refl
 
+-- What a search was asked to return tells it of no message (RFC 9051, 7.3.4), and be its tag a word that tells of one.
+found : reads fresh (select_of (codes "1") ++ codes "* ESEARCH (TAG \"EXISTS\") UID MIN 2 COUNT 3\r\nEXISTS OK UID SEARCH completed\r\n") ≡ knowing (Some (unknown ∷ []))
+found = refl
+
+-- names of header fields that the client put in quotes (RFC 9051, 9: header-fld-name), and be one of them a word that tells of a message
+names_in_quotes : reads fresh (select_of (codes "1") ++ codes "* 1 FETCH (BODY[HEADER.FIELDS (\"UID\" \"Subject\")] {2}\r\n\r\n UID 3)\r\na2 OK FETCH completed\r\n")
+    ≡ knowing (Some (record { uid = Some 3; flags = None } ∷ []))
+names_in_quotes = refl
+
 -- numbers that it can't have: a second message of one, and a mailbox that shrinks by itself
 too_high : reads fresh (select_of (codes "1") ++ codes "* 2 EXPUNGE\r\n") ≡ knowing None
 too_high = refl

@@ -6,6 +6,7 @@ use Rattle.change_ring.specs.declared.change.Change.TheVariants.{Add, Gone, Flag
 use Rattle.change_ring.specs.declared.change.Flags.{Flags}
 use Rattle.change_ring.specs.Log.{no_flags}
 use Rattle.delivery_token.specs.declared.Job.{Job}
+use Rattle.delivery_token.specs.Text.{undated}
 use Rattle.delivery_token.specs.declared.Verdict.TheVariants.{Stored, Refused as Declined}
 use Rattle.delivery_token.specs.declared.Refusal.TheVariants.{Full}
 use Rattle.mailbox.specs.declared.clients.MailFault.TheVariants.{NoMemory}
@@ -46,7 +47,7 @@ anew = refl
 -- ---- what the history says
 
 abbrev pub copy : (number : ℕ) → Job
-copy number = record { key = record { seat = 0; serial = 0; message = number; recipient = 0 }; mailbox = 0; text = codes "hi\r\n"; flags = no_flags }
+copy number = record { key = record { seat = 0; serial = 0; message = number; recipient = 0 }; mailbox = 0; text = undated (codes "hi\r\n"); flags = no_flags }
 
 -- A message comes to mailbox 0, a second one is refused, one of mailbox 1 comes, and a client reads the first.
 abbrev pub history : List Event

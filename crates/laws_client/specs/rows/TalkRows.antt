@@ -6,6 +6,7 @@ use Rattle.std.specs.Fmt.{digits}
 use Rattle.imap_grammar.specs.Reading.{read}
 use Rattle.change_ring.specs.Log.{no_flags}
 use Rattle.delivery_token.specs.declared.Verdict.TheVariants.{Stored}
+use Rattle.delivery_token.specs.Text.{undated}
 use Rattle.mailbox.specs.declared.mailbox.Status.{Status}
 use Rattle.imap_session.specs.declared.standing.After.TheVariants.{Go, Submit}
 use Rattle.imap_session.specs.declared.standing.After.TheVariants as afters
@@ -38,13 +39,13 @@ abbrev pub with_inbox : Standing
 with_inbox = record selected { folders = record { name = codes "INBOX"; mailbox = 0 } ∷ [] }
 
 abbrev pub due : Standing
-due = waiting (codes "a1") (ForLiteral Unasked (Message (Some 0) no_flags) 1) with_inbox
+due = waiting (codes "a1") (ForLiteral Unasked (Message (Some 0) no_flags None) 1) with_inbox
 
 abbrev pub come : Standing
 come = with_bytes true (codes "x") due
 
 abbrev pub submitted : Standing
-submitted = waiting (codes "a1") (ForVerdict Client 0 no_flags (codes "x")) (without_begun come)
+submitted = waiting (codes "a1") (ForVerdict Client 0 no_flags (undated (codes "x"))) (without_begun come)
 
 -- what came as a command with a line: where an argument goes before it, a response is asked for, or a message; and where memory was refused to the argument
 abbrev pub goes_on : Purpose → (text : Option (List ℕ)) → Standing
@@ -56,7 +57,7 @@ joined = refl
 responded : whole_line (goes_on (Response (codes "a1 AUTHENTICATE PLAIN")) (Some [])) [] ≡ Some (codes "a1 AUTHENTICATE PLAIN =")
 responded = refl
 
-behind_a_message : told_of (goes_on (Message None no_flags) (Some (codes "x"))) (Line [] []) (codes "a1 NO Message too big\r\n") ≡ Words (codes "a1 NO Message too big\r\n")
+behind_a_message : told_of (goes_on (Message None no_flags None) (Some (codes "x"))) (Line [] []) (codes "a1 NO Message too big\r\n") ≡ Words (codes "a1 NO Message too big\r\n")
 behind_a_message = refl
 
 without_memory : whole_line (goes_on (Argument (codes "a1 SELECT ")) None) [] ≡ None

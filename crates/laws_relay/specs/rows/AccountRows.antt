@@ -1,6 +1,7 @@
 -- Worked cases: a message for alice, for carol, who is unknown, and for bob, whose mailbox is full; alice's copy is stored. Another worker's message stands beside it.
 use Rattle.std.specs.Prelude.{◌≡◌, ℕ, zero, suc, true, false, codes, List, [], ◌∷◌, ◌++◌, slice_index_or}
 use Rattle.std.proofs.Common.{refl}
+use Rattle.delivery_token.specs.Text.{undated}
 use Rattle.delivery_token.specs.declared.CopyKey.{CopyKey}
 use Rattle.envelope.specs.Reading.{read, forward_at}
 use Rattle.envelope.specs.Values.{To}
@@ -72,6 +73,6 @@ pub names_alice : Names home alice 0
 unfolding read forward_at
 names_alice = (path_to (codes "alice"), refl, refl)
 
-pub its_text : IsTextOf the_message (codes "Return-Path: <s@a.example>\r\nhi\r\n")
+pub its_text : IsTextOf the_message (undated (codes "Return-Path: <s@a.example>\r\nhi\r\n"))
 unfolding read forward_at
 its_text = record { sender = codes "s@a.example"; from = (To (record { local = codes "s"; domain = codes "a.example" }), refl, refl); is = refl }

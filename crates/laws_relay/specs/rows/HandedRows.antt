@@ -1,6 +1,7 @@
 -- What a relay handed over, by the bytes of worked cases.
 use Rattle.std.specs.Prelude.{◌≡◌, ℕ, true, false, codes, List, [], ◌∷◌, ◌++◌, None, map, replicate}
 use Rattle.std.proofs.Common.{refl}
+use Rattle.delivery_token.specs.Text.{undated}
 use Rattle.delivery_token.specs.declared.Verdict.TheVariants.{Stored, Refused}
 use Rattle.delivery_token.specs.declared.Refusal.TheVariants.{MailboxFull}
 use Rattle.envelope.specs.Directory.{Directory}
@@ -165,7 +166,7 @@ abbrev pub the_submission : Submission
 the_submission = record {
   keys = record { seat = 0; serial = 0; message = 0; recipient = 0 } ∷ record { seat = 0; serial = 0; message = 0; recipient = 1 } ∷ [];
   mailboxes = 1 ∷ 0 ∷ [];
-  text = codes "Return-Path: <s@a.example>\r\n.\r\n";
+  text = undated (codes "Return-Path: <s@a.example>\r\n.\r\n");
 }
 
 submitted : (dialogue setting home fresh heard).submissions ≡ the_submission ∷ []

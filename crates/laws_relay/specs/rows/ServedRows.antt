@@ -2,6 +2,7 @@
 use Rattle.std.specs.Prelude.{◌≡◌, ℕ, Bool, zero, suc, codes, true, false, List, [], ◌∷◌, ◌++◌, None, Some}
 use Rattle.std.proofs.Common.{refl, ap, arith, inl, inr}
 use Rattle.change_ring.specs.Log.{no_flags}
+use Rattle.delivery_token.specs.Text.{undated}
 use Rattle.delivery_token.specs.declared.Job.{Job}
 use Rattle.delivery_token.specs.declared.Verdict.{Verdict}
 use Rattle.delivery_token.specs.declared.Verdict.TheVariants.{Stored, Refused}
@@ -16,7 +17,7 @@ use Rattle.lmtp_machine.specs.Replies.{wire}
 use Rattle.serving_workers.specs.Lines.{Closed, Spoken, Told, Took, WereOver}
 
 abbrev pub copy : Job
-copy = record { key = record { seat = 0; serial = 3; message = 1; recipient = 0 }; mailbox = 2; text = codes "hi\r\n"; flags = no_flags }
+copy = record { key = record { seat = 0; serial = 3; message = 1; recipient = 0 }; mailbox = 2; text = undated (codes "hi\r\n"); flags = no_flags }
 
 abbrev pub noted : Verdict → Noted
 noted verdict = record { key = copy.key; mailbox = copy.mailbox; verdict = verdict }

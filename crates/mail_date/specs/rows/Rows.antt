@@ -297,9 +297,47 @@ read_back : internal_date (codes "27-Nov-2026 09:45:48 -0800") ≡ Some (that_da
 unfolding internal_date
 read_back = refl
 
-read_space : internal_date (codes " 1-jan-2000 00:00:00 +0000") ≡ None
+-- the example of FETCH again
+of_the_rfc_back : internal_date (codes "17-Jul-1996 02:44:25 -0700") ≡ Some (record { year = 1996; month = 7; day = 17; hour = 2; minute = 44; second = 25; zone = offset true 7 0 })
+unfolding internal_date
+of_the_rfc_back = refl
+
+-- the date of the message that is appended in RFC 3501, section 6.3.11, with a day of one digit
+read_space : internal_date (codes " 7-Feb-1994 21:52:25 -0800") ≡ Some (record { year = 1994; month = 2; day = 7; hour = 21; minute = 52; second = 25; zone = offset true 8 0 })
 unfolding internal_date
 read_space = refl
+
+read_small_letters : internal_date (codes " 1-jan-2000 00:00:00 +0000") ≡ Some (first_of_month 2000 1 1)
+unfolding internal_date
+read_small_letters = refl
+
+read_two_spaces : internal_date (codes "  1-Jan-2000 00:00:00 +0000") ≡ None
+unfolding internal_date
+read_two_spaces = refl
+
+read_a_space_too_many : internal_date (codes " 17-Jul-1996 02:44:25 -0700") ≡ None
+unfolding internal_date
+read_a_space_too_many = refl
+
+read_day_zero : internal_date (codes " 0-Jan-2000 00:00:00 +0000") ≡ None
+unfolding internal_date
+read_day_zero = refl
+
+read_with_quotes : internal_date (codes "\"17-Jul-1996 02:44:25 -0700\"") ≡ None
+unfolding internal_date
+read_with_quotes = refl
+
+read_hour_24 : internal_date (codes "17-Jul-1996 24:00:00 -0700") ≡ None
+unfolding internal_date
+read_hour_24 = refl
+
+read_two_digits_of_a_year : internal_date (codes "17-Jul-96 02:44:25 -0700") ≡ None
+unfolding internal_date
+read_two_digits_of_a_year = refl
+
+read_more : internal_date (codes "17-Jul-1996 02:44:25 -0700 ") ≡ None
+unfolding internal_date
+read_more = refl
 
 read_zero : internal_date (codes "01-JAN-2000 00:00:00 +0000") ≡ Some (first_of_month 2000 1 1)
 unfolding internal_date

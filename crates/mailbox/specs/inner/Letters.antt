@@ -2,17 +2,18 @@
 use Rattle.std.specs.Prelude.{◌≡◌, ℕ, ◌==◌, ◌≤◌, Bool, List, [], ◌∷◌, length, map, filter, All, Option, Some, None, if◌then◌else◌}
 use Rattle.std.specs.List.Sorted.{IsStrictlyIncreasing}
 use Rattle.change_ring.specs.declared.change.Flags.{Flags}
+use Rattle.delivery_token.specs.Text.{Text}
 use Rattle.mailbox.specs.Counts.{unseen_count, bytes_in_all}
 use Rattle.mailbox.specs.Mailbox.{Message, uids_of}
 use Rattle.mailbox.specs.declared.letters.Letter.{Letter}
 use Rattle.mailbox.specs.declared.letters.Letters.TheInside.{Inside}
 
 -- the message of this UID that has these flags and this text
-abbrev pub message_of : ℕ → Flags → List ℕ → Message
+abbrev pub message_of : ℕ → Flags → Text → Message
 message_of uid flags text = record { uid = uid; flags = flags; text = text }
 
 -- a letter in front of messages: where its text is there it is one
-abbrev pub in_front : ℕ → Flags → Option (List ℕ) → List Message → List Message
+abbrev pub in_front : ℕ → Flags → Option Text → List Message → List Message
 in_front uid flags None messages = messages
 in_front uid flags (Some text) messages = message_of uid flags text ∷ messages
 
@@ -20,7 +21,7 @@ in_front uid flags (Some text) messages = message_of uid flags text ∷ messages
 pub record Filed : Type 0 where
   pub uid : ℕ
   pub flags : Flags
-  pub text : Option (List ℕ)
+  pub text : Option Text
 
 -- this letter, under this UID
 abbrev pub under : ℕ → Letter → Filed
@@ -62,4 +63,4 @@ pub record AreCounted (b : Inside) : Type 0 where
   pub count : b.count ≡ length (messages_of (filed b.uids.items b.letters.items))
   pub unseen : b.unseen ≡ unseen_count (messages_of (filed b.uids.items b.letters.items))
   pub bytes : b.bytes ≡ bytes_in_all (messages_of (filed b.uids.items b.letters.items))
-  pub small : All (λ (m : Message). length m.text ≤ 0xffff_ffff_ffff_ffff) (messages_of (filed b.uids.items b.letters.items))
+  pub small : All (λ (m : Message). length m.text.bytes ≤ 0xffff_ffff_ffff_ffff) (messages_of (filed b.uids.items b.letters.items))

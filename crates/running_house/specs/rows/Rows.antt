@@ -1,6 +1,7 @@
 -- Worked examples: whole strings, and what is heard of them.
 use Rattle.std.specs.Prelude.{codes}
 use Rattle.std.proofs.Common.{false, inl, inr, ℕ, List, [], ◌∷◌, ◌++◌, None, refl}
+use Rattle.delivery_token.specs.Text.{undated}
 use Rattle.delivery_token.specs.declared.Verdict.TheVariants.{Stored}
 use Rattle.envelope.specs.Directory.{Directory}
 use Rattle.envelope.specs.Reading.{read, forward_at}
@@ -58,7 +59,7 @@ abbrev message : Submission
 message = record {
   keys = record { seat = 3; serial = 4; message = 0; recipient = 0 } ∷ [];
   mailboxes = 0 ∷ [];
-  text = codes "Return-Path: <s@a.example>\r\nhi\r\n";
+  text = undated (codes "Return-Path: <s@a.example>\r\nhi\r\n");
 }
 
 -- the answer stands between the dot and QUIT

@@ -1,4 +1,4 @@
-use Rattle.std.proofs.Common.{◌≡◌, ◌≤◌, ◌+◌, ◌++◌, drop, length, vec_len}
+use Rattle.std.proofs.Common.{◌≡◌, ◌+◌, ◌++◌, drop, length, vec_len}
 use Rattle.std.specs.Vec.{vec_capacity}
 use Rattle.imap_grammar.specs.Literals.{backslashed}
 use Rattle.imap_grammar.proofs.literal.put_backslashed.Given as goal

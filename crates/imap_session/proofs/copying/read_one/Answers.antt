@@ -17,13 +17,13 @@ returns-in_err-read g c response named same mailing most taken passed =
 pub returns-in-Some : goal.returns-in-Some
 returns-in-Some g c response named same mailing most taken passed tag now =
     let next : Option Row → Exchange = on_found
-    (λ row. if is_over (most_copied c.args.most) (length row.text) then over (most_copied c.args.most) else taken row)
+    (λ row. if is_over (most_copied c.args.most) (length row.text.bytes) then over (most_copied c.args.most) else taken row)
     (if c.args.copy.now.by_uid then passed else says (response_text texts.MessagesGone)) in
     rw (← c.there.ensures taken passed, most) (reaches_read g.S.Store.step tag now named false next (Some c.in-Some.row) _ _ _ (rw (same, c.in-Some.is) at c.in_ok-read.ensures))
 
 pub returns-in-None : goal.returns-in-None
 returns-in-None g c response named same mailing most taken passed tag now =
     let next : Option Row → Exchange = on_found
-    (λ row. if is_over (most_copied mailing.most) (length row.text) then over (most_copied mailing.most) else taken row)
+    (λ row. if is_over (most_copied mailing.most) (length row.text.bytes) then over (most_copied mailing.most) else taken row)
     (if c.args.copy.now.by_uid then passed else says (response_text texts.MessagesGone)) in
     rw (← c.gone.ensures taken passed) (reaches_read g.S.Store.step tag now named false next None _ _ _ (rw (same, c.in-None.is) at c.in_ok-read.ensures))

@@ -2,6 +2,7 @@ use Rattle.std.proofs.Common.{◌≡◌, ◌∙◌, List, Option, None, Some, ap
 use Rattle.std.specs.Prelude.{option_map, is_some}
 use Rattle.std.proofs.lemmas.Option.{slice_get_within}
 use Rattle.change_ring.specs.declared.change.Flags.{Flags}
+use Rattle.delivery_token.specs.Text.{Text}
 use Rattle.mailbox.specs.declared.letters.Letter.{Letter}
 use Rattle.mailbox.specs.inner.Letters.{messages_of, message_of, filed}
 use Rattle.mailbox.specs.Mailbox.{Message, message_with}
@@ -24,7 +25,7 @@ index_mut-letter-requires c =
 
 -- no message is there
 none : (us : List ℕ) (ls : List Letter) (position uid : ℕ) (l : Letter) → IsAt us ls position uid l → is_some l.text ≡ false → message_with uid (messages_of (filed us ls)) ≡ None
-none us ls position uid l at gone = at.found ∙ ap (option_map (λ (t : List ℕ). message_of uid l.flags t)) (text_gone l.text gone)
+none us ls position uid l at gone = at.found ∙ ap (option_map (λ (t : Text). message_of uid l.flags t)) (text_gone l.text gone)
 
 pub returns-then-is_none-clause-was : goal.returns-then-is_none-clause-was
 returns-then-is_none-clause-was c =
@@ -45,7 +46,7 @@ returns-then-is_none-clause-messages c =
     at.set l.flags ∙ reflagged_none c.args.uid l.flags ms gone ∙ sym (reflagged_none c.args.uid c.args.flags ms gone)
 
 -- what its flags are
-told : (uid : ℕ) (flags : Flags) (t : Option (List ℕ)) (found : Option Message) → is_some t ≡ true → found ≡ option_map (λ (x : List ℕ). message_of uid flags x) t →
+told : (uid : ℕ) (flags : Flags) (t : Option Text) (found : Option Message) → is_some t ≡ true → found ≡ option_map (λ (x : Text). message_of uid flags x) t →
     Some flags ≡ option_map (λ (m : Message). m.flags) found
 told uid flags None found there is = cc
 told uid flags (Some t) found there is = sym (ap (option_map (λ (m : Message). m.flags)) is)

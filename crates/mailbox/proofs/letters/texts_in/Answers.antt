@@ -1,5 +1,6 @@
 use Rattle.std.proofs.Common.{◌≡◌, ◌+◌, ◌++◌, ◌∷◌, [], ℕ, List, ap, sym, ◌∙◌, length, drop, get_or, arith, append_assoc}
 use Rattle.std.proofs.lemmas.List.{get_or_default}
+use Rattle.delivery_token.specs.Text.{Text}
 use Rattle.mailbox.specs.declared.letters.Letter.{Letter}
 use Rattle.mailbox.specs.inner.Letters.{filed, messages_of}
 use Rattle.mailbox.specs.Mailbox.{Message, texts_of}
@@ -33,9 +34,9 @@ loop-position-preserved c =
     elim c.match-letters-position.branch [
       | in-Some+in_ok-copy w ↦
           let one = comes_one us ls position u l w.in-Some.text within c.requires.beside (get_or_default us position 0 u within) at (ap (λ (x : Letter). x.text) at ∙ w.in-Some.is) in
-          let copied : w.push_reserved.new.self.items ≡ texts ++ (u, w.in-Some.text) ∷ [] = w.push_reserved.ensures.items ∙ ap (λ (t : List ℕ). texts ++ (u, t) ∷ []) w.in_ok-copy.ensures in
+          let copied : w.push_reserved.new.self.items ≡ texts ++ (u, w.in-Some.text) ∷ [] = w.push_reserved.ensures.items ∙ ap (λ (t : Text). texts ++ (u, t) ∷ []) w.in_ok-copy.ensures in
           rw w.texts-is (record {
-            told = ap (λ (ts : List (ℕ × List ℕ)). ts ++ left) copied ∙ append_assoc texts ((u, w.in-Some.text) ∷ []) left ∙ ap (λ (ms : List Message). texts ++ texts_of ms) (sym one) ∙ h.told;
+            told = ap (λ (ts : List (ℕ × Text)). ts ++ left) copied ∙ append_assoc texts ((u, w.in-Some.text) ∷ []) left ∙ ap (λ (ms : List Message). texts ++ texts_of ms) (sym one) ∙ h.told;
             room = omega (arith, h.room, ap length one, w.push_reserved.ensures.len, w.push_reserved.ensures.capacity);
           })
       | in_default w ↦

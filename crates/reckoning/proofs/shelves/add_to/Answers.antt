@@ -1,6 +1,7 @@
-use Rattle.std.proofs.Common.{rules, ◌≡◌, ◌∷◌, ℕ, List, [], All, Vec, subst, sym}
+use Rattle.std.proofs.Common.{rules, ◌≡◌, ◌∷◌, ℕ, [], All, Vec, subst, sym}
 use Rattle.std.specs.Global.{Global}
 use Rattle.std.proofs.lemmas.List.Elements.{All-append, All-cons, All-nil}
+use Rattle.delivery_token.specs.Text.{Text}
 use Rattle.delivery_token.specs.declared.CopyKey.{CopyKey}
 use Rattle.mailbox.specs.Accepted.{kept_of}
 use Rattle.reckoning.specs.Shelves.{AreNumbered, AreToldOnce}
@@ -19,7 +20,7 @@ returns-clause-numbered c =
 
 pub returns-clause-once : goal.returns-clause-once
 returns-clause-once c =
-    let Once : Vec (ℕ × List ℕ) Global → Type 0 = λ v. AreToldOnce v.items in
+    let Once : Vec (ℕ × Text) Global → Type 0 = λ v. AreToldOnce v.items in
     let texts = c.in_ok-texts.texts in
     subst (All Once) (sym c.in_ok-push-2.ensures.items)
     (All-append Once c.args.shelves.now.texts.items (texts ∷ []) c.requires.once (All-cons Once texts [] c.in_ok-texts.ensures.rising (All-nil Once)))

@@ -1,6 +1,7 @@
-use Rattle.std.proofs.Common.{rules, ◌≡◌, ◌∷◌, ℕ, List, All, Vec, subst, sym}
+use Rattle.std.proofs.Common.{rules, ◌≡◌, ◌∷◌, ℕ, All, Vec, subst, sym}
 use Rattle.std.specs.Global.{Global}
 use Rattle.std.proofs.lemmas.List.Elements.{All-head, All-nil, All-tail}
+use Rattle.delivery_token.specs.Text.{Text}
 use Rattle.delivery_token.specs.declared.CopyKey.{CopyKey}
 use Rattle.house_floor.specs.Crew.{AllAt}
 use Rattle.reckoning.specs.Shelves.{AreNumbered, AreToldOnce, HasAccepted}
@@ -10,7 +11,7 @@ use Rattle.reckoning.proofs.shelves.take_out.Goals as goal
 pub loop-locked-init : goal.loop-locked-init
 loop-locked-init g c =
     let Numbered : Vec (CopyKey × ℕ) Global → Type 0 = λ v. AreNumbered v.items in
-    let Once : Vec (ℕ × List ℕ) Global → Type 0 = λ v. AreToldOnce v.items in
+    let Once : Vec (ℕ × Text) Global → Type 0 = λ v. AreToldOnce v.items in
     let front = c.args.front.now in
     let none = sym c.in_ok-with_capacity.ensures.items in
     let all : c.into_iter-locked-iterator.result.rest.items ≡ c.args.unlocked.items = search rules in (

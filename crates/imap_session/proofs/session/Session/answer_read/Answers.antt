@@ -83,6 +83,6 @@ returns-in-Some-copy_of-clause-answered g c read_so =
     let found : read c.args.line.now ≡ Ok (response.tag, c.args.command.now) = read_so ∙ ap (λ t. Ok (t, c.args.command.now)) (sym tag) in
     let taken : IsTaken now c.args.command.now = is_taken now c.args.command.now _ _ _ _ _ _ _ c.awaited.ensures c.wants_response.ensures c.if-wants_response.false c.awaited-2.ensures c.logs_in_as.ensures c.if-logs_in_as.false c.awaited-3.ensures c.profile.ensures c.barred_at.ensures c.in_default.is in
     let copy = c.in-Some-copy_of.copy.now in
-    let P : List ℕ → Type 0 = λ before. Had (played response.tag now (on_command now (commands.Copy copy))) g.S.Store.step c.args.store.now c.begin_copy.new.store before c.begin_copy.new.out.items c.begin_copy.result c.begin_copy.new.self in
+    let P : List ℕ → Type 0 = λ before. Had (played response.tag now (on_command response.tag now (commands.Copy copy))) g.S.Store.step c.args.store.now c.begin_copy.new.store before c.begin_copy.new.out.items c.begin_copy.result c.begin_copy.new.self in
     answers_copy g.S.Store.step now c.begin_copy.new.self c.args.line.now response.tag c.args.command.now copy c.args.store.now c.begin_copy.new.store c.args.out.now.items c.begin_copy.new.out.items c.begin_copy.result
     found taken c.in-Some-copy_of.ensures.some (subst P kept c.begin_copy.ensures.had)

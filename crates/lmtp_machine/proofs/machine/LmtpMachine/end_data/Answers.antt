@@ -3,6 +3,7 @@ use Rattle.std.proofs.Common.{arith, ◌≤◌}
 use Rattle.std.proofs.lemmas.List.Elements.{All-cons, All-nil}
 use Rattle.std.proofs.lemmas.List.{append-nil}
 use Rattle.dot_stuffing.specs.declared.Outcome.TheVariants as outcomes
+use Rattle.delivery_token.specs.Text.{undated}
 use Rattle.lmtp_machine.specs.Message.{return_path, stored_text}
 use Rattle.lmtp_machine.specs.Standing.{Commands, standing_of}
 use Rattle.lmtp_machine.specs.Dialogue.{Waiting, Standing, Submission, keys_from}
@@ -62,7 +63,7 @@ returns-in-Ok-build-clause-does c lines b k =
             ∙ ap (λ (x : List ℕ). let s : Submission = record {
               keys = keys_from m.setting n 0 m.commands.recipients;
               mailboxes = m.commands.recipients;
-              text = x;
+              text = undated x;
             } in s) text);
         said = sym (append-nil c.args.out.now.items);
         tells = record {

@@ -56,7 +56,7 @@ more c =
 
 pub invariant_of-self-2 : goal.invariant_of-self-2
 invariant_of-self-2 c =
-    let short : length c.args.text ≤ 0xffff_ffff_ffff_ffff = omega (arith, ap length c.as_slice.ensures, c.as_slice.type_inv.0) in
+    let short : length c.args.text.bytes ≤ 0xffff_ffff_ffff_ffff = omega (arith, ap length c.as_slice.ensures, c.as_slice.type_inv.0) in
     let rising = subst IsStrictlyIncreasing (sym (uids c)) c.make_way.ensures.rising in
     let beside : length c.push_reserved-2.new.self.items ≡ length c.push_reserved.new.self.items =
     omega (arith, ap length (letters c), length_push c.make_way.new.letters.items (letter c), ap length (uids c), length_push c.make_way.new.uids.items c.args.uid, c.make_way.ensures.beside) in

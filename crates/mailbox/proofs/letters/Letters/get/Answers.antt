@@ -1,6 +1,7 @@
-use Rattle.std.proofs.Common.{ℕ, ap, sym, ◌∙◌, ◌≡◌, List, Some, arith}
+use Rattle.std.proofs.Common.{ap, sym, ◌∙◌, ◌≡◌, Some, arith}
 use Rattle.std.specs.Prelude.{option_map, slice_get}
 use Rattle.std.proofs.lemmas.Option.{slice_get_within}
+use Rattle.delivery_token.specs.Text.{Text}
 use Rattle.mailbox.specs.inner.Letters.{message_of}
 use Rattle.mailbox.specs.Mailbox.{message_with}
 use Rattle.mailbox.proofs.LetterLaws.{at_position, none_there}
@@ -24,7 +25,7 @@ returns-in_err-as_ref c =
     let l = c.index-letter.result.now in
     let found : slice_get b.uids.items c.in_ok-position.position ≡ Some c.args.uid = rw c.deref.ensures.value at c.in_ok-position.ensures.found in
     let at = at_position b.uids.items b.letters.items c.in_ok-position.position c.args.uid l c.self.invariant.rising c.self.invariant.beside found c.index-letter.ensures in
-    ap (option_map _) c.from_residual-in_err-as_ref.ensures ∙ ap (option_map (λ (t : List ℕ). message_of c.args.uid l.flags t)) c.in_err-as_ref.ensures.value
+    ap (option_map _) c.from_residual-in_err-as_ref.ensures ∙ ap (option_map (λ (t : Text). message_of c.args.uid l.flags t)) c.in_err-as_ref.ensures.value
     ∙ sym at.found ∙ ap (message_with c.args.uid) c.self.view_is
 
 pub returns : goal.returns

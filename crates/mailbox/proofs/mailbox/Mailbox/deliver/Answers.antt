@@ -8,6 +8,7 @@ use Rattle.change_ring.specs.declared.flag_op.FlagOp.TheVariants.{Set}
 use Rattle.change_ring.specs.Log.{no_flags}
 use Rattle.change_ring.specs.Logged.{flags_logged, new_flags}
 use Rattle.cursor_set.specs.Cursors.{CursorSet}
+use Rattle.delivery_token.specs.Text.{Text}
 use Rattle.mailbox.specs.Events.{Logs, Moves}
 use Rattle.mailbox.specs.Mailbox.{Mailbox, Message, flagged, message_with, next_uid, row_of, rows, uids_of}
 use Rattle.mailbox.proofs.ArrivalLaws.{Logs-append, arrived_flagged, arrived_logged, arrived_there, room_for_all}
@@ -20,7 +21,7 @@ on_ok (Err e) err p = absurd (err refl)
 
 -- ---- the message was added
 
-module _ (now : Mailbox) (flags : Flags) (text : List ℕ) (added : Mailbox) (messages : added.messages ≡ now.messages ++ record { uid = next_uid now; flags = no_flags; text = text } ∷ [])
+module _ (now : Mailbox) (flags : Flags) (text : Text) (added : Mailbox) (messages : added.messages ≡ now.messages ++ record { uid = next_uid now; flags = no_flags; text = text } ∷ [])
     (rising : IsStrictlyIncreasing (uids_of added.messages)) where
   rises : IsStrictlyIncreasing (uids_of (now.messages ++ record { uid = next_uid now; flags = no_flags; text = text } ∷ []))
   rises = subst (λ (ms : List Message). IsStrictlyIncreasing (uids_of ms)) messages rising

@@ -1,7 +1,8 @@
-use Rattle.std.proofs.Common.{◌≡◌, ℕ, Bool, Some, refl, ap, subst, sym, ◌∙◌, length, arith, List}
+use Rattle.std.proofs.Common.{◌≡◌, ℕ, Bool, Some, refl, ap, subst, sym, ◌∙◌, length, arith}
 use Rattle.std.specs.Prelude.{None, option_map, if◌then◌else◌}
 use Rattle.change_ring.specs.declared.change.Flags.{Flags}
 use Rattle.change_ring.specs.Logged.{flags_after, seen_logged}
+use Rattle.delivery_token.specs.Text.{Text}
 use Rattle.mailbox.specs.Events.{Moves, mark, was_logged}
 use Rattle.mailbox.specs.declared.clients.Row.{Row}
 use Rattle.mailbox.specs.inner.Letters.{message_of}
@@ -12,7 +13,7 @@ use Rattle.mailbox.proofs.mailbox.Mailbox.read.Goals as goal
 use Rattle.mailbox.proofs.mailbox.Mailbox.read.Goals.{then-mark_seen, else-mark_seen}
 
 -- a row
-abbrev told : ℕ → Flags → Bool → List ℕ → Row
+abbrev told : ℕ → Flags → Bool → Text → Row
 told uid flags seen text = record { uid = uid; flags = flags; newly_seen = seen; text = text }
 
 none : (c : goal.In_default) → message_with c.args.uid c.args.self.now.messages ≡ None
@@ -54,5 +55,5 @@ returns-clause-row c =
     ] in
     ap (λ (g : Flags). Some (told c.args.uid g c.in_ok-newly_seen.newly_seen c.in-Ok.text)) flags
     ∙ ap (λ (b : Bool). Some (told c.args.uid (if c.args.mark_seen then flags_after mark x.flags else x.flags) b c.in-Ok.text)) (sym c.in_ok-newly_seen.ensures.changed)
-    ∙ ap (λ (t : List ℕ). Some (told c.args.uid (if c.args.mark_seen then flags_after mark x.flags else x.flags) seen t)) c.in-Ok.ensures
+    ∙ ap (λ (t : Text). Some (told c.args.uid (if c.args.mark_seen then flags_after mark x.flags else x.flags) seen t)) c.in-Ok.ensures
     ∙ sym (ap (option_map shown) after)
