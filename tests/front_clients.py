@@ -1,0 +1,97 @@
+#!/usr/bin/env python3
+"""The mail clients of tests/direct_clients.py, through Dovecot.
+
+    tests/front_clients.py PROGRAM [NAME ...]
+
+Each client does its job as there. But its server stands behind a Dovecot of its own, with a copy of examples/front/ in which, besides ports, paths and the system's
+user, the password is theirs, and TLS is left out: the proxy that keeps what both say stands between client and Dovecot. What is asked of the mailbox itself is asked
+past both.
+
+The lines, the status and the words are those of tests/direct_clients.py. What a client does and what it is refused here stands in FRONTED, by hand, where it isn't
+what it does directly.
+
+Wanted: Dovecot 2.3, openssl, the superuser. Where Dovecot isn't installed nothing is tried, and that is said.
+"""
+
+import contextlib
+import os
+import re
+import sys
+import tempfile
+from pathlib import Path
+from types import SimpleNamespace
+
+sys.dont_write_bytecode = True
+
+import direct_clients
+from direct_clients import ALL, BOTH, KNOWN, Place, Wire, attempt
+from front import Front, dovecot
+from serving_house import end_by_exit
+
+PLAIN_LISTENER = """
+ssl = no
+disable_plaintext_auth = no
+service imap-login {
+  inet_listener imap {
+    port = %d
+  }
+  inet_listener imaps {
+    port = 0
+  }
+}
+"""
+
+
+class PlainFront(Front):
+    """Dovecot without TLS, whose alice has the password that the clients were given."""
+
+    def configure(self):
+        super().configure()
+        users = self.room / "users.imap"
+        users.write_text(re.sub(r"(?m)^alice:[^:]*:", "alice:{PLAIN}secret:", users.read_text()))
+        with (self.room / "dovecot.conf").open("a") as config:
+            config.write(PLAIN_LISTENER % self.imaps)
+
+
+class PlaceBehind(Place):
+    """A place whose wire leads to Dovecot."""
+
+    def __init__(self, program, room, mailboxes=("alice",)):
+        super().__init__(program, room, mailboxes)
+        self.wire.close()
+        port, self.front_room = self.house.imap_ports[0], tempfile.TemporaryDirectory()
+        owner = SimpleNamespace(imap_ports={"alice": port, "bob": port}, lmtp_port=self.house.lmtp_port)
+        self.front = PlainFront(Path(self.front_room.name), owner, owner)
+        self.front.__enter__()
+        self.wire = Wire(self.front.imaps)
+        self.port = self.wire.port
+
+    def close(self):
+        self.front.__exit__()
+        super().close()
+        with contextlib.suppress(OSError):
+            self.front_room.cleanup()
+
+
+# What a client does through Dovecot, and is refused, where that isn't what it does directly.
+FRONTED = {}
+
+
+def main(binary, *names):
+    end_by_exit()
+    if dovecot() is None or os.geteuid() != 0:
+        print("front_clients.py: Dovecot isn't installed, or this isn't the superuser: nothing is tried")
+        return 0
+    failed = 0
+    for name, known in KNOWN.items():
+        if names and name not in names:
+            continue
+        if not known.here():
+            print(f"not here: {name}")
+        elif not attempt(os.path.abspath(binary), name, known._replace(**FRONTED.get(name, {})), bool(names), PlaceBehind):
+            failed += 1
+    return 1 if failed else 0
+
+
+if __name__ == "__main__":
+    sys.exit(main(*sys.argv[1:]))
