@@ -174,9 +174,9 @@ class Wire:
 class Place:
     """What a client has: a server with three messages, the port of the wire before it, a scratch folder, and a look at the mailboxes past the wire."""
 
-    def __init__(self, program, room, mailboxes=("alice",)):
+    def __init__(self, program, room, folders=()):
         self.room, self.output = Path(room), b""
-        self.house = House(program, list(mailboxes), ("--uidvalidity", str(int(time.time())), "--compatible", "--sessions", "16"))
+        self.house = House(program, ["alice"], ("--uidvalidity", str(int(time.time())), "--compatible", "--sessions", "16"), folders=folders)
         self.wire = Wire(self.house.imap_ports[0])
         self.port = self.wire.port
         for text in (PLAIN, MULTIPART, EIGHT_BIT):
@@ -1039,14 +1039,14 @@ def sylpheed(place):
 
 
 class Known(NamedTuple):
-    """A client: what does its job, whether it is here, what of the job it does, on which mailboxes, and what it is refused: the first command, and the one that stops it, each with
+    """A client: what does its job, whether it is here, what of the job it does, with which folders, and what it is refused: the first command, and the one that stops it, each with
     its answer. Two dots stand for anything. In place of these it may be what the client says as it gives up by itself."""
 
     job: object
     here: object
     does: str
     refused: tuple = ()
-    mailboxes: tuple = ("alice",)
+    folders: tuple = ()
 
     def is_right(self, did, refusals):
         """Whether it did just that, and was refused each of those, one of them first: Thunderbird asks on two connections, in either order."""
@@ -1066,24 +1066,24 @@ def prints_nothing_wrong(*words):
 NOT_HERE = "-> NO [CANNOT] Not offered here"
 INVALID = "-> BAD Invalid arguments"
 ALL = "lists reads flags removes uploads"
-BOTH, TWO = "copies moves", ("alice", "alice/Work")
+BOTH, WORK = "copies moves", ("alice/Work",)
 PHP_HAS = prints_nothing_wrong("php", "-r", "exit(extension_loaded('imap') ? 0 : 1);")
 
 KNOWN = {
     "imaplib": Known(imaplib_job, lambda: True, f"{ALL} idles"),
     "imaplib's search": Known(imaplib_tutorial, lambda: True, "searches"),
-    "imaplib's copies": Known(imaplib_copies, lambda: True, BOTH, mailboxes=TWO),
+    "imaplib's copies": Known(imaplib_copies, lambda: True, BOTH, folders=WORK),
     # Its list of folders names INBOX twice behind SELECT, which tells LIST too.
     "imap_tools": Known(imap_tools, prints_nothing_wrong("/usr/bin/python3", "-B", "-c", "import imap_tools"), "reads flags removes uploads idles"),
-    "imap_tools' copies": Known(imap_tools_copies, prints_nothing_wrong("/usr/bin/python3", "-B", "-c", "import imap_tools"), BOTH, mailboxes=TWO),
+    "imap_tools' copies": Known(imap_tools_copies, prints_nothing_wrong("/usr/bin/python3", "-B", "-c", "import imap_tools"), BOTH, folders=WORK),
     "Mail::IMAPClient": Known(perl_plain, prints_nothing_wrong("perl", "-MMail::IMAPClient", "-e", "1"), f"{ALL} idles"),
     "Mail::IMAPClient's messages": Known(perl_messages, prints_nothing_wrong("perl", "-MMail::IMAPClient", "-e", "1"), "searches"),
-    "Mail::IMAPClient's copies": Known(perl_copies, prints_nothing_wrong("perl", "-MMail::IMAPClient", "-e", "1"), BOTH, mailboxes=TWO),
+    "Mail::IMAPClient's copies": Known(perl_copies, prints_nothing_wrong("perl", "-MMail::IMAPClient", "-e", "1"), BOTH, folders=WORK),
     "Net::IMAP::Simple": Known(net_imap_simple, prints_nothing_wrong("perl", "-MNet::IMAP::Simple", "-e", "1"), ALL),
-    "Net::IMAP::Simple's copies": Known(net_imap_simple_copies, prints_nothing_wrong("perl", "-MNet::IMAP::Simple", "-e", "1"), BOTH, mailboxes=TWO),
+    "Net::IMAP::Simple's copies": Known(net_imap_simple_copies, prints_nothing_wrong("perl", "-MNet::IMAP::Simple", "-e", "1"), BOTH, folders=WORK),
     "imapfilter": Known(imapfilter, programs("imapfilter"), "lists searches flags removes"),
     "imapfilter, UIDs by hand": Known(imapfilter_sets, programs("imapfilter"), "reads flags removes"),
-    "imapfilter's copies": Known(imapfilter_copies, programs("imapfilter"), BOTH, mailboxes=TWO),
+    "imapfilter's copies": Known(imapfilter_copies, programs("imapfilter"), BOTH, folders=WORK),
     "imapfilter's enter_idle": Known(imapfilter_idle, programs("imapfilter"), "idles"),
     "fetchmail": Known(fetchmail, programs("fetchmail"), "reads removes"),
     "fetchmail's idle": Known(fetchmail_idle, programs("fetchmail"), "reads idles"),
@@ -1092,8 +1092,8 @@ KNOWN = {
     "mutt": Known(mutt, programs("mutt"), "reads flags removes"),
     # It goes on to LOGIN.
     "neomutt": Known(neomutt, programs("neomutt"), "reads flags removes"),
-    "mutt's copies": Known(mutt_copies, programs("mutt"), BOTH, mailboxes=TWO),
-    "neomutt's copies": Known(neomutt_copies, programs("neomutt"), BOTH, mailboxes=TWO),
+    "mutt's copies": Known(mutt_copies, programs("mutt"), BOTH, folders=WORK),
+    "neomutt's copies": Known(neomutt_copies, programs("neomutt"), BOTH, folders=WORK),
     "mbsync": Known(mbsync, programs("mbsync"), "reads flags removes uploads"),
     "interimap": Known(interimap, programs("interimap"), "", ("Server did not advertise QRESYNC capability.",)),
     "aerc": Known(aerc, programs("aerc"), "", (f"UID FETCH 1:3 (BODYSTRUCTURE ENVELOPE INTERNALDATE FLAGS UID BODY.PEEK[HEADER]) {INVALID}",)),
@@ -1104,13 +1104,13 @@ KNOWN = {
         (f"FETCH .. (UID ENVELOPE BODY.PEEK[HEADER.FIELDS (..)] INTERNALDATE RFC822.SIZE FLAGS) {INVALID}",),
     ),
     "curl": Known(curl, programs("curl"), ALL),
-    "curl's copies": Known(curl_copies, programs("curl"), BOTH, mailboxes=TWO),
+    "curl's copies": Known(curl_copies, programs("curl"), BOTH, folders=WORK),
     "s-nail": Known(s_nail, programs("s-nail"), ALL),
     "mailutils' movemail": Known(movemail, programs("movemail.mailutils"), "", (f"FETCH 1:* (UID FLAGS ENVELOPE RFC822.SIZE BODY BODY.PEEK[HEADER]) {INVALID}",)),
     "mailutils' mail": Known(mailutils_mail, programs("mail.mailutils"), "", (f"FETCH 1:* (UID FLAGS ENVELOPE RFC822.SIZE BODY BODY.PEEK[HEADER]) {INVALID}",)),
     "fdm": Known(fdm, programs("fdm"), "reads removes"),
     "PHP imap": Known(php, PHP_HAS, ALL),
-    "PHP imap's copies": Known(php_copies, PHP_HAS, BOTH, mailboxes=TWO),
+    "PHP imap's copies": Known(php_copies, PHP_HAS, BOTH, folders=WORK),
     "PHP imap's overview": Known(php_overview, PHP_HAS, "", (f"FETCH .. (UID ENVELOPE BODY.PEEK[HEADER.FIELDS (..)] INTERNALDATE RFC822.SIZE FLAGS) {INVALID}",)),
     # It asks for an overview of what was found.
     "PHP imap's search": Known(php_search, PHP_HAS, "searches", (f"FETCH .. (UID ENVELOPE BODY.PEEK[HEADER.FIELDS (..)] INTERNALDATE RFC822.SIZE FLAGS) {INVALID}",)),
@@ -1123,7 +1123,7 @@ KNOWN = {
 
 def attempt(binary, name, known, shown, kind=Place):
     """Tries a client at a place of this kind, says how it went, and gives whether that is as known."""
-    with tempfile.TemporaryDirectory(ignore_cleanup_errors=True) as room, contextlib.closing(kind(binary, room, known.mailboxes)) as place:
+    with tempfile.TemporaryDirectory(ignore_cleanup_errors=True) as room, contextlib.closing(kind(binary, room, known.folders)) as place:
         did, fault, gave_up = [], "", []
         try:
             did.extend(known.job(place))

@@ -56,8 +56,8 @@ class PlainFront(Front):
 class PlaceBehind(Place):
     """A place whose wire leads to Dovecot."""
 
-    def __init__(self, program, room, mailboxes=("alice",)):
-        super().__init__(program, room, mailboxes)
+    def __init__(self, program, room, folders=()):
+        super().__init__(program, room, folders)
         self.wire.close()
         port, self.front_room = self.house.imap_ports[0], tempfile.TemporaryDirectory()
         owner = SimpleNamespace(imap_ports={"alice": port, "bob": port}, lmtp_port=self.house.lmtp_port)

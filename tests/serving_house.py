@@ -49,11 +49,11 @@ class DoesNotServe(RuntimeError):
 
 
 class House:
-    """A server with these users, which listens. `options` are further words of its command line, `environment` is what it has of it beside ours. Where the
-    first of its ports is given it is started once, else on ports that are free."""
+    """A server with these users, and with these folders of theirs, which listens. `options` are further words of its command line, `environment` is what it has of it
+    beside ours. Where the first of its ports is given it is started once, else on ports that are free."""
 
-    def __init__(self, program, users, options=(), environment=(), port=None):
-        self.users, self._port = list(users), port
+    def __init__(self, program, users, options=(), environment=(), port=None, folders=()):
+        self.users, self._port, self._folders = list(users), port, list(folders)
         for _ in range(5 if port is None else 1):
             self._start(program, options, environment)
             if self._listens():
@@ -68,7 +68,7 @@ class House:
     def _start(self, program, options, environment):
         self.lmtp_port = free_ports(1 + len(self.users)) if self._port is None else self._port
         self.imap_ports = [self.lmtp_port + 1 + number for number in range(len(self.users))]
-        words = [program, "serve", "--lmtp-port", str(self.lmtp_port), "--imap-port", str(self.imap_ports[0]), *options, *self.users]
+        words = [program, "serve", "--lmtp-port", str(self.lmtp_port), "--imap-port", str(self.imap_ports[0]), *options, *self.users, *self._folders]
         self._faults = tempfile.TemporaryFile()
         self.process = subprocess.Popen(
             words,
