@@ -14,12 +14,12 @@ Wanted: Dovecot 2.3, openssl, the superuser. Where Dovecot isn't installed nothi
 """
 
 import contextlib
+import copy
 import os
 import re
 import sys
 import tempfile
 from pathlib import Path
-from types import SimpleNamespace
 
 sys.dont_write_bytecode = True
 
@@ -58,8 +58,8 @@ class PlaceBehind(Place):
     def __init__(self, program, room, folders=()):
         super().__init__(program, room, folders)
         self.wire.close()
-        port, self.front_room = self.house.imap_ports[0], tempfile.TemporaryDirectory()
-        owner = SimpleNamespace(imap_ports={"alice": port, "bob": port}, lmtp_port=self.house.lmtp_port)
+        self.front_room, owner = tempfile.TemporaryDirectory(), copy.copy(self.house)
+        owner.imap_ports = dict.fromkeys(("alice", "bob"), self.house.imap_ports[0])
         self.front = PlainFront(Path(self.front_room.name), owner, owner)
         self.front.__enter__()
         self.wire = Wire(self.front.imaps)
