@@ -7,8 +7,8 @@ Each client does its job as there. But its server stands behind a Dovecot of its
 user, the password is theirs, and TLS is left out: the proxy that keeps what both say stands between client and Dovecot. What is asked of the mailbox itself is asked
 past both.
 
-The lines, the status and the words are those of tests/direct_clients.py. What a client does and what it is refused here stands in FRONTED, by hand, where it isn't
-what it does directly.
+The lines, the status and the words are those of tests/direct_clients.py. What a client does and what it is refused here stands in FRONTED, where it isn't what it does
+directly: as it was seen once, and read in what both said. So for those a change is told, and no more. What is done at the server is compared as there.
 
 Wanted: Dovecot 2.3, openssl, the superuser. Where Dovecot isn't installed nothing is tried, and that is said.
 """
@@ -79,7 +79,7 @@ FRONTED = {
     "imap_tools": {"does": f"{ALL} idles"},
     # Its job has one mailbox on both sides: what it copies comes again. So it isn't tried.
     "interimap": {"here": lambda: False},
-    # It shows the list and idles; a message is opened by hand.
+    # It shows the list and idles. No message was opened: the key that is typed for that came to nothing.
     "aerc": {"does": "lists", "refused": ()},
     # It opens the last message, not the first.
     "alpine": {"does": "lists", "refused": ()},

@@ -4,8 +4,8 @@
     tests/standard_profile.py PROGRAM [ROUNDS]
 
 Each case of tests/worked_cases/ and tests/dialogues/ that has a session and runs without `--compatible` is played again in so many rounds (5), with commands of the
-compatible profile put in at random, the same ones in each run. Each of these has to be answered by one line: BAD, or `NO [CANNOT] Not offered here`. All else that
-is printed has to be what the case prints without them, byte for byte.
+compatible profile put in at random, the same ones in each run. Each of these has to be answered by the one line that stands beside it in REFUSALS. All else that is
+printed has to be what stands in the case's own file, byte for byte.
 
 A command is put in where its session waits for one: behind the line that opens it, and before a command, up to the first literal, IDLE or LOGOUT of that session.
 """
@@ -17,37 +17,38 @@ import sys
 from pathlib import Path
 
 TESTS = Path(__file__).resolve().parent
-COMMANDS = """
-LOGIN alice x
-AUTHENTICATE PLAIN
-AUTHENTICATE PLAIN AGFsaWNlAHg=
-ID NIL
-ID ("name" "x")
-ENABLE CONDSTORE
-CHECK
-LSUB "" *
-SUBSCRIBE INBOX
-UNSUBSCRIBE INBOX
-STATUS INBOX (RECENT)
-FETCH 1 INTERNALDATE
-UID FETCH 1:* (UID INTERNALDATE)
-FETCH 1 FAST
-FETCH 1 RFC822
-FETCH 1 RFC822.HEADER
-FETCH 1 (RFC822.TEXT FLAGS)
-FETCH 1 BODY[HEADER.FIELDS (Subject)]
-FETCH 1 BODY.PEEK[HEADER.FIELDS.NOT ("Subject")]<0.5>
-COPY 1 INBOX
-UID COPY 1:* INBOX
-MOVE 1 INBOX
-UID MOVE 1 INBOX
-SEARCH ALL
-SEARCH NOT SEEN
-UID SEARCH UID 1:*
-SEARCH RETURN (MIN COUNT) ALL
-SEARCH CHARSET UTF-8 TEXT x
-""".strip().splitlines()
-REFUSAL = re.compile(rb"BAD .+|NO \[CANNOT\] Not offered here")
+# How the standard profile refuses them.
+WRONG_STATE, UNKNOWN, INVALID, LEFT_OUT = b"BAD Wrong state", b"BAD Unknown command", b"BAD Invalid arguments", b"NO [CANNOT] Not offered here"
+REFUSALS = {
+    "LOGIN alice x": WRONG_STATE,
+    "AUTHENTICATE PLAIN": WRONG_STATE,
+    "AUTHENTICATE PLAIN AGFsaWNlAHg=": WRONG_STATE,
+    "ID NIL": UNKNOWN,
+    'ID ("name" "x")': UNKNOWN,
+    "CHECK": UNKNOWN,
+    'LSUB "" *': UNKNOWN,
+    "ENABLE CONDSTORE": LEFT_OUT,
+    "SUBSCRIBE INBOX": LEFT_OUT,
+    "UNSUBSCRIBE INBOX": LEFT_OUT,
+    "STATUS INBOX (RECENT)": INVALID,
+    "FETCH 1 INTERNALDATE": INVALID,
+    "UID FETCH 1:* (UID INTERNALDATE)": INVALID,
+    "FETCH 1 FAST": INVALID,
+    "FETCH 1 RFC822": INVALID,
+    "FETCH 1 RFC822.HEADER": INVALID,
+    "FETCH 1 (RFC822.TEXT FLAGS)": INVALID,
+    "FETCH 1 BODY[HEADER.FIELDS (Subject)]": INVALID,
+    'FETCH 1 BODY.PEEK[HEADER.FIELDS.NOT ("Subject")]<0.5>': INVALID,
+    "COPY 1 INBOX": LEFT_OUT,
+    "UID COPY 1:* INBOX": LEFT_OUT,
+    "MOVE 1 INBOX": LEFT_OUT,
+    "UID MOVE 1 INBOX": LEFT_OUT,
+    "SEARCH ALL": LEFT_OUT,
+    "SEARCH NOT SEEN": LEFT_OUT,
+    "UID SEARCH UID 1:*": LEFT_OUT,
+    "SEARCH RETURN (MIN COUNT) ALL": LEFT_OUT,
+    "SEARCH CHARSET UTF-8 TEXT x": LEFT_OUT,
+}
 # What a session waits for behind these is no command, or nobody waits.
 LAST = re.compile(r"\{\d+\+?\}$|^\S+ (IDLE|LOGOUT)$", re.IGNORECASE)
 
@@ -75,30 +76,34 @@ def played(program, words, text):
 
 
 def put_in(lines, chance):
-    """The lines with some commands put in, and for each its number and its beginning."""
+    """The lines with some commands put in, and for each the number of its line, how that begins, and its refusal."""
     spots = list(places(lines))
-    chosen = sorted(chance.sample(spots, min(len(spots), chance.randint(1, 4))), reverse=True)
-    said = list(lines)
+    chosen = sorted(chance.sample(spots, min(len(spots), chance.randint(1, 4))))
+    said, asked = list(lines), {}
     for count, (number, session) in enumerate(chosen):
-        said.insert(number, f"{session} zz{count} {chance.choice(COMMANDS)}")
-    return said, {number: line[: line.index(" ", line.index(" zz") + 1) + 1].encode() for number, line in enumerate(said, 1) if " zz" in line}
+        command = chance.choice(sorted(REFUSALS))
+        said.insert(number + count, f"{session} zz{count} {command}")
+        asked[number + count + 1] = (f"{session} zz{count} ".encode(), REFUSALS[command])
+    return said, asked
 
 
 def is_as_before(program, words, lines, wanted, chance):
-    """Whether the case with commands put in prints what it printed without them, and refuses each. To a peer that isn't there nothing is said."""
-    said, tags = put_in(lines, chance)
+    """Whether the case with commands put in prints what it has to print without them, and refuses each. To a peer that isn't there nothing is said."""
+    said, asked = put_in(lines, chance)
     out = played(program, words, "\n".join(said).encode() + b"\n").stdout
-    answers, rest = {tag: [] for tag in tags.values()}, []
+    left, rest = dict(asked), []
     for line in out.split(b"\n"):
         script = re.fullmatch(rb"\? (\d+) (Nobody|Busy)", line)
-        tag = tags.get(int(script[1])) if script else next((tag for tag in answers if line.startswith(tag)), None)
-        if tag is None:
+        if script and int(script[1]) in left:
+            del left[int(script[1])]
+            continue
+        number = next((number for number, (front, refusal) in left.items() if line == front + refusal), None)
+        if number is None:
             # A line of the script that can't be taken is named by its number, which is another one now.
             rest.append(re.sub(rb"^\? \d+ ", b"? ", line))
         else:
-            answers[tag].append(b"BAD nobody" if script else line[len(tag) :])
-    nameless = re.sub(rb"(?m)^\? \d+ ", b"? ", wanted)
-    right = b"\n".join(rest) == nameless and all(len(one) == 1 and REFUSAL.fullmatch(one[0]) for one in answers.values())
+            del left[number]
+    right = not left and b"\n".join(rest) == re.sub(rb"(?m)^\? \d+ ", b"? ", wanted)
     if not right:
         print("\n".join(said), out.decode(errors="replace"), sep="\n---\n")
     return right
@@ -112,11 +117,11 @@ def main(program, rounds="5"):
         lines = Path(f"{case}.stdin").read_text(errors="surrogateescape").split("\n")[:-1]
         if arguments[:1] != ["script"] or "--compatible" in arguments or not list(places(lines)):
             continue
-        wanted = played(program, arguments, Path(f"{case}.stdin").read_bytes())
-        if wanted.returncode != 0:
+        if Path(f"{case}.status").read_text().strip() != "0":
             continue
+        wanted = Path(f"{case}.stdout").read_bytes()
         for number in range(int(rounds)):
-            if is_as_before(program, arguments, lines, wanted.stdout, random.Random(f"{case.name} {number}")):
+            if is_as_before(program, arguments, lines, wanted, random.Random(f"{case.name} {number}")):
                 passed += 1
             else:
                 failed += 1
