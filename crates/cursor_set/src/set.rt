@@ -1,7 +1,7 @@
 //! The cursors of a mailbox's clients: which changes each was shown, and the UIDs that it counts.
 //! What a change looks like is told in `lines`.
 
-ghost use Rattle.std.specs.Prelude.{◌≡◌, ◌≢◌, ℕ, ◌+◌, ◌-◌, ◌^◌, ◌<◌, ◌≤◌, ◌↔◌, [], ◌++◌, length, Some, None, OnOk, OnErr, IfOk, IfErr, IfSome, IfNone, IsTrue, IsSome, IsErr, IsOk, All, map, min, option_map, option_copied, Err, vec_capacity};
+ghost use Rattle.std.specs.Prelude.{◌≡◌, ◌≢◌, ℕ, ◌+◌, ◌-◌, ◌^◌, ◌<◌, ◌≤◌, ◌↔◌, [], ◌++◌, length, Some, None, OnOk, OnErr, IfOk, IfErr, IfSome, IfNone, IsTrue, IsSome, IsErr, IsOk, All, map, min, option_map, option_copied, Err, vec_len, vec_capacity, ◌*◌};
 ghost use Rattle.std.specs.Option.{option_map_or};
 ghost use Rattle.change_ring.specs.Window.{total, changes_from};
 ghost use Rattle.slab.specs.Slab.{get, values};
@@ -66,12 +66,26 @@ struct Cursor {
     view: Vec<u32>,
 }
 
+// How much room is reserved behind what is there for so many lines, with so much to spare. Nothing is shown in the room that there is. None where
+// no number says it.
+fn room_for(count: usize, spare: usize) -> Option<usize>
+    ensures none { IfNone result (0 < count) }
+    ensures nothing { count ≡ 0 → result ≡ Some 0 }
+    ensures room { IfSome result (λ n. 0 < count → count * LINE_ROOM + spare ≤ n) }
+{
+    if count == 0 {
+        return Some(0);
+    }
+    count.checked_mul(LINE_ROOM)?.checked_add(spare)
+}
+
 impl Cursor {
     // Shows changes, or changes nothing where memory is refused: all room is reserved first.
     fn show(
         &mut self,
         first: &[Change],
         rest: &[Change],
+        spare: usize,
         out: &mut Vec<u8>,
     ) -> Result<(), AllocError>
         requires legal { IsLegalOn self.old.view.items (first.now ++ rest.now) }
@@ -85,9 +99,12 @@ impl Cursor {
         ensures err_text { OnErr result (out.new.items ≡ out.old.items) }
         ensures nothing { length (first.now ++ rest.now) ≡ 0 → IsOk result }
         ensures room { vec_capacity out.old ≤ vec_capacity out.new }
+        // Where room for `spare` more bytes stood behind `out`, it stands there still.
+        ensures spare { vec_len out.old + spare ≤ vec_capacity out.old
+            → vec_len out.new + spare ≤ vec_capacity out.new }
     {
         let count = first.len() + rest.len();
-        let Some(room) = count.checked_mul(LINE_ROOM) else {
+        let Some(room) = room_for(count, spare) else {
             return Err(AllocError);
         };
         self.view.reserve(count)?;
@@ -105,6 +122,7 @@ fn show_in(
     slot: usize,
     first: &[Change],
     rest: &[Change],
+    spare: usize,
     out: &mut Vec<u8>,
 ) -> Result<(), AllocError>
     requires legal { (c : Cursor) → get slots.old slot ≡ Some c
@@ -122,9 +140,12 @@ fn show_in(
     ensures err_text { OnErr result (out.new.items ≡ out.old.items) }
     ensures nothing { length (first.now ++ rest.now) ≡ 0 → IsOk result }
     ensures room { vec_capacity out.old ≤ vec_capacity out.new }
+    // Where room for `spare` more bytes stood behind `out`, it stands there still.
+    ensures spare { vec_len out.old + spare ≤ vec_capacity out.old
+        → vec_len out.new + spare ≤ vec_capacity out.new }
 {
     match slots.get_mut(slot) {
-        Some(cursor) => cursor.show(first, rest, out),
+        Some(cursor) => cursor.show(first, rest, spare, out),
         None => Ok(()),
     }
 }
@@ -306,12 +327,14 @@ impl CursorSet {
     /// counted as the change before left the client's view. Stranger where the handle has no cursor
     /// here; else Lapped where the next change was overwritten; else NoMemory where memory is
     /// refused, which isn't asked for where nothing is to be shown. After each the set, the handle and
-    /// `out` are unchanged.
+    /// what `out` says are unchanged. Room for `spare` more bytes behind what `out` says, where it
+    /// stood there, stands there still.
     pub fn feed(
         &mut self,
         ring: &ChangeRing,
         handle: &mut CursorHandle,
         limit: usize,
+        spare: usize,
         out: &mut Vec<u8>,
     ) -> Result<usize, FeedFault>
         // What is pending for the handle's cursor, if it isn't lapped, is within the log and legal on what its client counts.
@@ -345,6 +368,9 @@ impl CursorSet {
         // The serial of the next cursor stays, and `out` keeps its room or has more.
         ensures next { self.new.next ≡ self.old.next }
         ensures room { vec_capacity out.old ≤ vec_capacity out.new }
+        // Where room for `spare` more bytes stood behind `out`, it stands there still.
+        ensures spare { vec_len out.old + spare ≤ vec_capacity out.old
+            → vec_len out.new + spare ≤ vec_capacity out.new }
     {
         let Some(_cursor) = self.find(handle) else {
             return Err(FeedFault::Stranger);
@@ -353,7 +379,7 @@ impl CursorSet {
             return Err(FeedFault::Lapped);
         }
         let (first, rest) = lend_next(ring, handle.at, limit);
-        let Ok(()) = show_in(&mut self.slots, handle.slot, first, rest, out) else {
+        let Ok(()) = show_in(&mut self.slots, handle.slot, first, rest, spare, out) else {
             return Err(FeedFault::NoMemory);
         };
         let count = first.len() + rest.len();

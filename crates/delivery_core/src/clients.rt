@@ -1,7 +1,7 @@
 //! What a session does in the mailbox that it enters: each call is one event of the world. Lanes and
 //! verdicts are told in `steps`.
 
-ghost use Rattle.std.specs.Prelude.{◌≡◌, ◌≢◌, ℕ, ◌+◌, ◌-◌, ◌^◌, ◌<◌, ◌≤◌, ◌⊎◌, ◌↔◌, [], length, Err, Some, None, IfErr, IfOk, IfSome, OnErr, OnOk, IsErr, IsSome, min, option_map, slice_index_or, take, true, vec_capacity};
+ghost use Rattle.std.specs.Prelude.{◌≡◌, ◌≢◌, ℕ, ◌+◌, ◌-◌, ◌^◌, ◌<◌, ◌≤◌, ◌⊎◌, ◌↔◌, [], length, Err, Some, None, IfErr, IfOk, IfSome, OnErr, OnOk, IsErr, IsSome, min, option_map, slice_index_or, take, true, vec_capacity, vec_len};
 ghost use Rattle.std.specs.List.Sorted.{IsStrictlyIncreasing};
 ghost use Rattle.change_ring.specs.Log.{rows_of, view_at};
 ghost use Rattle.change_ring.specs.Window.{total};
@@ -30,8 +30,15 @@ fn total(mailbox: &Mailbox) -> u128
 impl DeliveryCore {
     /// A session is shown its next changes, at most `limit`: a line for each behind `out` (RFC 9051,
     /// 7.4 and 7.5), and it is told how many. Stranger where it has entered no mailbox, else Lapped
-    /// where the next change was overwritten, else NoMemory; nothing is then changed.
-    pub fn feed(&mut self, session: u8, limit: usize, out: &mut Vec<u8>) -> Result<usize, MailFault>
+    /// where the next change was overwritten, else NoMemory; nothing is then changed. Room for `spare`
+    /// more bytes behind what `out` says, where it stood there, stands there still.
+    pub fn feed(
+        &mut self,
+        session: u8,
+        limit: usize,
+        spare: usize,
+        out: &mut Vec<u8>,
+    ) -> Result<usize, MailFault>
         // Stranger exactly where no mailbox is entered; Spent never; NoMemory only where there is something to show.
         ensures stranger { (result ≡ Err MailFault.Stranger) ↔ (client_of self.old session ≡ None) }
         ensures spent { result ≢ Err MailFault.Spent }
@@ -62,6 +69,9 @@ impl DeliveryCore {
         ensures counts { SameCounts self.old self.new }
         // `out` keeps its room or has more.
         ensures room { vec_capacity out.old ≤ vec_capacity out.new }
+        // Where room for `spare` more bytes stood behind `out`, it stands there still.
+        ensures spare { vec_len out.old + spare ≤ vec_capacity out.old
+            → vec_len out.new + spare ≤ vec_capacity out.new }
 
         // After an error nothing has changed, nor was anything written.
         ensures refused { OnErr result ((self.new ≡ self.old) × (out.new.items ≡ out.old.items)) }
@@ -74,7 +84,7 @@ impl DeliveryCore {
             return Err(MailFault::Stranger);
         };
         let mailbox = &mut self.boxes[usize::from(client.mailbox)];
-        let fed = mailbox.feed(&mut client.handle, limit, out);
+        let fed = mailbox.feed(&mut client.handle, limit, spare, out);
         self.clients[place] = Some(client);
         answer_of(fed)
     }
@@ -161,11 +171,13 @@ impl DeliveryCore {
     /// A session is shown all that is pending, and then the messages of its mailbox with \Deleted are
     /// removed, of these UIDs where some are named (RFC 9051, 6.4.3 and 6.4.9): it is told how many
     /// went. Stranger where it has entered no mailbox, else Lapped, Spent or NoMemory, in this order;
-    /// nothing is then changed.
+    /// nothing is then changed. Room for `spare` more bytes behind what `out` says, where it stood
+    /// there, stands there still.
     pub fn expunge(
         &mut self,
         session: u8,
         uids: Option<&[u32]>,
+        spare: usize,
         out: &mut Vec<u8>,
     ) -> Result<usize, MailFault>
         // Stranger exactly where no mailbox is entered; NoMemory only where something is pending.
@@ -196,6 +208,9 @@ impl DeliveryCore {
         ensures counts { SameCounts self.old self.new }
         // `out` keeps its room or has more.
         ensures room { vec_capacity out.old ≤ vec_capacity out.new }
+        // Where room for `spare` more bytes stood behind `out`, it stands there still.
+        ensures spare { vec_len out.old + spare ≤ vec_capacity out.old
+            → vec_len out.new + spare ≤ vec_capacity out.new }
 
         // After an error nothing has changed, nor was anything written.
         ensures refused { OnErr result ((self.new ≡ self.old) × (out.new.items ≡ out.old.items)) }
@@ -208,7 +223,7 @@ impl DeliveryCore {
             return Err(MailFault::Stranger);
         };
         let mailbox = &mut self.boxes[usize::from(client.mailbox)];
-        let gone = mailbox.expunge(&mut client.handle, uids, out);
+        let gone = mailbox.expunge(&mut client.handle, uids, spare, out);
         self.clients[place] = Some(client);
         gone
     }

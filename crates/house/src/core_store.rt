@@ -57,12 +57,17 @@ impl Store for CoreStore {
         self.core.store(self.session, uid, op)
     }
 
-    fn expunge(&mut self, uids: Option<&[u32]>, out: &mut Vec<u8>) -> Result<usize, MailFault> {
-        self.core.expunge(self.session, uids, out)
+    fn expunge(
+        &mut self,
+        uids: Option<&[u32]>,
+        spare: usize,
+        out: &mut Vec<u8>,
+    ) -> Result<usize, MailFault> {
+        self.core.expunge(self.session, uids, spare, out)
     }
 
-    fn feed(&mut self, limit: usize, out: &mut Vec<u8>) -> Result<usize, MailFault> {
-        self.core.feed(self.session, limit, out)
+    fn feed(&mut self, limit: usize, spare: usize, out: &mut Vec<u8>) -> Result<usize, MailFault> {
+        self.core.feed(self.session, limit, spare, out)
     }
 
     fn leave(&mut self, remove: bool) -> Result<usize, MailFault> {

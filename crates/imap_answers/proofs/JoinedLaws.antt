@@ -50,6 +50,14 @@ three_joined g xs ys zs one two e f =
     ∙ ap (λ (l : List ℕ). joined true (map g xs) ++ l) (joined_map g one ys zs)
     ∙ ap (λ (t : Bool). joined true (map g xs) ++ (joined one (map g ys) ++ joined t (map g zs))) (sym f)
 
+-- how long they are
+pub three_sizes : {A : Type 0} (g : A → List ℕ) (xs ys zs : List A) (one two : Bool) → one ≡ is_none xs → two ≡ (one && is_none ys)
+    → length (spaced (map g (xs ++ (ys ++ zs)))) ≡ length (joined true (map g xs)) + (length (joined one (map g ys)) + length (joined two (map g zs)))
+three_sizes g xs ys zs one two e f =
+    ap length (three_joined g xs ys zs one two e f)
+    ∙ length-append (joined true (map g xs)) (joined one (map g ys) ++ joined two (map g zs))
+    ∙ ap (λ (n : ℕ). length (joined true (map g xs)) + n) (length-append (joined one (map g ys)) (joined two (map g zs)))
+
 pub starts_behind : (old mid new added : List ℕ) → StartsWith new mid → mid ≡ old ++ added → StartsWith new old
 starts_behind old mid new added h e =
     let size : length mid ≡ length old + length added = ap length e ∙ length-append old added in

@@ -1,3 +1,4 @@
 pub mod Globs
 pub mod Joined
 pub mod Ranges
+pub mod Fields

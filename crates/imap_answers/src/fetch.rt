@@ -1,86 +1,73 @@
-//! The answer that tells of a message (RFC 9051, 7.5.2), with the bytes that specs/Answers.antt gives.
-//! Who is answered what and when is told above.
+//! The answer that tells of a message (RFC 9051, 7.5.2), with the bytes that specs/Answers.antt gives: room for it is held first, and it is put
+//! into that room, so that none of it stands there in part. Who is answered what and when is told above.
 
-ghost use Rattle.std.specs.Prelude.{◌≡◌, ◌++◌, ◌≤◌, true, map, OnOk, OnErr, IfOk, ◌&&◌, vec_capacity};
-ghost use Rattle.std.specs.Io.{StartsWith};
+ghost use Rattle.std.specs.Prelude.{◌≡◌, ◌++◌, ◌+◌, ◌<◌, ◌≤◌, ◌^◌, ◌⊎◌, true, map, length, OnOk, OnErr, ◌&&◌};
 ghost use Rattle.std.specs.List.{list_any};
 ghost use Rattle.cursor_set.specs.Lines.{spaced};
 ghost use Rattle.imap_answers.specs.Answers.{item_text, uid_first, flags_last, answered, is_uid, is_flags, row_answer};
+ghost use Rattle.imap_answers.specs.Room.{row_most};
 ghost use Rattle.imap_answers.specs.inner.Joined.{lead, joined, is_none};
 
-use crate::date::write_date;
-use crate::flags::write_flags;
-use crate::sections::{write_body, write_rfc822};
-use crate::words::{write_number, write_space};
+use crate::date::put_date;
+use crate::flags::put_flags;
+use crate::room::row_room;
+use crate::sections::{put_body, put_rfc822};
+use crate::words::{put_number, put_parts, put_space};
 use imap_grammar::FetchItem;
 use itoa::Buffer;
-use line_io::append_parts;
+use line_io::Outlet;
 use mailbox::Row;
-use std::alloc::{AllocError, Global};
+use std::alloc::AllocError;
 
-/// Appends an item of FETCH, or nothing where memory is refused.
-fn write_item(
-    alloc: Global,
-    row: &Row,
-    item: &FetchItem<'_>,
-    out: &mut Vec<u8>,
-) -> Result<(), AllocError>
-    ensures ok { OnOk result (out.new.items ≡ out.old.items ++ item_text row.now item.now) }
-    ensures err { OnErr result (out.new.items ≡ out.old.items) }
-    ensures room { vec_capacity out.old ≤ vec_capacity out.new }
+/// Puts an item of FETCH, in room that is held.
+fn put_item<O: Outlet>(row: &Row, item: &FetchItem<'_>, out: &mut O)
+    requires fits { length (item_text row.now item.now) ≤ O.room out.old }
+    ensures said { O.said out.new ≡ O.said out.old ++ item_text row.now item.now }
+    ensures lot { O.lot out.new ≡ O.lot out.old }
+    ensures room { O.room out.old ≤ O.room out.new + length (item_text row.now item.now) }
 {
     match item {
-        FetchItem::Uid => write_number(b"UID ", u128::from(row.uid), out),
-        FetchItem::Flags => write_flags(row.flags, out),
-        FetchItem::Size => write_number(b"RFC822.SIZE ", row.text.as_slice().len() as u128, out),
-        FetchItem::InternalDate => write_date(&row.text, out),
-        FetchItem::Rfc822 { section } => write_rfc822(*section, row.text.as_slice(), out),
+        FetchItem::Uid => put_number(b"UID ", u128::from(row.uid), out),
+        FetchItem::Flags => put_flags(row.flags, out),
+        FetchItem::Size => put_number(b"RFC822.SIZE ", row.text.as_slice().len() as u128, out),
+        FetchItem::InternalDate => put_date(&row.text, out),
+        FetchItem::Rfc822 { section } => put_rfc822(*section, row.text.as_slice(), out),
         FetchItem::Body {
             peek: _,
             part,
             partial,
-        } => write_body(alloc, part, *partial, row.text.as_slice(), out),
+        } => put_body(part, *partial, row.text.as_slice(), out),
     }
 }
 
-/// Appends an item behind others, or a part of it.
-fn put_item(
-    alloc: Global,
-    first: bool,
-    row: &Row,
-    item: &FetchItem<'_>,
-    out: &mut Vec<u8>,
-) -> Result<(), AllocError>
-    ensures ok { OnOk result (out.new.items
-        ≡ out.old.items ++ lead first (item_text row.now item.now)) }
-    ensures err { OnErr result (StartsWith out.new.items out.old.items) }
-    ensures room { vec_capacity out.old ≤ vec_capacity out.new }
+/// Puts an item behind others, in room that is held.
+fn put_next<O: Outlet>(first: bool, row: &Row, item: &FetchItem<'_>, out: &mut O)
+    requires fits { length (lead first (item_text row.now item.now)) ≤ O.room out.old }
+    ensures said { O.said out.new ≡ O.said out.old ++ lead first (item_text row.now item.now) }
+    ensures lot { O.lot out.new ≡ O.lot out.old }
+    ensures room { O.room out.old
+        ≤ O.room out.new + length (lead first (item_text row.now item.now)) }
 {
-    write_space(first, out)?;
-    write_item(alloc, row, item, out)?;
-    Ok(())
+    put_space(first, out);
+    put_item(row, item, out);
 }
 
-/// Appends items, or a part of them. Says whether nothing stands there still.
-fn put_items(
-    alloc: Global,
-    first: bool,
-    row: &Row,
-    items: &[FetchItem<'_>],
-    out: &mut Vec<u8>,
-) -> Result<bool, AllocError>
-    ensures ok { OnOk result (out.new.items
-        ≡ out.old.items ++ joined first (map (item_text row.now) items.now)) }
-    ensures first { IfOk result (λ f. f ≡ (first && is_none items.now)) }
-    ensures err { OnErr result (StartsWith out.new.items out.old.items) }
-    ensures room { vec_capacity out.old ≤ vec_capacity out.new }
+/// Puts items, in room that is held. Says whether nothing stands there still.
+fn put_items<O: Outlet>(first: bool, row: &Row, items: &[FetchItem<'_>], out: &mut O) -> bool
+    requires fits { length (joined first (map (item_text row.now) items.now)) ≤ O.room out.old }
+    ensures said { O.said out.new
+        ≡ O.said out.old ++ joined first (map (item_text row.now) items.now) }
+    ensures first { result ≡ (first && is_none items.now) }
+    ensures lot { O.lot out.new ≡ O.lot out.old }
+    ensures room { O.room out.old
+        ≤ O.room out.new + length (joined first (map (item_text row.now) items.now)) }
 {
     let mut bare = first;
     for item in items {
-        put_item(alloc, bare, row, item, out)?;
+        put_next(bare, row, item, out);
         bare = false;
     }
-    Ok(bare)
+    bare
 }
 
 fn has_uid(items: &[FetchItem<'_>]) -> bool
@@ -95,110 +82,110 @@ fn has_flags(items: &[FetchItem<'_>]) -> bool
     items.iter().any(|item| matches!(item, FetchItem::Flags))
 }
 
-/// Appends the UID where that is answered unasked. Says whether it isn't.
-fn put_uid(
-    alloc: Global,
-    by_uid: bool,
-    row: &Row,
-    items: &[FetchItem<'_>],
-    out: &mut Vec<u8>,
-) -> Result<bool, AllocError>
-    ensures ok { OnOk result (out.new.items
-        ≡ out.old.items ++ joined true (map (item_text row.now) (uid_first by_uid items.now))) }
-    ensures first { IfOk result (λ f. f ≡ is_none (uid_first by_uid items.now)) }
-    ensures err { OnErr result (out.new.items ≡ out.old.items) }
-    ensures room { vec_capacity out.old ≤ vec_capacity out.new }
+/// Puts the UID where that is answered unasked, in room that is held. Says whether it isn't.
+fn put_uid<O: Outlet>(by_uid: bool, row: &Row, items: &[FetchItem<'_>], out: &mut O) -> bool
+    requires fits { length (joined true (map (item_text row.now) (uid_first by_uid items.now)))
+        ≤ O.room out.old }
+    ensures said { O.said out.new ≡ O.said out.old
+        ++ joined true (map (item_text row.now) (uid_first by_uid items.now)) }
+    ensures first { result ≡ is_none (uid_first by_uid items.now) }
+    ensures lot { O.lot out.new ≡ O.lot out.old }
+    ensures room { O.room out.old ≤ O.room out.new
+        + length (joined true (map (item_text row.now) (uid_first by_uid items.now))) }
 {
     if by_uid && !has_uid(items) {
-        write_item(alloc, row, &FetchItem::Uid, out)?;
-        return Ok(false);
+        put_item(row, &FetchItem::Uid, out);
+        return false;
     }
-    Ok(true)
+    true
 }
 
-/// Appends the flags where they are answered unasked, or a part of them.
-fn put_flags(
-    alloc: Global,
-    first: bool,
-    row: &Row,
-    items: &[FetchItem<'_>],
-    out: &mut Vec<u8>,
-) -> Result<(), AllocError>
-    ensures ok { OnOk result (out.new.items ≡ out.old.items
-        ++ joined first (map (item_text row.now) (flags_last row.now.newly_seen items.now))) }
-    ensures err { OnErr result (StartsWith out.new.items out.old.items) }
-    ensures room { vec_capacity out.old ≤ vec_capacity out.new }
+/// Puts the flags where they are answered unasked, in room that is held.
+fn put_seen<O: Outlet>(first: bool, row: &Row, items: &[FetchItem<'_>], out: &mut O)
+    requires fits { length (joined first
+        (map (item_text row.now) (flags_last row.now.newly_seen items.now))) ≤ O.room out.old }
+    ensures said { O.said out.new ≡ O.said out.old
+        ++ joined first (map (item_text row.now) (flags_last row.now.newly_seen items.now)) }
+    ensures lot { O.lot out.new ≡ O.lot out.old }
+    ensures room { O.room out.old ≤ O.room out.new + length (joined first
+        (map (item_text row.now) (flags_last row.now.newly_seen items.now))) }
 {
     if row.newly_seen && !has_flags(items) {
-        write_space(first, out)?;
-        return write_item(alloc, row, &FetchItem::Flags, out);
+        put_next(first, row, &FetchItem::Flags, out);
     }
-    Ok(())
 }
 
-/// Appends what stands between the parentheses of a FETCH, or a part of it.
-fn put_answered(
-    alloc: Global,
-    by_uid: bool,
-    row: &Row,
-    items: &[FetchItem<'_>],
-    out: &mut Vec<u8>,
-) -> Result<(), AllocError>
-    ensures ok { OnOk result (out.new.items ≡ out.old.items
-        ++ spaced (map (item_text row.now) (answered by_uid row.now.newly_seen items.now))) }
-    ensures err { OnErr result (StartsWith out.new.items out.old.items) }
-    ensures room { vec_capacity out.old ≤ vec_capacity out.new }
+/// Puts what stands between the parentheses of a FETCH, in room that is held.
+fn put_answered<O: Outlet>(by_uid: bool, row: &Row, items: &[FetchItem<'_>], out: &mut O)
+    requires fits { length
+        (spaced (map (item_text row.now) (answered by_uid row.now.newly_seen items.now)))
+        ≤ O.room out.old }
+    ensures said { O.said out.new ≡ O.said out.old
+        ++ spaced (map (item_text row.now) (answered by_uid row.now.newly_seen items.now)) }
+    ensures lot { O.lot out.new ≡ O.lot out.old }
+    ensures room { O.room out.old ≤ O.room out.new + length
+        (spaced (map (item_text row.now) (answered by_uid row.now.newly_seen items.now))) }
 {
-    let bare = put_uid(alloc, by_uid, row, items, out)?;
-    let bare = put_items(alloc, bare, row, items, out)?;
-    put_flags(alloc, bare, row, items, out)?;
-    Ok(())
+    let bare = put_uid(by_uid, row, items, out);
+    let bare = put_items(bare, row, items, out);
+    put_seen(bare, row, items, out);
 }
 
-/// Appends the answer to a FETCH, or a part of it.
-fn put_row(
-    alloc: Global,
+/// Puts the answer to a FETCH, in room that is held.
+fn put_row<O: Outlet>(
     position: usize,
     by_uid: bool,
     items: &[FetchItem<'_>],
     row: &Row,
-    out: &mut Vec<u8>,
-) -> Result<(), AllocError>
-    ensures ok { OnOk result (out.new.items
-        ≡ out.old.items ++ row_answer position by_uid items.now row.now) }
-    ensures err { OnErr result (StartsWith out.new.items out.old.items) }
-    ensures room { vec_capacity out.old ≤ vec_capacity out.new }
+    out: &mut O,
+)
+    requires fits { length (row_answer position by_uid items.now row.now) ≤ O.room out.old }
+    ensures said { O.said out.new
+        ≡ O.said out.old ++ row_answer position by_uid items.now row.now }
+    ensures lot { O.lot out.new ≡ O.lot out.old }
+    ensures room { O.room out.old
+        ≤ O.room out.new + length (row_answer position by_uid items.now row.now) }
 {
     let mut digits = Buffer::new();
     let number = digits.format(position).as_bytes();
-    append_parts(&[b"* ".as_slice(), number, b" FETCH (".as_slice()], out)?;
-    put_answered(alloc, by_uid, row, items, out)?;
-    append_parts(&[b")\r\n".as_slice()], out)
+    put_parts(&[b"* ".as_slice(), number, b" FETCH (".as_slice()], out);
+    put_answered(by_uid, row, items, out);
+    out.put(b")\r\n");
 }
 
-/// Appends the answer to a FETCH for the message at this position: the items in the order asked, before them
+/// Says the answer to a FETCH for the message at this position: the items in the order asked, before them
 /// UID under UID FETCH where it wasn't asked, behind them FLAGS where \Seen is newly set and they
-/// weren't asked (RFC 9051, 7.5.2).
+/// weren't asked (RFC 9051, 7.5.2). A text goes to `out` from where it lies, with no copy between. Room for `spare` bytes more is there behind it.
 ///
-/// Errors: `AllocError` where memory is refused; then `out` is as it was.
-pub fn write_row(
-    alloc: Global,
+/// Errors: `AllocError` where memory is refused for [`row_room`] bytes and `spare` more, or where these are no `usize`. Nothing is said then, and `out`
+/// has the room that it had, or more.
+pub fn write_row<O: Outlet>(
     position: usize,
     by_uid: bool,
     items: &[FetchItem<'_>],
     row: &Row,
-    out: &mut Vec<u8>,
+    spare: usize,
+    out: &mut O,
 ) -> Result<(), AllocError>
-    // The answer is `row_answer`, byte by byte. An error writes nothing, and the room of `out` never becomes less.
-    ensures ok { OnOk result (out.new.items
-        ≡ out.old.items ++ row_answer position by_uid items.now row.now) }
-    ensures err { OnErr result (out.new.items ≡ out.old.items) }
-    ensures room { vec_capacity out.old ≤ vec_capacity out.new }
+    // The answer is `row_answer`, byte by byte, with room for `spare` bytes behind it.
+    ensures ok { OnOk result (O.said out.new
+        ≡ O.said out.old ++ row_answer position by_uid items.now row.now) }
+    ensures spare { OnOk result (spare ≤ O.room out.new) }
+    // An error says nothing, and takes no room.
+    ensures err { OnErr result (O.said out.new ≡ O.said out.old) }
+    ensures room { OnErr result (O.room out.old ≤ O.room out.new) }
+    // There is one only where the room was less than what is asked for, or this is no `usize`.
+    ensures full { OnErr result ((O.room out.old < row_most items.now row.now + spare)
+        ⊎ (2 ^ 64 ≤ row_most items.now row.now + spare)) }
+    ensures lot { O.lot out.new ≡ O.lot out.old }
 {
-    let before = out.len();
-    let Ok(()) = put_row(alloc, position, by_uid, items, row, out) else {
-        out.truncate(before);
+    let Some(most) = row_room(items, row) else {
         return Err(AllocError);
     };
+    let Some(count) = most.checked_add(spare) else {
+        return Err(AllocError);
+    };
+    out.hold(count)?;
+    put_row(position, by_uid, items, row, out);
     Ok(())
 }

@@ -1,11 +1,12 @@
 //! What is told of a mailbox that was entered (RFC 9051, 6.3.2): its flags, how many messages it has, and what its UIDs are worth.
 //! Which mailbox is entered is the session's matter.
 
-ghost use Rattle.std.specs.Prelude.{◌≡◌, ◌++◌, ◌+◌, ◌≤◌, [], if◌then◌else◌, length, vec_capacity, vec_len};
+ghost use Rattle.std.specs.Prelude.{◌≡◌, ◌++◌, ◌+◌, ◌≤◌, [], if◌then◌else◌, length};
 ghost use Rattle.imap_answers.specs.Answers.{opening_text};
 
 use crate::words::put_between;
 use itoa::Buffer;
+use line_io::Outlet;
 use mailbox::Opening;
 
 /// Room for what is told of a mailbox that was entered, beside its name: numbers of 20, 10 and 10 digits are the longest.
@@ -22,14 +23,14 @@ fn kept_flags(read_only: bool, all: &[u8]) -> &[u8]
 /// Writes what is told of the mailbox of this name that was entered, read-only where by EXAMINE, behind `out`, which has room
 /// for it: who enters one reserves that before, and so tells of each that was entered.
 #[tactic(auto, using(crate::proofs::OpeningParts::ten_digits, crate::proofs::OpeningParts::twenty_digits))]
-pub fn put_opening(read_only: bool, name: &[u8], opening: &Opening, out: &mut Vec<u8>)
+pub fn put_opening<O: Outlet>(read_only: bool, name: &[u8], opening: &Opening, out: &mut O)
     // `out` has room for the name's length and 264 bytes more.
-    requires { vec_len out.old + (length name.now + 264) ≤ vec_capacity out.old }
+    requires { length name.now + 264 ≤ O.room out.old }
 
-    // What is told is `opening_text`, byte by byte, in no more room than that; the room of `out` never becomes less.
-    ensures items { out.new.items ≡ out.old.items ++ opening_text read_only name.now opening.now }
-    ensures len { vec_len out.new ≤ vec_len out.old + (length name.now + 264) }
-    ensures room { vec_capacity out.old ≤ vec_capacity out.new }
+    // What is told is `opening_text`, byte by byte, in no more room than that.
+    ensures items { O.said out.new ≡ O.said out.old ++ opening_text read_only name.now opening.now }
+    ensures room { O.room out.old ≤ O.room out.new + (length name.now + 264) }
+    ensures lot { O.lot out.new ≡ O.lot out.old }
 {
     let mut count = Buffer::new();
     let mut uidvalidity = Buffer::new();

@@ -194,7 +194,7 @@ had_led step now next x y old new response after how p led =
       bytes = p.bytes ++ led.1;
       played = whole.1;
       met = Met-append step old new new p.events [] p.met refl;
-      wrote = led.3 ∙ ap (λ (t : List ℕ). t ++ led.1) p.wrote.1 ∙ append_assoc response.text p.bytes led.1;
+      wrote = led.3 ∙ ap (λ (t : List ℕ). t ++ led.1) p.wrote.2 ∙ append_assoc response.text p.bytes led.1;
     }
 
 -- the store wasn't asked, and this led here

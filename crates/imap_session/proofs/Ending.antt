@@ -71,12 +71,12 @@ plays_moved step now to after x old new before mid final (Ok text) m e =
     let p = m before.tag now refl in
     let next : Standing = record now { selected = to } in
     let led = p.leads [] (saying (tagged before.tag words) (closed next after)) refl in
-    ends step before.tag now next x old new before.text mid.text final p.events p.bytes (tagged before.tag words) after led.0 led.1 p.met p.wrote.1
+    ends step before.tag now next x old new before.text mid.text final p.events p.bytes (tagged before.tag words) after led.0 led.1 p.met p.wrote.2
     (e ∙ ap (λ (t : List ℕ). mid.text ++ tagged t words) p.wrote.0)
 plays_moved step now to after x old new before mid final (Err fault) m e =
     let p = m before.tag now refl in
     let next : Standing = record now { selected = to } in
-    ends step before.tag now next x old new before.text mid.text final p.events p.bytes (refusal_text before.tag fault) (refusal_after fault) p.leads.0 p.leads.1 p.met p.wrote.1
+    ends step before.tag now next x old new before.text mid.text final p.events p.bytes (refusal_text before.tag fault) (refusal_after fault) p.leads.0 p.leads.1 p.met p.wrote.2
     (e ∙ ap (λ (t : List ℕ). mid.text ++ refusal_text t fault) p.wrote.0)
 
 standing_of : List Folder → Profile → Option (List ℕ) → Option Selected → Option (List ℕ) → Bool → Mailing → Standing
@@ -142,7 +142,7 @@ pub plays_said : {S : Type 0} (step : S → Call → Answer → S → Type 0) (w
     → Reaches step before.tag now now x (ex.Done words Go) old new before mid → final ≡ mid.text ++ tagged mid.tag words → Plays step before.tag now now x old new before.text final Go
 plays_said step words now x old new before mid final p e =
     let led = p.leads [] (saying (tagged before.tag words) (closed now Go)) refl in
-    ends step before.tag now now x old new before.text mid.text final p.events p.bytes (tagged before.tag words) Go led.0 led.1 p.met p.wrote.1
+    ends step before.tag now now x old new before.text mid.text final p.events p.bytes (tagged before.tag words) Go led.0 led.1 p.met p.wrote.2
     (e ∙ ap (λ (t : List ℕ). mid.text ++ tagged t words) p.wrote.0)
 
 -- a mailbox was counted, and then the rest was played
@@ -161,5 +161,5 @@ plays_counted step tag now next mailbox f status old mid new before after how h 
 pub plays_stopped : {S : Type 0} (step : S → Call → Answer → S → Type 0) (now : Standing) (x : Exchange) (fault : MailFault) (old new : S) (before mid : Response) (final : List ℕ) (how : After)
     → Stops step before.tag now now x fault old new before mid → final ≡ mid.text ++ refusal_text mid.tag fault → how ≡ refusal_after fault → Plays step before.tag now now x old new before.text final how
 plays_stopped step now x fault old new before mid final how p e h =
-    rw h (ends step before.tag now now x old new before.text mid.text final p.events p.bytes (refusal_text before.tag fault) (refusal_after fault) p.leads.0 p.leads.1 p.met p.wrote.1
+    rw h (ends step before.tag now now x old new before.text mid.text final p.events p.bytes (refusal_text before.tag fault) (refusal_after fault) p.leads.0 p.leads.1 p.met p.wrote.2
     (e ∙ ap (λ (t : List ℕ). mid.text ++ refusal_text t fault) p.wrote.0))

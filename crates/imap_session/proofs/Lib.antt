@@ -2,6 +2,7 @@ pub mod Appends
 pub mod Runs
 pub mod Shown
 pub mod Showing
+pub mod Lots
 pub mod Fetching
 pub mod Searching
 pub mod Choosing

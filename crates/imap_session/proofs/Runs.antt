@@ -22,20 +22,20 @@ use Rattle.imap_session.specs.inner.Store.{LeadsOn, onward, Reaches, Stops}
 -- ---- what was written
 
 pub nothing_added : (r : Response) → Adds [] r r
-nothing_added r = (refl, sym (append-nil r.text))
+nothing_added r = (refl, refl, sym (append-nil r.text))
 
 pub added : (bytes : List ℕ) (before after : Response) → after ≡ adding bytes before → Adds bytes before after
-added bytes before after e = (ap (λ (r : Response). r.tag) e, ap (λ (r : Response). r.text) e)
+added bytes before after e = (ap (λ (r : Response). r.tag) e, ap (λ (r : Response). r.lot) e, ap (λ (r : Response). r.text) e)
 
 pub same_still : (before after : Response) → after ≡ before → Adds [] before after
-same_still before after e = (ap (λ (r : Response). r.tag) e, ap (λ (r : Response). r.text) e ∙ sym (append-nil before.text))
+same_still before after e = (ap (λ (r : Response). r.tag) e, ap (λ (r : Response). r.lot) e, ap (λ (r : Response). r.text) e ∙ sym (append-nil before.text))
 
 -- nothing was written, and more room is held
 pub held_more : (before after : Response) (held : ℕ) → after ≡ record before { held = held } → Adds [] before after
-held_more before after held e = (ap (λ (r : Response). r.tag) e, ap (λ (r : Response). r.text) e ∙ sym (append-nil before.text))
+held_more before after held e = (ap (λ (r : Response). r.tag) e, ap (λ (r : Response). r.lot) e, ap (λ (r : Response). r.text) e ∙ sym (append-nil before.text))
 
 pub added_twice : (a b : List ℕ) (first second third : Response) → Adds a first second → Adds b second third → Adds (a ++ b) first third
-added_twice a b first second third p q = (q.0 ∙ p.0, q.1 ∙ (ap (λ (t : List ℕ). t ++ b) p.1 ∙ append_assoc first.text a b))
+added_twice a b first second third p q = (q.0 ∙ p.0, q.1 ∙ p.1, q.2 ∙ (ap (λ (t : List ℕ). t ++ b) p.2 ∙ append_assoc first.text a b))
 
 -- ---- runs of the store
 

@@ -12,13 +12,14 @@ use crate::tag::Tag;
 use crate::texts::ResponseText;
 use delivery_token::Text;
 use imap_grammar::{Append as AppendCommand, Name};
+use line_io::Outlet;
 use std::alloc::{AllocError, Global};
 
 /// A literal that the client sends without being asked has at most so many bytes.
 pub(crate) const MOST_UNASKED: u64 = 4_096;
 
 impl Session {
-    ghost use Rattle.std.specs.Prelude.{◌≡◌, ◌^◌, ◌<◌, ◌≤◌, min, true, false, [], length, vec_len, ◌==◌, ◌+◌, ◌++◌, ℕ, List, None, Some, IfErr, IfOk, IfSome, OnErr, OnOk};
+    ghost use Rattle.std.specs.Prelude.{◌≡◌, ◌^◌, ◌<◌, ◌≤◌, min, true, false, [], length, ◌==◌, ◌+◌, ◌++◌, ℕ, List, None, Some, IfErr, IfOk, IfSome, OnErr, OnOk};
     ghost use Rattle.std.specs.Option.{option_map};
     ghost use Rattle.std.specs.Vec.{vec_capacity};
     ghost use Rattle.imap_session.specs.Exchange.{may_send, tagged};
@@ -65,13 +66,13 @@ impl Session {
     }
 
     // Asks for a literal, and waits for its bytes. Where memory for the tag or the text is refused, that is told.
-    fn await_literal(
+    fn await_literal<O: Outlet>(
         &mut self,
         alloc: Global,
         mailbox: u8,
         append: &AppendCommand<'_>,
-        response: Response<'_>,
-        out: &mut Vec<u8>,
+        response: Response<'_, O>,
+        out: &mut O,
     ) -> After
         requires going { self.old.ended ≡ false }
         requires awake { self.old.idling ≡ None }
@@ -80,9 +81,10 @@ impl Session {
         requires size { append.now.literal.size < 2 ^ 32 }
         ensures leads { Leads response.entry.tag self.old
             (wanting (asking mailbox append.now.flags append.now.date append.now.literal.size))
-            response.entry.text out.new.items result self.new }
+            response.entry.text (O.said out.new) result self.new }
         ensures folders { self.new.folders ≡ self.old.folders }
         ensures sends { result ≡ may_send self.new }
+        ensures lot { O.lot out.new ≡ response.entry.lot }
     {
         let size = append.literal.size as usize;
         let tag = response.release(out);
@@ -115,12 +117,12 @@ impl Session {
     }
 
     // Takes the line of an APPEND whose client waits to be asked for the literal.
-    fn ask_for_literal(
+    fn ask_for_literal<O: Outlet>(
         &mut self,
         alloc: Global,
         append: &AppendCommand<'_>,
-        response: Response<'_>,
-        out: &mut Vec<u8>,
+        response: Response<'_, O>,
+        out: &mut O,
     ) -> After
         requires going { self.old.ended ≡ false }
         requires awake { self.old.idling ≡ None }
@@ -129,9 +131,10 @@ impl Session {
         requires waits { append.now.literal.waits ≡ true }
         ensures leads { Leads response.entry.tag self.old
             (appending self.old.mailing.most self.old.folders append.now) response.entry.text
-            out.new.items result self.new }
+            (O.said out.new) result self.new }
         ensures folders { self.new.folders ≡ self.old.folders }
         ensures sends { result ≡ may_send self.new }
+        ensures lot { O.lot out.new ≡ response.entry.lot }
     {
         let Ok(mailbox) = self.number_of(alloc, &append.name) else {
             response.end(ResponseText::OutOfMemory, out);
@@ -167,12 +170,12 @@ impl Session {
 
     // Takes the line of an APPEND whose client sends the literal without being asked. Its bytes come whatever is refused, and are no commands: where
     // memory for the name or the text is, they are dropped, and that is told behind them. Without a tag that can't be told, and the session ends.
-    fn expect_literal(
+    fn expect_literal<O: Outlet>(
         &mut self,
         alloc: Global,
         append: &AppendCommand<'_>,
-        response: Response<'_>,
-        out: &mut Vec<u8>,
+        response: Response<'_, O>,
+        out: &mut O,
     ) -> After
         requires going { self.old.ended ≡ false }
         requires awake { self.old.idling ≡ None }
@@ -182,9 +185,10 @@ impl Session {
         ensures leads { Leads response.entry.tag self.old
             (coming (number_named append.now.name self.old.folders) append.now.flags
             append.now.date append.now.literal.size)
-            response.entry.text out.new.items result self.new }
+            response.entry.text (O.said out.new) result self.new }
         ensures folders { self.new.folders ≡ self.old.folders }
         ensures sends { result ≡ may_send self.new }
+        ensures lot { O.lot out.new ≡ response.entry.lot }
     {
         let size = append.literal.size as usize;
         let prepared = self.prepare(alloc, append, size);
@@ -217,12 +221,12 @@ impl Session {
     }
 
     // Takes the line of an APPEND.
-    pub(crate) fn begin_append(
+    pub(crate) fn begin_append<O: Outlet>(
         &mut self,
         alloc: Global,
         append: &AppendCommand<'_>,
-        response: Response<'_>,
-        out: &mut Vec<u8>,
+        response: Response<'_, O>,
+        out: &mut O,
     ) -> After
         requires going { self.old.ended ≡ false }
         requires awake { self.old.idling ≡ None }
@@ -230,9 +234,10 @@ impl Session {
         requires unsent { self.old.mailing.sent ≡ None }
         ensures leads { Leads response.entry.tag self.old
             (appending self.old.mailing.most self.old.folders append.now) response.entry.text
-            out.new.items result self.new }
+            (O.said out.new) result self.new }
         ensures folders { self.new.folders ≡ self.old.folders }
         ensures sends { result ≡ may_send self.new }
+        ensures lot { O.lot out.new ≡ response.entry.lot }
     {
         if append.literal.waits {
             return self.ask_for_literal(alloc, append, response, out);
@@ -247,22 +252,23 @@ impl Session {
     }
 
     // Answers the rest of a line behind the literal of a message.
-    pub(crate) fn message_line(
+    pub(crate) fn message_line<O: Outlet>(
         &mut self,
         begun: PendingLiteral,
         rest: &[u8],
-        out: &mut Vec<u8>,
+        out: &mut O,
     ) -> After
         requires going { self.old.ended ≡ false }
         requires awake { self.old.idling ≡ None }
         requires alone { self.old.mailing.begun ≡ None }
         requires unsent { self.old.mailing.sent ≡ None }
-        requires fits { vec_len out.old + (length begun.tag + LAST) ≤ vec_capacity out.old }
+        requires fits { length begun.tag + LAST ≤ O.room out.old }
         ensures leads { Leads begun.tag self.old
-            (on_rest self.old.mailing (pending_of begun) (length rest.now == 0)) out.old.items
-            out.new.items result self.new }
+            (on_rest self.old.mailing (pending_of begun) (length rest.now == 0)) (O.said out.old)
+            (O.said out.new) result self.new }
         ensures folders { self.new.folders ≡ self.old.folders }
         ensures sends { result ≡ may_send self.new }
+        ensures lot { O.lot out.new ≡ O.lot out.old }
     {
         match self.submit(begun, rest.is_empty()) {
             Ok(()) => After::Submit,

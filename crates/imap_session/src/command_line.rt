@@ -9,11 +9,11 @@ use crate::store::Store;
 use crate::turn::{FIRST, append_of, copy_of, is_idle, put_fault, put_first_line};
 use crate::unfinished::{argument_due, wants_response};
 use imap_grammar::{Command, ImapFault, read_line};
+use line_io::Outlet;
 use std::alloc::Global;
 
 impl Session {
-    ghost use Rattle.std.specs.Prelude.{◌≡◌, ◌+◌, ◌≤◌, ◌++◌, ℕ, List, IfSome, Ok, Err, None, Some, false, length, vec_len};
-    ghost use Rattle.std.specs.Vec.{vec_capacity};
+    ghost use Rattle.std.specs.Prelude.{◌≡◌, ◌+◌, ◌≤◌, ◌++◌, ℕ, List, IfSome, Ok, Err, None, Some, false, length};
     ghost use Rattle.imap_grammar.specs.Reading.{read};
     ghost use Rattle.imap_session.specs.Exchange.{Exchange, may_send};
     ghost use Rattle.imap_session.specs.Commands.{fault_tag, fault_text, literal_in};
@@ -21,25 +21,26 @@ impl Session {
     ghost use Rattle.imap_session.specs.inner.Lines.{AnswersText};
 
     // Answers a command under its tag, which it has in this line.
-    fn answer_read<S: Store>(
+    fn answer_read<S: Store, O: Outlet>(
         &mut self,
         alloc: Global,
         line: &[u8],
         tag: &[u8],
         command: &Command<'_>,
         store: &mut S,
-        out: &mut Vec<u8>,
+        out: &mut O,
     ) -> After
         requires going { self.old.ended ≡ false }
         requires awake { self.old.idling ≡ None }
         requires alone { self.old.mailing.begun ≡ None }
         requires unsent { self.old.mailing.sent ≡ None }
-        requires fits { vec_len out.old + (length tag.now + LAST + FIRST) ≤ vec_capacity out.old }
+        requires fits { length tag.now + LAST + FIRST ≤ O.room out.old }
         ensures answered { read line.now ≡ Ok (tag.now, command.now)
-            → AnswersText S.step self.old line.now store.old store.new out.old.items out.new.items
+            → AnswersText S.step self.old line.now store.old store.new (O.said out.old) (O.said out.new)
             result self.new }
         ensures folders { self.new.folders ≡ self.old.folders }
         ensures sends { result ≡ may_send self.new }
+        ensures lot { O.lot out.new ≡ O.lot out.old }
     {
         if wants_response(self.awaited(), command) {
             return self.await_response(alloc, tag, line, out);
@@ -69,29 +70,29 @@ impl Session {
     }
 
     // Answers a line that is no command as it stands.
-    fn answer_fault(
+    fn answer_fault<O: Outlet>(
         &mut self,
         alloc: Global,
         line: &[u8],
         fault: &ImapFault<'_>,
-        out: &mut Vec<u8>,
+        out: &mut O,
     ) -> After
         requires going { self.old.ended ≡ false }
         requires awake { self.old.idling ≡ None }
         requires alone { self.old.mailing.begun ≡ None }
         requires unsent { self.old.mailing.sent ≡ None }
         requires tagged { IfSome (fault_tag fault.now) (λ tag.
-            vec_len out.old + (length tag + LAST) ≤ vec_capacity out.old) }
-        requires fits { vec_len out.old + length (fault_text self.old.profile fault.now)
-            ≤ vec_capacity out.old }
+            (length tag + LAST) ≤ O.room out.old) }
+        requires fits { length (fault_text self.old.profile fault.now) ≤ O.room out.old }
         ensures asks { (tag : List ℕ) (x : Exchange)
             → literal_in self.old.profile line.now fault.now ≡ Some (tag, x)
-            → Leads tag self.old x out.old.items out.new.items result self.new }
+            → Leads tag self.old x (O.said out.old) (O.said out.new) result self.new }
         ensures told { literal_in self.old.profile line.now fault.now ≡ None
-            → (result ≡ After.Go) × (self.new ≡ self.old) × (out.new.items
-            ≡ out.old.items ++ fault_text self.old.profile fault.now) }
+            → (result ≡ After.Go) × (self.new ≡ self.old) × (O.said out.new
+            ≡ O.said out.old ++ fault_text self.old.profile fault.now) }
         ensures folders { self.new.folders ≡ self.old.folders }
         ensures sends { result ≡ may_send self.new }
+        ensures lot { O.lot out.new ≡ O.lot out.old }
     {
         match argument_due(self.profile(), line, fault) {
             Some(found) => self.await_argument(alloc, found, out),
@@ -103,23 +104,23 @@ impl Session {
     }
 
     // Answers a line as one of a command, in room that was reserved.
-    pub(crate) fn text_line<S: Store>(
+    pub(crate) fn text_line<S: Store, O: Outlet>(
         &mut self,
         alloc: Global,
         line: &[u8],
         store: &mut S,
-        out: &mut Vec<u8>,
+        out: &mut O,
     ) -> After
         requires going { self.old.ended ≡ false }
         requires awake { self.old.idling ≡ None }
         requires alone { self.old.mailing.begun ≡ None }
         requires unsent { self.old.mailing.sent ≡ None }
-        requires fits { vec_len out.old + (length line.now + LAST + FIRST)
-            ≤ vec_capacity out.old }
-        ensures answered { AnswersText S.step self.old line.now store.old store.new out.old.items
-            out.new.items result self.new }
+        requires fits { length line.now + LAST + FIRST ≤ O.room out.old }
+        ensures answered { AnswersText S.step self.old line.now store.old store.new (O.said out.old)
+            (O.said out.new) result self.new }
         ensures folders { self.new.folders ≡ self.old.folders }
         ensures sends { result ≡ may_send self.new }
+        ensures lot { O.lot out.new ≡ O.lot out.old }
     {
         match read_line(line) {
             Err(fault) => self.answer_fault(alloc, line, &fault, out),

@@ -1,9 +1,8 @@
 //! One IMAP connection, over bytes that come in any pieces: they are cut into lines and the literals behind them, and the session answers each. It
 //! knows nothing of sockets; how it gets at mailboxes is its store's matter.
 
-ghost use Rattle.std.specs.Prelude.{◌≡◌, ◌↔◌, ◌+◌, ◌^◌, ◌<◌, ◌≤◌, ◌++◌, false, true, is_some, min, take, None, Some, Err, [], length, IfOk, IfSome, OnOk, OnErr, vec_len};
+ghost use Rattle.std.specs.Prelude.{◌≡◌, ◌↔◌, ◌+◌, ◌^◌, ◌<◌, ◌≤◌, ◌++◌, false, true, is_some, min, take, None, Some, Err, [], length, IfOk, IfSome, OnOk, OnErr};
 ghost use Rattle.std.specs.Option.{option_map};
-ghost use Rattle.std.specs.Vec.{vec_capacity};
 ghost use Rattle.imap_session.specs.Exchange.{Feed, Refused, Sent, begun_with, is_idling, kept_tag, may_send};
 ghost use Rattle.imap_session.specs.Commands.{due_of, greeting, most_changes};
 ghost use Rattle.imap_session.specs.Store.{AnswersVerdict, IdleTurns, Starves, TakesBytes, room_for_verdict, to_follow};
@@ -14,7 +13,7 @@ use crate::session::Session;
 use crate::standing::{Admission, After, Append, Folder, Selected, SessionFault};
 use crate::store::Store;
 use delivery_token::Verdict;
-use line_io::{LineCutter, What};
+use line_io::{LineCutter, Outlet, What};
 use std::alloc::{AllocError, Global};
 use std::marker::Model;
 
@@ -94,10 +93,11 @@ impl ImapConnection {
     /// Appends the greeting (RFC 9051, 7.1.4).
     ///
     /// Errors: `AllocError` where memory was refused; then nothing was written.
-    pub fn greet(&self, out: &mut Vec<u8>) -> Result<(), AllocError>
-        ensures ok { OnOk result (out.new.items
-            ≡ out.old.items ++ greeting self.now.session.profile) }
-        ensures err { OnErr result (out.new.items ≡ out.old.items) }
+    pub fn greet<O: Outlet>(&self, out: &mut O) -> Result<(), AllocError>
+        ensures ok { OnOk result (O.said out.new
+            ≡ O.said out.old ++ greeting self.now.session.profile) }
+        ensures err { OnErr result (O.said out.new ≡ O.said out.old) }
+        ensures lot { O.lot out.new ≡ O.lot out.old }
     {
         self.session.greet(out)
     }
@@ -165,34 +165,35 @@ impl ImapConnection {
     ///
     /// Errors, after which the connection, the store and `out` are as they were, and the same verdict is waited for: `Ended` exactly where the
     /// session has ended; `NoMemory` where memory was refused, and `out` has no room for as many bytes as `verdict_room` tells.
-    pub fn appended<S: Store>(
+    pub fn appended<S: Store, O: Outlet>(
         &mut self,
         verdict: Verdict,
         store: &mut S,
-        out: &mut Vec<u8>,
+        out: &mut O,
     ) -> Result<After, SessionFault>
         // A verdict is awaited.
         requires waits { is_some self.old.session.mailing.sent ≡ true }
 
         // The verdict was answered over the store as `turn_of_verdict` tells, by the session and in each dialogue for which it stood.
         ensures session { IfOk result (λ after.
-            AnswersVerdict S.step self.old.session verdict store.old store.new out.old.items
-            out.new.items
+            AnswersVerdict S.step self.old.session verdict store.old store.new (O.said out.old)
+            (O.said out.new)
             after self.new.session) }
         ensures heard { IfOk result (λ after. (d : Dialogue) → StandsFor self.old d →
-            Hears S.step d verdict store.old store.new out.old.items out.new.items after self.new) }
+            Hears S.step d verdict store.old store.new (O.said out.old) (O.said out.new) after self.new) }
 
         // Ended exactly where the session has ended. A refusal leaves the connection, the store and `out` as they were.
         ensures ended { (result ≡ Err SessionFault.Ended) ↔ (self.old.session.ended ≡ true) }
         ensures refused { OnErr result ((self.new ≡ self.old) × (store.new ≡ store.old)
-            × (out.new.items ≡ out.old.items)) }
+            × (O.said out.new ≡ O.said out.old)) }
 
         // Where `out` had the room that `verdict_room` tells, NoMemory never comes.
         ensures memory { result ≡ Err SessionFault.NoMemory
-            → vec_capacity out.old < vec_len out.old + room_for_verdict self.old.session }
+            → O.room out.old < room_for_verdict self.old.session }
 
         // It answers what the client may send from now on: nothing where the next of several messages was submitted that are copied.
         ensures sends { IfOk result (λ after. after ≡ may_send self.new.session) }
+        ensures lot { O.lot out.new ≡ O.lot out.old }
     {
         self.session.appended(verdict, store, out)
     }
@@ -201,22 +202,22 @@ impl ImapConnection {
     ///
     /// Errors, after which the connection and `out` are as they were: `Ended` exactly where the session has ended, and the store isn't asked;
     /// `NoMemory` where memory was refused, by the store or before it was asked.
-    pub fn idle_turn<S: Store>(
+    pub fn idle_turn<S: Store, O: Outlet>(
         &mut self,
         store: &mut S,
-        out: &mut Vec<u8>,
+        out: &mut O,
     ) -> Result<usize, SessionFault>
         // The session had a turn over the store as `Session::idle_turn` tells, and showed so many changes; so in each dialogue for which it stood.
         ensures session { IfOk result (λ count.
-            IdleTurns S.step self.old.session store.old store.new out.old.items out.new.items count
+            IdleTurns S.step self.old.session store.old store.new (O.said out.old) (O.said out.new) count
             self.new.session) }
         ensures turned { IfOk result (λ count. (d : Dialogue) → StandsFor self.old d →
-            Turns S.step d store.old store.new out.old.items out.new.items count self.new) }
+            Turns S.step d store.old store.new (O.said out.old) (O.said out.new) count self.new) }
         ensures few { IfOk result (λ count. count ≤ 64) }
 
         // Where it shows nothing and the session goes on, nothing is changed and nothing said.
         ensures quiet { IfOk result (λ count. count ≡ 0 → self.new.session.ended ≡ false
-            → (self.new ≡ self.old) × (out.new.items ≡ out.old.items)) }
+            → (self.new ≡ self.old) × (O.said out.new ≡ O.said out.old)) }
 
         // Ended exactly where the session has ended, and the store is as it was.
         ensures ended { (result ≡ Err SessionFault.Ended) ↔ (self.old.session.ended ≡ true) }
@@ -227,11 +228,12 @@ impl ImapConnection {
 
         // Where `out` has room for a BYE line, the store was asked.
         ensures asked { result ≡ Err SessionFault.NoMemory
-            → vec_len out.old + 48 ≤ vec_capacity out.old →
+            → 48 ≤ O.room out.old →
             S.step store.old (Feed most_changes) (Refused MailFault.NoMemory) store.new }
 
         // A refusal leaves the connection and `out` as they were.
-        ensures refused { OnErr result ((self.new ≡ self.old) × (out.new.items ≡ out.old.items)) }
+        ensures refused { OnErr result ((self.new ≡ self.old) × (O.said out.new ≡ O.said out.old)) }
+        ensures lot { O.lot out.new ≡ O.lot out.old }
     {
         self.session.idle_turn(store, out)
     }
@@ -263,12 +265,12 @@ impl ImapConnection {
     // Takes bytes from the front of the piece, up to the end of one line, which is answered, or of the literal that is due; a line of more
     // than `MAX_LINE` bytes is answered as too long. On a session that has ended it uses nothing; on another, one byte at least of a piece that
     // has some. Where the room for the longest line's last words is refused, no byte was used and nothing was done.
-    fn feed<S: Store>(
+    fn feed<S: Store, O: Outlet>(
         &mut self,
         alloc: Global,
         piece: &[u8],
         store: &mut S,
-        out: &mut Vec<u8>,
+        out: &mut O,
     ) -> Result<Fed, AllocError>
         requires unsent { self.old.session.mailing.sent ≡ None }
         ensures used { IfOk result (λ fed. fed.used ≤ length piece.now) }
@@ -276,12 +278,13 @@ impl ImapConnection {
             → 0 < fed.used) }
         ensures asked { Asks S.step store.old store.new }
         ensures ok { IfOk result (λ fed. (d : Dialogue) → StandsFor self.old d →
-            Takes S.step d piece.now store.old store.new out.old.items out.new.items fed self.new) }
+            Takes S.step d piece.now store.old store.new (O.said out.old) (O.said out.new) fed self.new) }
         ensures err { OnErr result ((self.new ≡ self.old) × (store.new ≡ store.old)
-            × (out.new.items ≡ out.old.items)) }
-        ensures full { OnErr result (vec_capacity out.new
-            < vec_len out.new + (ANSWER_ROOM + tag_len (kept_tag self.new.session))) }
+            × (O.said out.new ≡ O.said out.old)) }
+        ensures full { OnErr result (O.room out.new
+            < ANSWER_ROOM + tag_len (kept_tag self.new.session)) }
         ensures sends { IfOk result (λ fed. fed.after ≡ may_send self.new.session) }
+        ensures lot { O.lot out.new ≡ O.lot out.old }
     {
         if self.session.ended() {
             return Ok(Fed {
@@ -292,7 +295,7 @@ impl ImapConnection {
         if self.session.literal_due() > 0 {
             return Ok(self.take_literal(piece));
         }
-        out.reserve(ANSWER_ROOM + tag_len(&self.session))?;
+        out.hold(ANSWER_ROOM + tag_len(&self.session))?;
         let cut = self.cutter.take(piece);
         match cut.what {
             What::NeedMore => Ok(Fed {
@@ -330,12 +333,12 @@ impl ImapConnection {
     /// the next call. It is refused only where `out` has no room, behind what it has by then, for 8,357 bytes and the tag of the command
     /// that isn't done, and never over a piece that is empty. A message is submitted only by a byte that was taken; and whatever the connection stands for, the store was asked
     /// some calls, one after the other, or none.
-    pub fn take<S: Store>(
+    pub fn take<S: Store, O: Outlet>(
         &mut self,
         alloc: Global,
         piece: &[u8],
         store: &mut S,
-        out: &mut Vec<u8>,
+        out: &mut O,
     ) -> Progress
         // The session goes on, and no verdict is awaited.
         requires going { self.old.session.ended ≡ false }
@@ -348,8 +351,7 @@ impl ImapConnection {
 
         // Memory is refused (None) only where `out` has too little room behind what it has by then, and no message is submitted then.
         ensures full { result.after ≡ None
-            → vec_capacity out.new < vec_len out.new
-            + (ANSWER_ROOM + tag_len (kept_tag self.new.session)) }
+            → O.room out.new < (ANSWER_ROOM + tag_len (kept_tag self.new.session)) }
         ensures unsent { result.after ≡ None → self.new.session.mailing.sent ≡ None }
 
         // Nor is it where there is nothing to take.
@@ -364,8 +366,9 @@ impl ImapConnection {
 
         // In each dialogue for which it stood: lines and literals were answered one after another, and it stands for where they lead.
         ensures took { (d : Dialogue) → StandsFor self.old d →
-            Took S.step d piece.now store.old store.new out.old.items out.new.items result
+            Took S.step d piece.now store.old store.new (O.said out.old) (O.said out.new) result
             self.new }
+        ensures lot { O.lot out.new ≡ O.lot out.old }
     {
         if piece.is_empty() {
             return Progress {

@@ -21,6 +21,7 @@ use crate::store::Store;
 use crate::tag::Tag;
 use crate::texts::ResponseText;
 use imap_grammar::{CopyMessages, Named, copy_verb};
+use line_io::Outlet;
 use mailbox::{MailFault, Row};
 use std::alloc::Global;
 
@@ -290,14 +291,14 @@ impl Session {
     }
 
     // Submits the first message of a batch, or says why none goes.
-    fn submit_first(
+    fn submit_first<O: Outlet>(
         &mut self,
         copy: &CopyMessages<'_>,
         mailbox: u8,
         tag: Tag,
         batch: Batch,
-        response: Response<'_>,
-        out: &mut Vec<u8>,
+        response: Response<'_, O>,
+        out: &mut O,
     ) -> After
         requires going { self.old.ended ≡ false }
         requires awake { self.old.idling ≡ None }
@@ -307,9 +308,10 @@ impl Session {
         requires gathered { IsGathered batch }
         ensures leads { Leads response.entry.tag self.old
             (submitting self.old.mailing (batch_of batch) mailbox
-            (completed (commands.Copy copy.now))) response.entry.text out.new.items result self.new }
+            (completed (commands.Copy copy.now))) response.entry.text (O.said out.new) result self.new }
         ensures folders { self.new.folders ≡ self.old.folders }
         ensures sends { result ≡ may_send self.new }
+        ensures lot { O.lot out.new ≡ response.entry.lot }
     {
         match self.submit_next(mailbox, tag, batch) {
             Ok(()) => {
@@ -324,16 +326,22 @@ impl Session {
     }
 
     // Says that a fault stopped a COPY or MOVE, which may end the session.
-    fn stop_copy(&mut self, fault: MailFault, response: Response<'_>, out: &mut Vec<u8>) -> After
+    fn stop_copy<O: Outlet>(
+        &mut self,
+        fault: MailFault,
+        response: Response<'_, O>,
+        out: &mut O,
+    ) -> After
         requires going { self.old.ended ≡ false }
         requires awake { self.old.idling ≡ None }
         requires alone { self.old.mailing.begun ≡ None }
         requires unsent { self.old.mailing.sent ≡ None }
-        ensures text { out.new.items
+        ensures text { O.said out.new
             ≡ response.entry.text ++ refusal_text response.entry.tag fault }
         ensures after { result ≡ refusal_after fault }
         ensures standing { self.new ≡ (closed self.old result).standing }
         ensures sends { result ≡ may_send self.new }
+        ensures lot { O.lot out.new ≡ response.entry.lot }
     {
         let after = response.conclude(After::Go, Err(fault), out);
         self.ended = matches!(after, After::Bye);
@@ -341,13 +349,13 @@ impl Session {
     }
 
     // Takes the line of a COPY or MOVE.
-    pub(crate) fn begin_copy<S: Store>(
+    pub(crate) fn begin_copy<S: Store, O: Outlet>(
         &mut self,
         alloc: Global,
         copy: &CopyMessages<'_>,
         store: &mut S,
-        response: Response<'_>,
-        out: &mut Vec<u8>,
+        response: Response<'_, O>,
+        out: &mut O,
     ) -> After
         requires going { self.old.ended ≡ false }
         requires awake { self.old.idling ≡ None }
@@ -355,9 +363,10 @@ impl Session {
         requires unsent { self.old.mailing.sent ≡ None }
         ensures had { Had
             (played response.entry.tag self.old (on_command response.entry.tag self.old (commands.Copy copy.now))) S.step
-            store.old store.new response.entry.text out.new.items result self.new }
+            store.old store.new response.entry.text (O.said out.new) result self.new }
         ensures folders { self.new.folders ≡ self.old.folders }
         ensures sends { result ≡ may_send self.new }
+        ensures lot { O.lot out.new ≡ response.entry.lot }
     {
         match self.find_copies(alloc, copy, response.tag, store) {
             Ok(

@@ -12,39 +12,40 @@ ghost use Rattle.imap_session.specs.inner.Store.{Does, last};
 
 use crate::expunge::show_pending;
 use crate::folders::find_folder;
-use crate::response::{Response, hold_room};
+use crate::response::Response;
 use crate::standing::{Folder, Selected};
 use crate::store::Store;
 use crate::texts::ResponseText;
 use imap_answers::{Listing, write_list, write_status};
 use imap_grammar::{Name, StatusItems, Verb};
+use line_io::Outlet;
 use mailbox::{MailFault, Status};
 use std::alloc::{AllocError, Global};
 
 // Writes the answer for a mailbox that was counted.
-fn write_counted(
+fn write_counted<O: Outlet>(
     name: &[u8],
     items: &StatusItems<'_>,
     status: &Status,
-    response: &mut Response<'_>,
+    response: &mut Response<'_, O>,
 ) -> Result<(), MailFault>
     ensures text { OnOk result (response.new
         ≡ adding (status_answer name.now items.now status.now) response.old) }
     ensures err { OnErr result (response.new ≡ response.old) }
     ensures fault { IfErr result (λ f. f ≡ MailFault.NoMemory) }
 {
-    let start = response.out.len();
-    write_status(name, items, status, &mut response.out)?;
-    hold_room(start, response.held, &mut response.out)
+    let mut line = Vec::new(response.out.alloc());
+    write_status(name, items, status, &mut line)?;
+    response.write(&line)
 }
 
 // Counts a folder's mailbox, tells of it, and shows what is pending.
-fn count_folder<S: Store>(
+fn count_folder<S: Store, O: Outlet>(
     folder: &Folder,
     items: &StatusItems<'_>,
     selected: Option<Selected>,
     store: &mut S,
-    response: &mut Response<'_>,
+    response: &mut Response<'_, O>,
 ) -> Result<(), MailFault>
     ensures { (x : Exchange) → Does S.step
         (Count folder.now.mailbox (λ status.
@@ -57,13 +58,13 @@ fn count_folder<S: Store>(
 }
 
 // STATUS of the first folder of a name. Answers what the last line says.
-fn count_named<S: Store>(
+fn count_named<S: Store, O: Outlet>(
     folders: &[Folder],
     name: &[u8],
     items: &StatusItems<'_>,
     selected: Option<Selected>,
     store: &mut S,
-    response: &mut Response<'_>,
+    response: &mut Response<'_, O>,
 ) -> Result<ResponseText, MailFault>
     ensures { Does S.step
         (on_folder name.now folders.now
@@ -78,14 +79,14 @@ fn count_named<S: Store>(
 }
 
 // STATUS: tells the numbers of the mailbox of this name. Answers what the last line says.
-pub(crate) fn count_mailbox<S: Store>(
+pub(crate) fn count_mailbox<S: Store, O: Outlet>(
     alloc: Global,
     folders: &[Folder],
     name: &Name<'_>,
     items: &StatusItems<'_>,
     selected: Option<Selected>,
     store: &mut S,
-    response: &mut Response<'_>,
+    response: &mut Response<'_, O>,
 ) -> Result<ResponseText, MailFault>
     ensures { Does S.step
         (wanting (on_folder name.now folders.now
@@ -111,13 +112,13 @@ fn names_of<'a>(alloc: Global, folders: &'a [Folder]) -> Result<Vec<&'a [u8]>, A
 }
 
 // Writes the answer to LIST or LSUB.
-fn write_names(
+fn write_names<O: Outlet>(
     alloc: Global,
     listing: Listing,
     folders: &[Folder],
     reference: &Name<'_>,
     pattern: &Name<'_>,
-    response: &mut Response<'_>,
+    response: &mut Response<'_, O>,
 ) -> Result<(), MailFault>
     ensures text { OnOk result (response.new ≡ adding
         (list_answer listing reference.now pattern.now
@@ -125,22 +126,22 @@ fn write_names(
     ensures err { OnErr result (response.new ≡ response.old) }
     ensures fault { IfErr result (λ f. f ≡ MailFault.NoMemory) }
 {
-    let start = response.out.len();
     let names = names_of(alloc, folders)?;
     let names = names.as_slice();
-    write_list(alloc, listing, reference, pattern, names, &mut response.out)?;
-    hold_room(start, response.held, &mut response.out)
+    let mut lines = Vec::new(alloc);
+    write_list(alloc, listing, reference, pattern, names, &mut lines)?;
+    response.write(&lines)
 }
 
 // LIST: tells the names that the pattern behind the reference stands for. Answers what the last line says.
-pub(crate) fn list_folders<S: Store>(
+pub(crate) fn list_folders<S: Store, O: Outlet>(
     alloc: Global,
     folders: &[Folder],
     reference: &Name<'_>,
     pattern: &Name<'_>,
     selected: Option<Selected>,
     store: &mut S,
-    response: &mut Response<'_>,
+    response: &mut Response<'_, O>,
 ) -> Result<ResponseText, MailFault>
     ensures { Does S.step
         (Write (list_answer Listing.All reference.now pattern.now
@@ -154,14 +155,14 @@ pub(crate) fn list_folders<S: Store>(
 }
 
 // LSUB: the same, since a client is subscribed to each mailbox that there is (RFC 3501, 6.3.9).
-pub(crate) fn list_subscribed<S: Store>(
+pub(crate) fn list_subscribed<S: Store, O: Outlet>(
     alloc: Global,
     folders: &[Folder],
     reference: &Name<'_>,
     pattern: &Name<'_>,
     selected: Option<Selected>,
     store: &mut S,
-    response: &mut Response<'_>,
+    response: &mut Response<'_, O>,
 ) -> Result<ResponseText, MailFault>
     ensures { Does S.step
         (Write (list_answer Listing.Subscribed reference.now pattern.now

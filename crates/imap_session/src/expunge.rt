@@ -12,14 +12,15 @@ use crate::standing::Selected;
 use crate::store::Store;
 use crate::texts::ResponseText;
 use imap_grammar::{Named, SeqSet, Verb};
+use line_io::Outlet;
 use mailbox::MailFault;
 use std::alloc::{AllocError, Global};
 
 // Shows what is pending, where a mailbox is selected.
-pub(crate) fn show_pending<S: Store>(
+pub(crate) fn show_pending<S: Store, O: Outlet>(
     selected: Option<Selected>,
     store: &mut S,
-    response: &mut Response<'_>,
+    response: &mut Response<'_, O>,
 ) -> Result<(), MailFault>
     ensures done { (x : Exchange)
         → Does S.step (showing selected x) (λ _.
@@ -34,10 +35,10 @@ pub(crate) fn show_pending<S: Store>(
 }
 
 // Shows what is pending, removes messages, and shows that.
-pub(crate) fn remove_and_show<S: Store>(
+pub(crate) fn remove_and_show<S: Store, O: Outlet>(
     uids: Option<&[u32]>,
     store: &mut S,
-    response: &mut Response<'_>,
+    response: &mut Response<'_, O>,
 ) -> Result<(), MailFault>
     ensures { (x : Exchange)
         → Does S.step (Expunge (option_copied uids.entry) (Feed unlimited x)) (λ _.
@@ -49,9 +50,9 @@ pub(crate) fn remove_and_show<S: Store>(
 }
 
 // EXPUNGE in the selected mailbox. Answers what the last line says.
-pub(crate) fn expunge_all<S: Store>(
+pub(crate) fn expunge_all<S: Store, O: Outlet>(
     store: &mut S,
-    response: &mut Response<'_>,
+    response: &mut Response<'_, O>,
 ) -> Result<ResponseText, MailFault>
     ensures { Does S.step (Expunge None (Feed unlimited
         (completed commands.Expunge))) last store.old store.new response.old response.new result }
@@ -72,11 +73,11 @@ fn uids_of(alloc: Global, messages: &[Named]) -> Result<Vec<u32>, AllocError>
 }
 
 // UID EXPUNGE in the selected mailbox: the set is looked up first. Answers what the last line says.
-pub(crate) fn expunge_set<S: Store>(
+pub(crate) fn expunge_set<S: Store, O: Outlet>(
     alloc: Global,
     set: &SeqSet<'_>,
     store: &mut S,
-    response: &mut Response<'_>,
+    response: &mut Response<'_, O>,
 ) -> Result<ResponseText, MailFault>
     ensures { Does S.step (expunge_set set.now) last store.old store.new response.old response.new
         result }

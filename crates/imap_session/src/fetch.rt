@@ -9,42 +9,47 @@ ghost use Rattle.imap_session.specs.inner.Response.{adding};
 ghost use Rattle.imap_session.specs.inner.Store.{Does, last};
 ghost use Rattle.imap_grammar.specs.declared.command.Command.TheVariants as commands;
 
-use crate::response::{Response, hold_room};
+use crate::response::Response;
 use crate::store::Store;
 use crate::texts::ResponseText;
 use imap_answers::write_row;
 use imap_grammar::{Fetch, FetchItem, Named, Verb};
+use line_io::Outlet;
 use mailbox::{MailFault, Row};
 use std::alloc::Global;
 
 // Writes the answer for the message at this position.
-fn write_fetched(
-    alloc: Global,
+fn write_fetched<O: Outlet>(
     by_uid: bool,
     items: &[FetchItem<'_>],
     position: usize,
     row: &Row,
-    response: &mut Response<'_>,
+    response: &mut Response<'_, O>,
 ) -> Result<(), MailFault>
     ensures text { OnOk result (response.new
         ≡ adding (row_answer position by_uid items.now row.now) response.old) }
     ensures err { OnErr result (response.new ≡ response.old) }
     ensures fault { IfErr result (λ f. f ≡ MailFault.NoMemory) }
 {
-    let start = response.out.len();
-    write_row(alloc, position, by_uid, items, row, &mut response.out)?;
-    hold_room(start, response.held, &mut response.out)
+    write_row(
+        position,
+        by_uid,
+        items,
+        row,
+        response.held,
+        &mut response.out,
+    )?;
+    Ok(())
 }
 
 // Answers for one message, and says whether it is there.
-fn fetch_one<S: Store>(
-    alloc: Global,
+fn fetch_one<S: Store, O: Outlet>(
     fetch: &Fetch<'_>,
     items: &[FetchItem<'_>],
     mark_seen: bool,
     message: Named,
     store: &mut S,
-    response: &mut Response<'_>,
+    response: &mut Response<'_, O>,
 ) -> Result<bool, MailFault>
     requires items { items.now ≡ fetch.now.items }
     ensures { (view : List ℕ) (uid : ℕ) → message ≡ named_at view uid → (x y : Exchange)
@@ -55,19 +60,18 @@ fn fetch_one<S: Store>(
     let Some(row) = store.read(message.uid, mark_seen)? else {
         return Ok(false);
     };
-    write_fetched(alloc, fetch.by_uid, items, message.position, &row, response)?;
+    write_fetched(fetch.by_uid, items, message.position, &row, response)?;
     Ok(true)
 }
 
 // Answers for these messages, and says whether one of them is gone.
-fn fetch_all<S: Store>(
-    alloc: Global,
+fn fetch_all<S: Store, O: Outlet>(
     fetch: &Fetch<'_>,
     items: &[FetchItem<'_>],
     mark_seen: bool,
     messages: &[Named],
     store: &mut S,
-    response: &mut Response<'_>,
+    response: &mut Response<'_, O>,
 ) -> Result<bool, MailFault>
     requires items { items.now ≡ fetch.now.items }
     ensures { (view uids : List ℕ) → messages.now ≡ map (named_at view) uids
@@ -77,7 +81,7 @@ fn fetch_all<S: Store>(
 {
     let mut gone = false;
     for message in messages {
-        let here = fetch_one(alloc, fetch, items, mark_seen, *message, store, response)?;
+        let here = fetch_one(fetch, items, mark_seen, *message, store, response)?;
         if !here {
             gone = true;
         }
@@ -86,11 +90,11 @@ fn fetch_all<S: Store>(
 }
 
 // After the last message: only UID FETCH shows changes. Answers what the last line says.
-fn finish_fetch<S: Store>(
+fn finish_fetch<S: Store, O: Outlet>(
     fetch: &Fetch<'_>,
     gone: bool,
     store: &mut S,
-    response: &mut Response<'_>,
+    response: &mut Response<'_, O>,
 ) -> Result<ResponseText, MailFault>
     ensures { Does S.step
         (messages_done (commands.Fetch fetch.now) fetch.now.by_uid gone) last store.old store.new
@@ -107,12 +111,12 @@ fn finish_fetch<S: Store>(
 }
 
 // A FETCH in the selected mailbox. Answers what the last line says.
-pub(crate) fn fetch_messages<S: Store>(
+pub(crate) fn fetch_messages<S: Store, O: Outlet>(
     alloc: Global,
     fetch: &Fetch<'_>,
     mark_seen: bool,
     store: &mut S,
-    response: &mut Response<'_>,
+    response: &mut Response<'_, O>,
 ) -> Result<ResponseText, MailFault>
     ensures { Does S.step
         (wanting (on_set fetch.now.by_uid fetch.now.set (λ view uids.
@@ -126,7 +130,6 @@ pub(crate) fn fetch_messages<S: Store>(
         return Ok(ResponseText::SequenceTooHigh);
     };
     let gone = fetch_all(
-        alloc,
         fetch,
         items,
         mark_seen,

@@ -14,10 +14,11 @@ use crate::turn::FIRST;
 use crate::unfinished::{
     DueArgument, MOST_LINE, comes_unasked, keep_line, with_argument, with_response,
 };
+use line_io::Outlet;
 use std::alloc::{AllocError, Global};
 
 impl Session {
-    ghost use Rattle.std.specs.Prelude.{◌≡◌, ◌≤◌, ◌+◌, ℕ, List, min, length, vec_len, IfOk, IfSome, None, false, true, []};
+    ghost use Rattle.std.specs.Prelude.{◌≡◌, ◌≤◌, ◌+◌, ℕ, List, min, length, IfOk, IfSome, None, false, true, []};
     ghost use Rattle.std.specs.Vec.{vec_capacity};
     ghost use Rattle.imap_session.specs.Exchange.{may_send};
     ghost use Rattle.imap_session.specs.Commands.{awaiting_argument, awaiting_response, given_up, most_line};
@@ -44,23 +45,24 @@ impl Session {
     }
 
     // Asks for a literal that is an argument, and waits for its bytes. Where memory for what it is kept in is refused, that is told.
-    fn ask_for_argument(
+    fn ask_for_argument<O: Outlet>(
         &mut self,
         alloc: Global,
         found: DueArgument<'_>,
-        out: &mut Vec<u8>,
+        out: &mut O,
     ) -> After
         requires going { self.old.ended ≡ false }
         requires awake { self.old.idling ≡ None }
         requires alone { self.old.mailing.begun ≡ None }
         requires unsent { self.old.mailing.sent ≡ None }
         requires waits { found.literal.waits ≡ true }
-        requires fits { vec_len out.old + (length found.tag.now + LAST) ≤ vec_capacity out.old }
+        requires fits { length found.tag.now + LAST ≤ O.room out.old }
         ensures leads { Leads found.entry.tag.now self.old
             (awaiting_argument found.entry.before.now found.entry.literal)
-            out.old.items out.new.items result self.new }
+            (O.said out.old) (O.said out.new) result self.new }
         ensures folders { self.new.folders ≡ self.old.folders }
         ensures sends { result ≡ may_send self.new }
+        ensures lot { O.lot out.new ≡ O.lot out.old }
     {
         let DueArgument {
             tag,
@@ -86,19 +88,25 @@ impl Session {
 
     // Waits for a literal that is an argument and comes without being asked for. Its bytes are no commands, whatever is refused: where memory for what it
     // is kept in is, they are dropped, and that is told behind them. Without a tag that can't be told, and the session ends.
-    fn expect_argument(&mut self, alloc: Global, found: DueArgument<'_>, out: &mut Vec<u8>) -> After
+    fn expect_argument<O: Outlet>(
+        &mut self,
+        alloc: Global,
+        found: DueArgument<'_>,
+        out: &mut O,
+    ) -> After
         requires going { self.old.ended ≡ false }
         requires awake { self.old.idling ≡ None }
         requires alone { self.old.mailing.begun ≡ None }
         requires unsent { self.old.mailing.sent ≡ None }
         requires comes { found.literal.waits ≡ false }
         requires size { found.literal.size ≤ 4096 }
-        requires fits { vec_len out.old + (length found.tag.now + LAST) ≤ vec_capacity out.old }
+        requires fits { length found.tag.now + LAST ≤ O.room out.old }
         ensures leads { Leads found.entry.tag.now self.old
             (awaiting_argument found.entry.before.now found.entry.literal)
-            out.old.items out.new.items result self.new }
+            (O.said out.old) (O.said out.new) result self.new }
         ensures folders { self.new.folders ≡ self.old.folders }
         ensures sends { result ≡ may_send self.new }
+        ensures lot { O.lot out.new ≡ O.lot out.old }
     {
         let size = found.literal.size as usize;
         let kept = Session::begin_argument(alloc, found.before, size);
@@ -118,22 +126,23 @@ impl Session {
     }
 
     // Takes a line that announces a literal, which is an argument of it.
-    pub(crate) fn await_argument(
+    pub(crate) fn await_argument<O: Outlet>(
         &mut self,
         alloc: Global,
         found: DueArgument<'_>,
-        out: &mut Vec<u8>,
+        out: &mut O,
     ) -> After
         requires going { self.old.ended ≡ false }
         requires awake { self.old.idling ≡ None }
         requires alone { self.old.mailing.begun ≡ None }
         requires unsent { self.old.mailing.sent ≡ None }
-        requires fits { vec_len out.old + (length found.tag.now + LAST) ≤ vec_capacity out.old }
+        requires fits { length found.tag.now + LAST ≤ O.room out.old }
         ensures leads { Leads found.entry.tag.now self.old
             (awaiting_argument found.entry.before.now found.entry.literal)
-            out.old.items out.new.items result self.new }
+            (O.said out.old) (O.said out.new) result self.new }
         ensures folders { self.new.folders ≡ self.old.folders }
         ensures sends { result ≡ may_send self.new }
+        ensures lot { O.lot out.new ≡ O.lot out.old }
     {
         if found.literal.waits {
             return self.ask_for_argument(alloc, found, out);
@@ -147,22 +156,23 @@ impl Session {
     }
 
     // Asks for the response to AUTHENTICATE, by an empty challenge.
-    pub(crate) fn await_response(
+    pub(crate) fn await_response<O: Outlet>(
         &mut self,
         alloc: Global,
         tag: &[u8],
         line: &[u8],
-        out: &mut Vec<u8>,
+        out: &mut O,
     ) -> After
         requires going { self.old.ended ≡ false }
         requires awake { self.old.idling ≡ None }
         requires alone { self.old.mailing.begun ≡ None }
         requires unsent { self.old.mailing.sent ≡ None }
-        requires fits { vec_len out.old + (length tag.now + LAST) ≤ vec_capacity out.old }
-        ensures leads { Leads tag.now self.old (awaiting_response line.now) out.old.items
-            out.new.items result self.new }
+        requires fits { length tag.now + LAST ≤ O.room out.old }
+        ensures leads { Leads tag.now self.old (awaiting_response line.now) (O.said out.old)
+            (O.said out.new) result self.new }
         ensures folders { self.new.folders ≡ self.old.folders }
         ensures sends { result ≡ may_send self.new }
+        ensures lot { O.lot out.new ≡ O.lot out.old }
     {
         let Ok(own_tag) = Tag::new(alloc, tag) else {
             put_last(tag, ResponseText::OutOfMemory, out);
@@ -177,24 +187,25 @@ impl Session {
     }
 
     // Gives a line up that ends so.
-    pub(crate) fn give_up(
+    pub(crate) fn give_up<O: Outlet>(
         &mut self,
         tag: &[u8],
         rest: &[u8],
         told: ResponseText,
         parting: ResponseText,
-        out: &mut Vec<u8>,
+        out: &mut O,
     ) -> After
         requires going { self.old.ended ≡ false }
         requires awake { self.old.idling ≡ None }
         requires alone { self.old.mailing.begun ≡ None }
         requires unsent { self.old.mailing.sent ≡ None }
-        requires fits { vec_len out.old + (length tag.now + LAST) ≤ vec_capacity out.old }
+        requires fits { length tag.now + LAST ≤ O.room out.old }
         requires short { length (response_text parting) + 8 ≤ LAST }
-        ensures leads { Leads tag.now self.old (given_up rest.now told parting) out.old.items
-            out.new.items result self.new }
+        ensures leads { Leads tag.now self.old (given_up rest.now told parting) (O.said out.old)
+            (O.said out.new) result self.new }
         ensures folders { self.new.folders ≡ self.old.folders }
         ensures sends { result ≡ may_send self.new }
+        ensures lot { O.lot out.new ≡ O.lot out.old }
     {
         if comes_unasked(rest) {
             put_bye(parting, out);
@@ -206,27 +217,27 @@ impl Session {
     }
 
     // Answers a line with its literals in it, which ends so, in room that was reserved; None where it is too long.
-    fn joined_line<S: Store>(
+    fn joined_line<S: Store, O: Outlet>(
         &mut self,
         alloc: Global,
         tag: &[u8],
         line: Option<Vec<u8>>,
         rest: &[u8],
         store: &mut S,
-        out: &mut Vec<u8>,
+        out: &mut O,
     ) -> After
         requires going { self.old.ended ≡ false }
         requires awake { self.old.idling ≡ None }
         requires alone { self.old.mailing.begun ≡ None }
         requires unsent { self.old.mailing.sent ≡ None }
         requires short { IfSome line (λ l. length l.items ≤ most_line) }
-        requires fits { vec_len out.old + (length tag.now + MOST_LINE + LAST + FIRST)
-            ≤ vec_capacity out.old }
+        requires fits { length tag.now + MOST_LINE + LAST + FIRST ≤ O.room out.old }
         ensures answered { (whole : List ℕ) → IsJoined line whole
-            → AnswersJoined S.step tag.now self.old whole rest.now store.old store.new out.old.items
-            out.new.items result self.new }
+            → AnswersJoined S.step tag.now self.old whole rest.now store.old store.new (O.said out.old)
+            (O.said out.new) result self.new }
         ensures folders { self.new.folders ≡ self.old.folders }
         ensures sends { result ≡ may_send self.new }
+        ensures lot { O.lot out.new ≡ O.lot out.old }
     {
         match line {
             Some(line) => self.text_line(alloc, &line, store, out),
@@ -238,13 +249,13 @@ impl Session {
     }
 
     // Answers the rest of a line behind a literal that is an argument of it, or behind a challenge.
-    pub(crate) fn part_line<S: Store>(
+    pub(crate) fn part_line<S: Store, O: Outlet>(
         &mut self,
         alloc: Global,
         begun: PendingLiteral,
         rest: &[u8],
         store: &mut S,
-        out: &mut Vec<u8>,
+        out: &mut O,
     ) -> After
         requires going { self.old.ended ≡ false }
         requires awake { self.old.idling ≡ None }
@@ -252,12 +263,12 @@ impl Session {
         requires unsent { self.old.mailing.sent ≡ None }
         requires part { is_message (purpose_of begun.purpose) ≡ false }
         requires room { HasFirstRoom begun }
-        requires fits { vec_len out.old + (length begun.tag + MOST_LINE + LAST + FIRST)
-            ≤ vec_capacity out.old }
+        requires fits { length begun.tag + MOST_LINE + LAST + FIRST ≤ O.room out.old }
         ensures answered { Had (on_rest_part (pending_of begun) self.old rest.now) S.step
-            store.old store.new out.old.items out.new.items result self.new }
+            store.old store.new (O.said out.old) (O.said out.new) result self.new }
         ensures folders { self.new.folders ≡ self.old.folders }
         ensures sends { result ≡ may_send self.new }
+        ensures lot { O.lot out.new ≡ O.lot out.old }
     {
         let PendingLiteral {
             tag,

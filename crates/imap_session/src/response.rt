@@ -1,8 +1,7 @@
 //! A response: what a server sends in answer to a command (RFC 9051, 7). Room for its last line is held from the beginning on, so that
 //! it can always be written; whatever else is written comes with room behind it.
 
-ghost use Rattle.std.specs.Prelude.{◌≡◌, ◌+◌, ◌≤◌, ◌++◌, OnOk, OnErr, IfErr, vec_len, length, take, drop};
-ghost use Rattle.std.specs.Vec.{vec_capacity};
+ghost use Rattle.std.specs.Prelude.{◌≡◌, ◌+◌, ◌^◌, ◌<◌, ◌≤◌, ◌++◌, OnOk, OnErr, IfErr, length};
 ghost use Rattle.imap_session.specs.Exchange.{tagged};
 ghost use Rattle.imap_session.specs.Texts.{response_text};
 
@@ -11,10 +10,9 @@ use crate::standing::After;
 use crate::store::Store;
 use crate::texts::ResponseText;
 use imap_answers::{OPENING_ROOM, put_opening};
-use line_io::put;
+use line_io::Outlet;
 use mailbox::{MailFault, Opening};
 use std::marker::Model;
-use std::mem;
 
 /// Room for the last line of any answer beside its tag, a space and CRLF among it; and for a line that says BYE.
 pub(crate) const LAST: usize = 48;
@@ -22,80 +20,46 @@ pub(crate) const LAST: usize = 48;
 /// Room for the line that tells of recent messages.
 pub(crate) const RECENT: usize = 12;
 
-/// The response to a command of this tag, written behind those before it. It has the bytes of `out` meanwhile, and gives them back where it ends:
+/// The response to a command of this tag, written behind those before it. It has the outlet `out` meanwhile, and gives it back where it ends:
 /// with its last line, or with what is said while the session waits.
 #[derive(Drop)]
-pub(crate) struct Response<'a> {
+pub(crate) struct Response<'a, O: Outlet> {
     pub(crate) tag: &'a [u8],
     // So many bytes are held for the last line.
     pub(crate) held: usize,
-    pub(crate) out: Vec<u8>,
+    pub(crate) out: O,
 }
 
-impl<'a> Model for Response<'a> {
-    ghost use Rattle.std.specs.Prelude.{◌≤◌, ◌+◌, length, vec_len};
-    ghost use Rattle.std.specs.Vec.{vec_capacity};
+impl<'a, O: Outlet> Model for Response<'a, O> {
+    ghost use Rattle.std.specs.Prelude.{◌≤◌, ◌+◌, length};
     ghost use Rattle.imap_session.specs.Response.{Response as Written};
     ghost use Rattle.imap_session.specs.declared.response.TheConstants.{LAST};
 
     ghost Value = { Written };
 
-    ghost view = { λ r. record { tag = r.tag.now; held = r.held; text = r.out.items } };
+    ghost view = { λ r. record {
+      tag = r.tag.now;
+      held = r.held;
+      text = O.said r.out;
+      lot = O.lot r.out;
+    } };
 
-    ghost invariant = { λ r. (length r.tag.now + LAST ≤ r.held) × (vec_len r.out + r.held ≤ vec_capacity r.out) };
+    ghost invariant = { λ r. (length r.tag.now + LAST ≤ r.held) × (r.held ≤ O.room r.out) };
 }
 
 /// Writes a last line with a text in the room that is held for any.
 #[tactic(auto, using(crate::proofs::TextLaws::text_short))]
-pub(crate) fn put_last(tag: &[u8], text: ResponseText, out: &mut Vec<u8>)
-    requires fits { vec_len out.old + (length tag.now + LAST) ≤ vec_capacity out.old }
-    ensures { out.new.items ≡ out.old.items ++ tagged tag.now (response_text text) }
+pub(crate) fn put_last<O: Outlet>(tag: &[u8], text: ResponseText, out: &mut O)
+    requires fits { length tag.now + LAST ≤ O.room out.old }
+    ensures text { O.said out.new ≡ O.said out.old ++ tagged tag.now (response_text text) }
+    ensures lot { O.lot out.new ≡ O.lot out.old }
 {
     put_tagged(tag, text, out);
 }
 
-// Takes bytes out of their place, and leaves none. A response that borrowed them would be harder to prove.
-fn take_bytes(out: &mut Vec<u8>) -> Vec<u8>
-    ensures { result ≡ out.old }
-{
-    let none = Vec::new(*out.allocator());
-    mem::replace(out, none)
-}
-
-// Takes out so many bytes from `start` on.
-fn cut_out(out: &mut Vec<u8>, start: usize, count: usize)
-    requires within { start + count ≤ length out.old.items }
-    ensures items { out.new.items ≡ take start out.old.items ++ drop (start + count) out.old.items }
-    ensures len { vec_len out.new + count ≡ vec_len out.old }
-    ensures capacity { vec_capacity out.new ≡ vec_capacity out.old }
-{
-    let len = out.as_slice().len();
-    out[start..].rotate_left(count);
-    out.truncate(len - count);
-}
-
-// Reserves room for `held` more bytes. Where memory is refused, what was written from `start` on goes again. It takes a response's fields: what was
-// written stands in the room that is held, so there is no response till then.
-pub(crate) fn hold_room(start: usize, held: usize, out: &mut Vec<u8>) -> Result<(), MailFault>
-    requires within { start ≤ length out.old.items }
-    ensures text { OnOk result (out.new.items ≡ out.old.items) }
-    ensures err { OnErr result (out.new.items ≡ take start out.old.items) }
-    ensures fault { IfErr result (λ f. f ≡ MailFault.NoMemory) }
-    ensures room { OnOk result (vec_len out.new + held ≤ vec_capacity out.new) }
-    ensures len { OnErr result (vec_len out.new ≡ start) }
-    ensures capacity { vec_capacity out.old ≤ vec_capacity out.new }
-{
-    if out.reserve(held).is_err() {
-        out.truncate(start);
-        return Err(MailFault::NoMemory);
-    }
-    Ok(())
-}
-
-impl<'a> Response<'a> {
-    ghost use Rattle.std.specs.Prelude.{◌≡◌, ◌≢◌, ◌+◌, ◌≤◌, ◌++◌, OnOk, OnErr, IfErr, vec_len, length};
+impl<'a, O: Outlet> Response<'a, O> {
+    ghost use Rattle.std.specs.Prelude.{◌≡◌, ◌≢◌, ◌+◌, ◌≤◌, ◌++◌, OnOk, OnErr, IfErr, length};
     ghost use Rattle.std.specs.Option.{option_copied};
-    ghost use Rattle.std.specs.Vec.{vec_capacity};
     ghost use Rattle.imap_session.specs.Exchange.{Exchange, Expunge, Feed, tagged, untagged};
     ghost use Rattle.imap_session.specs.Texts.{response_text};
     ghost use Rattle.imap_session.specs.Store.{Feeds};
@@ -104,19 +68,21 @@ impl<'a> Response<'a> {
     ghost use Rattle.imap_session.specs.inner.Store.{Does, after_result, last_words};
 
     /// Begins behind the bytes of `out`, in room that was reserved for the tag and so many bytes more.
-    pub(crate) fn new(tag: &'a [u8], beside: usize, out: &mut Vec<u8>) -> Response<'a>
+    pub(crate) fn new(tag: &'a [u8], beside: usize, out: &mut O) -> Response<'a, O>
         requires last { LAST ≤ beside }
-        requires fits { vec_len out.old + (length tag.now + beside) ≤ vec_capacity out.old }
+        requires few { beside < 2 ^ 62 }
+        requires fits { length tag.now + beside ≤ O.room out.old }
         ensures { result ≡ record {
           tag = tag.now;
           held = length tag.now + beside;
-          text = out.old.items;
+          text = O.said out.old;
+          lot = O.lot out.old;
         } }
     {
         Response {
             tag,
             held: tag.len() + beside,
-            out: take_bytes(out),
+            out: out.take(),
         }
     }
 
@@ -140,9 +106,13 @@ impl<'a> Response<'a> {
         ensures err { OnErr result (self.new ≡ self.old) }
         ensures fault { IfErr result (λ f. f ≡ MailFault.NoMemory) }
     {
-        let more = name.len().saturating_add(OPENING_ROOM + RECENT);
-        let held = self.held.saturating_add(more);
-        self.out.reserve(held)?;
+        let Some(held) = self.held.checked_add(name.len()) else {
+            return Err(MailFault::NoMemory);
+        };
+        let Some(held) = held.checked_add(OPENING_ROOM + RECENT) else {
+            return Err(MailFault::NoMemory);
+        };
+        self.out.hold(held)?;
         self.held = held;
         Ok(())
     }
@@ -164,13 +134,15 @@ impl<'a> Response<'a> {
         ensures err { OnErr result (self.new ≡ self.old) }
         ensures fault { IfErr result (λ f. f ≡ MailFault.NoMemory) }
     {
-        self.out.reserve(line.len() + self.held)?;
-        put(line, &mut self.out);
+        let Some(room) = line.len().checked_add(self.held) else {
+            return Err(MailFault::NoMemory);
+        };
+        self.out.hold(room)?;
+        self.out.put(line);
         Ok(())
     }
 
-    /// Shows changes, at most so many. The store writes their lines; what it wrote can't be taken back, so the room for the last line is held
-    /// by bytes that go again.
+    /// Shows changes, at most so many. The store writes their lines, and leaves the room that is held for the last line.
     pub(crate) fn show<S: Store>(&mut self, limit: usize, store: &mut S) -> Result<usize, MailFault>
         ensures done { (x : Exchange)
             → Does S.step (Feed limit x) (λ n. x) store.old store.new self.old self.new result }
@@ -180,66 +152,50 @@ impl<'a> Response<'a> {
         ensures faults { IfErr result (λ f. f ≢ MailFault.Spent) }
         ensures held { (self.new.tag ≡ self.old.tag) × (self.new.held ≡ self.old.held) }
     {
-        let start = self.out.len();
-        let held = self.held;
-        self.out.resize(start + held, 0)?;
-        match store.feed(limit, &mut self.out) {
-            Err(fault) => {
-                self.out.truncate(start);
-                Err(fault)
-            }
-            Ok(n) => {
-                cut_out(&mut self.out, start, held);
-                Ok(n)
-            }
-        }
+        let mut part = self.out.lend();
+        let shown = store.feed(limit, self.held, &mut part);
+        self.out.take_back(part);
+        shown
     }
 
-    /// Shows what is pending and removes messages, in the same way.
+    /// Shows what is pending and removes messages, in the same way. Answers how many went.
     pub(crate) fn purge<S: Store>(
         &mut self,
         uids: Option<&[u32]>,
         store: &mut S,
-    ) -> Result<(), MailFault>
+    ) -> Result<usize, MailFault>
         ensures { (x : Exchange)
-            → Does S.step (Expunge (option_copied uids.entry) x) (λ _.
+            → Does S.step (Expunge (option_copied uids.entry) x) (λ n.
             x) store.old store.new self.old self.new result }
     {
-        let start = self.out.len();
-        let held = self.held;
-        self.out.resize(start + held, 0)?;
-        match store.expunge(uids, &mut self.out) {
-            Err(fault) => {
-                self.out.truncate(start);
-                Err(fault)
-            }
-            Ok(_gone) => {
-                cut_out(&mut self.out, start, held);
-                Ok(())
-            }
-        }
+        let mut part = self.out.lend();
+        let gone = store.expunge(uids, self.held, &mut part);
+        self.out.take_back(part);
+        gone
     }
 
-    /// Gives the bytes back, with the room that was held, and answers the tag.
-    pub(crate) fn release(self, out: &mut Vec<u8>) -> &'a [u8]
+    /// Gives the outlet back, with the room that was held, and answers the tag.
+    pub(crate) fn release(self, out: &mut O) -> &'a [u8]
         ensures tag { result.now ≡ self.entry.tag }
-        ensures text { out.new.items ≡ self.entry.text }
+        ensures text { O.said out.new ≡ self.entry.text }
+        ensures lot { O.lot out.new ≡ self.entry.lot }
         ensures last { length self.entry.tag + LAST ≤ self.entry.held }
-        ensures room { vec_len out.new + self.entry.held ≤ vec_capacity out.new }
+        ensures room { self.entry.held ≤ O.room out.new }
     {
         let Response {
             tag,
             held: _,
-            out: bytes,
+            out: taken,
         } = self;
-        *out = bytes;
+        out.put_back(taken);
         tag
     }
 
     /// Ends with a last line, which says this behind the tag.
-    pub(crate) fn end(self, text: ResponseText, out: &mut Vec<u8>)
-        ensures { out.new.items
+    pub(crate) fn end(self, text: ResponseText, out: &mut O)
+        ensures text { O.said out.new
             ≡ self.entry.text ++ tagged self.entry.tag (response_text text) }
+        ensures lot { O.lot out.new ≡ self.entry.lot }
     {
         let tag = self.release(out);
         put_last(tag, text, out);
@@ -250,9 +206,10 @@ impl<'a> Response<'a> {
         self,
         after: After,
         done: Result<ResponseText, MailFault>,
-        out: &mut Vec<u8>,
+        out: &mut O,
     ) -> After
-        ensures text { out.new.items ≡ self.entry.text ++ last_words self.entry.tag done }
+        ensures text { O.said out.new ≡ self.entry.text ++ last_words self.entry.tag done }
+        ensures lot { O.lot out.new ≡ self.entry.lot }
         ensures after { result ≡ after_result after done }
     {
         let tag = self.release(out);

@@ -11,11 +11,12 @@ ghost use Rattle.imap_session.specs.inner.Response.{adding};
 ghost use Rattle.imap_session.specs.inner.Store.{Does, last};
 ghost use Rattle.imap_grammar.specs.declared.command.Command.TheVariants as commands;
 
-use crate::response::{Response, hold_room};
+use crate::response::Response;
 use crate::store::Store;
 use crate::texts::ResponseText;
 use imap_answers::write_found;
 use imap_grammar::{Named, Search, SeqSet, Verb};
+use line_io::Outlet;
 use mailbox::{MailFault, Row};
 use std::alloc::Global;
 
@@ -102,10 +103,10 @@ fn search_view<S: Store>(
 }
 
 // Writes which messages were found, as the search asks for it.
-fn write_numbers(
+fn write_numbers<O: Outlet>(
     search: &Search<'_>,
     numbers: &[usize],
-    response: &mut Response<'_>,
+    response: &mut Response<'_, O>,
 ) -> Result<(), MailFault>
     ensures text { OnOk result (response.new ≡ adding
         (found_answer response.old.tag search.now.by_uid search.now.returns numbers.now)
@@ -113,22 +114,22 @@ fn write_numbers(
     ensures err { OnErr result (response.new ≡ response.old) }
     ensures fault { IfErr result (λ f. f ≡ MailFault.NoMemory) }
 {
-    let start = response.out.len();
+    let mut line = Vec::new(response.out.alloc());
     write_found(
         response.tag,
         search.by_uid,
         search.returns,
         numbers,
-        &mut response.out,
+        &mut line,
     )?;
-    hold_room(start, response.held, &mut response.out)
+    response.write(&line)
 }
 
 // After the line: only UID SEARCH shows changes. Answers what the last line says.
-fn finish_search<S: Store>(
+fn finish_search<S: Store, O: Outlet>(
     search: &Search<'_>,
     store: &mut S,
-    response: &mut Response<'_>,
+    response: &mut Response<'_, O>,
 ) -> Result<ResponseText, MailFault>
     ensures { Does S.step
         (messages_done (commands.Search search.now) search.now.by_uid false) last store.old store.new
@@ -143,11 +144,11 @@ fn finish_search<S: Store>(
 }
 
 // A SEARCH in the selected mailbox. Answers what the last line says.
-pub(crate) fn search_messages<S: Store>(
+pub(crate) fn search_messages<S: Store, O: Outlet>(
     alloc: Global,
     search: &Search<'_>,
     store: &mut S,
-    response: &mut Response<'_>,
+    response: &mut Response<'_, O>,
 ) -> Result<ResponseText, MailFault>
     ensures { Does S.step (search_messages response.old.tag search.now) last store.old store.new
         response.old response.new result }

@@ -15,13 +15,14 @@ use crate::store::Store;
 use crate::texts::ResponseText;
 use crate::turn::FIRST;
 use imap_grammar::Name;
+use line_io::Outlet;
 use mailbox::{MailFault, Opening};
 
 // Leaves the mailbox that was selected, if one was, and tells that in room that is held.
-fn leave_previous<S: Store>(
+fn leave_previous<S: Store, O: Outlet>(
     selected: &mut Option<Selected>,
     store: &mut S,
-    response: &mut Response<'_>,
+    response: &mut Response<'_, O>,
 ) -> Result<(), MailFault>
     requires long { length response.old.tag + (LAST + FIRST) ≤ response.old.held }
     ensures done { (x : Exchange)
@@ -83,7 +84,7 @@ fn entered_text(read_only: bool) -> ResponseText
 }
 
 // Tells a client of IMAP4rev1 that no messages are recent, in room that is held.
-fn tell_recent(profile: Profile, response: &mut Response<'_>)
+fn tell_recent<O: Outlet>(profile: Profile, response: &mut Response<'_, O>)
     requires fits { length response.old.tag + (LAST + RECENT) ≤ response.old.held }
     ensures { Adds (recent_line profile) response.old response.new }
 {
@@ -94,13 +95,13 @@ fn tell_recent(profile: Profile, response: &mut Response<'_>)
 }
 
 // Enters a folder's mailbox and tells of it: memory is wanted before that. Answers what the last line says.
-fn enter_folder<S: Store>(
+fn enter_folder<S: Store, O: Outlet>(
     profile: Profile,
     folder: &Folder,
     read_only: bool,
     selected: &mut Option<Selected>,
     store: &mut S,
-    response: &mut Response<'_>,
+    response: &mut Response<'_, O>,
 ) -> Result<ResponseText, MailFault>
     ensures { Moves S.step selected.old selected.new
         (wanting (entering profile read_only folder.now)) last store.old store.new response.old response.new
@@ -119,14 +120,14 @@ fn enter_folder<S: Store>(
 }
 
 // Enters the first folder of this name. Answers what the last line says.
-fn enter_named<S: Store>(
+fn enter_named<S: Store, O: Outlet>(
     profile: Profile,
     folders: &[Folder],
     read_only: bool,
     name: &[u8],
     selected: &mut Option<Selected>,
     store: &mut S,
-    response: &mut Response<'_>,
+    response: &mut Response<'_, O>,
 ) -> Result<ResponseText, MailFault>
     ensures { Moves S.step selected.old selected.new
         (wanting (on_folder name.now folders.now (entering profile read_only))) last store.old store.new
@@ -140,21 +141,21 @@ fn enter_named<S: Store>(
 
 // SELECT and EXAMINE: leaves the mailbox that was selected, then enters the one of this name. Answers what the last line says. Where it isn't entered
 // none is selected, also where memory is refused.
-pub(crate) fn select_mailbox<S: Store>(
+pub(crate) fn select_mailbox<S: Store, O: Outlet>(
     profile: Profile,
     folders: &[Folder],
     read_only: bool,
     name: &Name<'_>,
     selected: &mut Option<Selected>,
     store: &mut S,
-    response: &mut Response<'_>,
+    response: &mut Response<'_, O>,
 ) -> Result<ResponseText, MailFault>
     requires long { length response.old.tag + (LAST + FIRST) ≤ response.old.held }
     ensures { Moves S.step selected.old selected.new
         (selecting profile folders.now selected.old read_only name.now) last store.old store.new response.old response.new result }
 {
     leave_previous(selected, store, response)?;
-    let name = name.to_bytes(*response.out.allocator())?;
+    let name = name.to_bytes(response.out.alloc())?;
     let name = name.as_slice();
     enter_named(profile, folders, read_only, name, selected, store, response)
 }

@@ -21,6 +21,7 @@ use crate::standing::Selected;
 use crate::store::Store;
 use crate::texts::ResponseText;
 use imap_grammar::{Fetch, Search, SeqSet, Store as StoreCommand, Verb};
+use line_io::Outlet;
 use mailbox::MailFault;
 use std::alloc::Global;
 
@@ -51,12 +52,12 @@ fn refusal(selected: Option<Selected>) -> Option<ResponseText>
 }
 
 // FETCH and UID FETCH. They set no \Seen where EXAMINE selected the mailbox.
-pub(crate) fn fetch<S: Store>(
+pub(crate) fn fetch<S: Store, O: Outlet>(
     alloc: Global,
     command: &Fetch<'_>,
     selected: Option<Selected>,
     store: &mut S,
-    response: &mut Response<'_>,
+    response: &mut Response<'_, O>,
 ) -> Result<ResponseText, MailFault>
     ensures { Does S.step
         (on_found (fetch_messages command.now) wrong_state selected) last store.old store.new
@@ -72,12 +73,12 @@ pub(crate) fn fetch<S: Store>(
 }
 
 // SEARCH and UID SEARCH.
-pub(crate) fn search_selected<S: Store>(
+pub(crate) fn search_selected<S: Store, O: Outlet>(
     alloc: Global,
     command: &Search<'_>,
     selected: Option<Selected>,
     store: &mut S,
-    response: &mut Response<'_>,
+    response: &mut Response<'_, O>,
 ) -> Result<ResponseText, MailFault>
     ensures { Does S.step
         (on_found (search_known response.old.tag command.now) wrong_state selected) last store.old store.new
@@ -96,12 +97,12 @@ pub(crate) fn search_selected<S: Store>(
 }
 
 // STORE and UID STORE.
-pub(crate) fn store_flags<S: Store>(
+pub(crate) fn store_flags<S: Store, O: Outlet>(
     alloc: Global,
     command: &StoreCommand<'_>,
     selected: Option<Selected>,
     store: &mut S,
-    response: &mut Response<'_>,
+    response: &mut Response<'_, O>,
 ) -> Result<ResponseText, MailFault>
     ensures { Does S.step (on_found (if_writable
         (store_messages command.now)) wrong_state selected) last store.old store.new response.old
@@ -114,10 +115,10 @@ pub(crate) fn store_flags<S: Store>(
 }
 
 // EXPUNGE.
-pub(crate) fn expunge<S: Store>(
+pub(crate) fn expunge<S: Store, O: Outlet>(
     selected: Option<Selected>,
     store: &mut S,
-    response: &mut Response<'_>,
+    response: &mut Response<'_, O>,
 ) -> Result<ResponseText, MailFault>
     ensures { Does S.step (on_found (if_writable
         (Expunge None (Feed unlimited (completed commands.Expunge)))) wrong_state selected)
@@ -130,12 +131,12 @@ pub(crate) fn expunge<S: Store>(
 }
 
 // UID EXPUNGE.
-pub(crate) fn uid_expunge<S: Store>(
+pub(crate) fn uid_expunge<S: Store, O: Outlet>(
     alloc: Global,
     set: &SeqSet<'_>,
     selected: Option<Selected>,
     store: &mut S,
-    response: &mut Response<'_>,
+    response: &mut Response<'_, O>,
 ) -> Result<ResponseText, MailFault>
     ensures { Does S.step (on_found (if_writable
         (expunge_set set.now)) wrong_state selected) last store.old store.new response.old

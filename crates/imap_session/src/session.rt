@@ -14,6 +14,7 @@ use crate::user::UserName;
 use crate::verdict::{STORED, tell_verdict};
 use delivery_token::Verdict;
 use imap_grammar::{Command, Verb};
+use line_io::Outlet;
 use mailbox::MailFault;
 use std::alloc::{AllocError, Global};
 use std::marker::Model;
@@ -48,9 +49,8 @@ impl Model for Session {
 }
 
 impl Session {
-    ghost use Rattle.std.specs.Prelude.{◌≡◌, ◌≢◌, ◌==◌, ◌^◌, ◌⊎◌, ◌+◌, ◌<◌, ◌≤◌, ◌++◌, ◌↔◌, take, min, if◌then◌else◌, true, false, [], codes, length, is_some, None, Some, Err, OnOk, OnErr, IfOk, vec_len};
+    ghost use Rattle.std.specs.Prelude.{◌≡◌, ◌≢◌, ◌==◌, ◌⊎◌, ◌+◌, ◌<◌, ◌≤◌, ◌++◌, ◌↔◌, take, min, if◌then◌else◌, true, false, [], codes, length, is_some, None, Some, Err, OnOk, OnErr, IfOk};
     ghost use Rattle.std.specs.Option.{option_copied, option_map};
-    ghost use Rattle.std.specs.Vec.{vec_capacity};
     ghost use Rattle.imap_session.specs.Exchange.{Client, Sent as SentSpec, begun_with, kept_tag, Feed, Refused, closed, is_idling, may_send, played, refusal_text, continuing, tagged};
     ghost use Rattle.imap_session.specs.Texts.{response_text};
     ghost use Rattle.imap_session.specs.declared.texts.ResponseText.TheVariants as texts;
@@ -89,14 +89,14 @@ impl Session {
     /// Writes what the server says first (RFC 9051, 7.1.4).
     ///
     /// Errors: `AllocError` where `out` has no room for it and memory was refused; `out` is then as it was.
-    pub fn greet(&self, out: &mut Vec<u8>) -> Result<(), AllocError>
-        ensures ok { OnOk result (out.new.items ≡ out.old.items ++ greeting self.now.profile) }
-        ensures err { OnErr result (out.new.items ≡ out.old.items) }
-        ensures memory { OnErr result (vec_capacity out.old
-            < vec_len out.old + length (greeting self.now.profile)) }
+    pub fn greet<O: Outlet>(&self, out: &mut O) -> Result<(), AllocError>
+        ensures ok { OnOk result (O.said out.new ≡ O.said out.old ++ greeting self.now.profile) }
+        ensures err { OnErr result (O.said out.new ≡ O.said out.old) }
+        ensures memory { OnErr result (O.room out.old < length (greeting self.now.profile)) }
+        ensures lot { O.lot out.new ≡ O.lot out.old }
     {
         let text = ServerText::Greeting(self.profile);
-        out.reserve(text.bytes().len() + 4)?;
+        out.hold(text.bytes().len() + 4)?;
         put_of_server(text, out);
         Ok(())
     }
@@ -109,12 +109,13 @@ impl Session {
     }
 
     // The client has logged in, by a command of this verb.
-    pub(crate) fn log_in(&mut self, tag: &[u8], verb: Verb, out: &mut Vec<u8>) -> After
-        requires fits { vec_len out.old + (length tag.now + LAST) ≤ vec_capacity out.old }
+    pub(crate) fn log_in<O: Outlet>(&mut self, tag: &[u8], verb: Verb, out: &mut O) -> After
+        requires fits { length tag.now + LAST ≤ O.room out.old }
         ensures after { result ≡ After.Go }
         ensures standing { self.new ≡ logged_in self.old }
-        ensures text { out.new.items
-            ≡ out.old.items ++ tagged tag.now (response_text (texts.Completed verb)) }
+        ensures text { O.said out.new
+            ≡ O.said out.old ++ tagged tag.now (response_text (texts.Completed verb)) }
+        ensures lot { O.lot out.new ≡ O.lot out.old }
     {
         self.login = None;
         put_last(tag, ResponseText::Completed(verb), out);
@@ -195,20 +196,21 @@ impl Session {
     }
 
     // Begins to idle. Where memory for the tag is refused, that is told: of a tag of at most 32 bytes it isn't asked.
-    pub(crate) fn begin_idling(
+    pub(crate) fn begin_idling<O: Outlet>(
         &mut self,
         alloc: Global,
-        response: Response<'_>,
-        out: &mut Vec<u8>,
+        response: Response<'_, O>,
+        out: &mut O,
     ) -> After
         ensures begun { result ≡ After.Idle
             → (self.new ≡ record self.old { idling = Some response.entry.tag }) ×
-            (out.new.items ≡ response.entry.text ++ continuing (response_text texts.Idling)) }
+            (O.said out.new ≡ response.entry.text ++ continuing (response_text texts.Idling)) }
         ensures starved { result ≡ After.Go
             → (32 < length response.entry.tag) × (self.new ≡ self.old) ×
-            (out.new.items ≡ response.entry.text
+            (O.said out.new ≡ response.entry.text
             ++ tagged response.entry.tag (response_text texts.OutOfMemory)) }
         ensures only { (result ≡ After.Idle) ⊎ (result ≡ After.Go) }
+        ensures lot { O.lot out.new ≡ response.entry.lot }
     {
         let tag = response.release(out);
         let Ok(kept) = Tag::new(alloc, tag) else {
@@ -221,13 +223,13 @@ impl Session {
     }
 
     // Answers a command other than IDLE, APPEND, COPY and MOVE, behind its first line.
-    pub(crate) fn answer<S: Store>(
+    pub(crate) fn answer<S: Store, O: Outlet>(
         &mut self,
         alloc: Global,
         command: &Command<'_>,
         store: &mut S,
-        mut response: Response<'_>,
-        out: &mut Vec<u8>,
+        mut response: Response<'_, O>,
+        out: &mut O,
     ) -> After
         requires going { self.old.ended ≡ false }
         requires awake { self.old.idling ≡ None }
@@ -239,10 +241,11 @@ impl Session {
         ensures plays { Plays S.step response.entry.tag self.old
             (record self.old { selected = self.new.selected })
             (behind_first_line response.entry.tag self.old command.now) store.old store.new response.entry.text
-            out.new.items result }
+            (O.said out.new) result }
         ensures standing { self.new
             ≡ (closed (record self.old { selected = self.new.selected }) result).standing }
         ensures sends { result ≡ may_send self.new }
+        ensures lot { O.lot out.new ≡ response.entry.lot }
     {
         let done = carry_out(
             alloc,
@@ -259,39 +262,39 @@ impl Session {
     }
 
     // Answers a line where it doesn't idle.
-    fn awake_line<S: Store>(
+    fn awake_line<S: Store, O: Outlet>(
         &mut self,
         alloc: Global,
         line: &[u8],
         store: &mut S,
-        out: &mut Vec<u8>,
+        out: &mut O,
     ) -> Result<After, SessionFault>
         requires going { self.old.ended ≡ false }
         requires awake { self.old.idling ≡ None }
         requires alone { self.old.mailing.begun ≡ None }
         requires unsent { self.old.mailing.sent ≡ None }
         ensures answered { IfOk result (λ after.
-            Answers S.step self.old line.now store.old store.new out.old.items out.new.items after
+            Answers S.step self.old line.now store.old store.new (O.said out.old) (O.said out.new) after
             self.new) }
         ensures lasts { result ≢ Err SessionFault.Ended }
         ensures refused { OnErr result ((self.new ≡ self.old) × (store.new ≡ store.old)
-            × (out.new.items ≡ out.old.items)) }
-        ensures memory { OnErr result (vec_capacity out.old
-            < vec_len out.old + (length line.now + 165)) }
+            × (O.said out.new ≡ O.said out.old)) }
+        ensures memory { OnErr result (O.room out.old < length line.now + 165) }
         ensures folders { self.new.folders ≡ self.old.folders }
         ensures sends { IfOk result (λ after. after ≡ may_send self.new) }
+        ensures lot { O.lot out.new ≡ O.lot out.old }
     {
-        out.reserve(line.len() + LAST + FIRST)?;
+        out.hold(line.len() + LAST + FIRST)?;
         Ok(self.text_line(alloc, line, store, out))
     }
 
     // Answers the line that ended an IDLE.
-    fn end_idling<S: Store>(
+    fn end_idling<S: Store, O: Outlet>(
         &mut self,
         line: &[u8],
         store: &mut S,
-        mut response: Response<'_>,
-        out: &mut Vec<u8>,
+        mut response: Response<'_, O>,
+        out: &mut O,
     ) -> After
         requires going { self.old.ended ≡ false }
         requires awake { self.old.idling ≡ None }
@@ -299,9 +302,10 @@ impl Session {
         requires unsent { self.old.mailing.sent ≡ None }
         ensures plays { Plays S.step response.entry.tag self.old self.old
             (on_idle_line self.old.selected line.now) store.old store.new response.entry.text
-            out.new.items result }
+            (O.said out.new) result }
         ensures standing { self.new ≡ (closed self.old result).standing }
         ensures sends { result ≡ may_send self.new }
+        ensures lot { O.lot out.new ≡ response.entry.lot }
     {
         let done = end_idle(line, self.selected, store, &mut response);
         let after = response.conclude(After::Go, done, out);
@@ -310,29 +314,30 @@ impl Session {
     }
 
     // Answers a line where it idled, with this tag. That is over, unless memory was refused.
-    fn idle_line<S: Store>(
+    fn idle_line<S: Store, O: Outlet>(
         &mut self,
         tag: Tag,
         line: &[u8],
         store: &mut S,
-        out: &mut Vec<u8>,
+        out: &mut O,
     ) -> Result<After, SessionFault>
         requires going { self.old.ended ≡ false }
         requires awake { self.old.idling ≡ None }
         requires alone { self.old.mailing.begun ≡ None }
         requires unsent { self.old.mailing.sent ≡ None }
         ensures answered { IfOk result (λ after. Answers S.step
-            (record self.old { idling = Some tag }) line.now store.old store.new out.old.items
-            out.new.items after self.new) }
+            (record self.old { idling = Some tag }) line.now store.old store.new (O.said out.old)
+            (O.said out.new) after self.new) }
         ensures lasts { result ≢ Err SessionFault.Ended }
         ensures refused { OnErr result ((self.new ≡ record self.old { idling = Some tag })
             × (store.new ≡ store.old) ×
-            (out.new.items ≡ out.old.items)) }
-        ensures memory { OnErr result (vec_capacity out.old < vec_len out.old + (length tag + 48)) }
+            (O.said out.new ≡ O.said out.old)) }
+        ensures memory { OnErr result (O.room out.old < length tag + 48) }
         ensures folders { self.new.folders ≡ self.old.folders }
         ensures sends { IfOk result (λ after. after ≡ may_send self.new) }
+        ensures lot { O.lot out.new ≡ O.lot out.old }
     {
-        if out.reserve(tag.as_slice().len() + LAST).is_err() {
+        if out.hold(tag.as_slice().len() + LAST).is_err() {
             self.idling = Some(tag);
             return Err(SessionFault::NoMemory);
         }
@@ -357,26 +362,27 @@ impl Session {
     /// Errors, after which the session, the store and `out` are as they were: `Ended` exactly where the session has ended; `NoMemory` where
     /// memory was refused, and `out` has no room for the line's length and 165 bytes more; where the line ends an IDLE or an APPEND, for the
     /// length of its tag and 48 more; where it goes on with another command, for the length of its tag and 8,347 more.
-    pub fn line<S: Store>(
+    pub fn line<S: Store, O: Outlet>(
         &mut self,
         alloc: Global,
         line: &[u8],
         store: &mut S,
-        out: &mut Vec<u8>,
+        out: &mut O,
     ) -> Result<After, SessionFault>
         requires unsent { self.old.mailing.sent ≡ None }
         // What was asked of the store, what is said, and how the session stands then is what `turn_of` tells, by the store's answers.
         ensures answered { IfOk result (λ after.
-            Answers S.step self.old line.now store.old store.new out.old.items out.new.items after
+            Answers S.step self.old line.now store.old store.new (O.said out.old) (O.said out.new) after
             self.new) }
         ensures ended { (result ≡ Err SessionFault.Ended) ↔ (self.old.ended ≡ true) }
         ensures refused { OnErr result ((self.new ≡ self.old) × (store.new ≡ store.old)
-            × (out.new.items ≡ out.old.items)) }
+            × (O.said out.new ≡ O.said out.old)) }
         // Where `out` had the room of `room_for`, NoMemory never comes.
         ensures memory { result ≡ Err SessionFault.NoMemory
-            → vec_capacity out.old < vec_len out.old + room_for self.old line.now }
+            → O.room out.old < room_for self.old line.now }
         ensures folders { self.new.folders ≡ self.old.folders }
         ensures sends { IfOk result (λ after. after ≡ may_send self.new) }
+        ensures lot { O.lot out.new ≡ O.lot out.old }
     {
         if self.ended {
             return Err(SessionFault::Ended);
@@ -437,13 +443,13 @@ impl Session {
     }
 
     // Answers the rest of a line behind a literal.
-    fn rest_line<S: Store>(
+    fn rest_line<S: Store, O: Outlet>(
         &mut self,
         alloc: Global,
         begun: PendingLiteral,
         line: &[u8],
         store: &mut S,
-        out: &mut Vec<u8>,
+        out: &mut O,
     ) -> Result<After, SessionFault>
         requires going { self.old.ended ≡ false }
         requires alone { self.old.mailing.begun ≡ None }
@@ -451,21 +457,22 @@ impl Session {
         requires room { HasFirstRoom begun }
         ensures answered { IfOk result (λ after. Answers S.step
             (record self.old { mailing = record self.old.mailing { begun = Some (pending_of begun) } })
-            line.now store.old store.new out.old.items out.new.items after self.new) }
+            line.now store.old store.new (O.said out.old) (O.said out.new) after self.new) }
         ensures lasts { result ≢ Err SessionFault.Ended }
         ensures refused { OnErr result ((self.new
             ≡ record self.old {
               mailing = record self.old.mailing
                   { begun = Some (pending_of begun) };
             }) ×
-            (store.new ≡ store.old) × (out.new.items ≡ out.old.items)) }
-        ensures memory { OnErr result (vec_capacity out.old
-            < vec_len out.old + (length begun.tag + room_rest (purpose_of begun.purpose))) }
+            (store.new ≡ store.old) × (O.said out.new ≡ O.said out.old)) }
+        ensures memory { OnErr result (O.room out.old
+            < length begun.tag + room_rest (purpose_of begun.purpose)) }
         ensures folders { self.new.folders ≡ self.old.folders }
         ensures sends { IfOk result (λ after. after ≡ may_send self.new) }
+        ensures lot { O.lot out.new ≡ O.lot out.old }
     {
         if out
-            .reserve(begun.tag.as_slice().len() + begun.purpose.room())
+            .hold(begun.tag.as_slice().len() + begun.purpose.room())
             .is_err()
         {
             self.mailing.begun = Some(begun);
@@ -479,25 +486,26 @@ impl Session {
     }
 
     // Hears the verdict on a message that was appended.
-    fn hear_append<S: Store>(
+    fn hear_append<S: Store, O: Outlet>(
         &mut self,
         tag: &[u8],
         mailbox: u8,
         verdict: Verdict,
         store: &mut S,
-        out: &mut Vec<u8>,
+        out: &mut O,
     ) -> After
         requires going { self.old.ended ≡ false }
         requires awake { self.old.idling ≡ None }
         requires alone { self.old.mailing.begun ≡ None }
         requires unsent { self.old.mailing.sent ≡ None }
-        requires fits { vec_len out.old + (length tag.now + STORED) ≤ vec_capacity out.old }
+        requires fits { length tag.now + STORED ≤ O.room out.old }
         ensures plays { Plays S.step tag.now self.old self.old
             (on_verdict self.old.mailing self.old.selected Client mailbox verdict) store.old store.new
-            out.old.items out.new.items result }
+            (O.said out.old) (O.said out.new) result }
         ensures standing { self.new ≡ (closed self.old result).standing }
         ensures mailing { self.new.mailing ≡ self.old.mailing }
         ensures sends { result ≡ may_send self.new }
+        ensures lot { O.lot out.new ≡ O.lot out.old }
     {
         let response = Response::new(tag, STORED, out);
         let after = tell_verdict(mailbox, verdict, self.selected, store, response, out);
@@ -506,26 +514,27 @@ impl Session {
     }
 
     // Hears the verdict on a message, in room that was reserved.
-    fn hear_in_room<S: Store>(
+    fn hear_in_room<S: Store, O: Outlet>(
         &mut self,
         sent: Sent,
         verdict: Verdict,
         store: &mut S,
-        out: &mut Vec<u8>,
+        out: &mut O,
     ) -> After
         requires going { self.old.ended ≡ false }
         requires awake { self.old.idling ≡ None }
         requires alone { self.old.mailing.begun ≡ None }
         requires unsent { self.old.mailing.sent ≡ None }
         requires roomy { IsRoomy sent.origin }
-        requires fits { vec_len out.old + (length sent.tag
-            + (STORED + room_of_sets (origin_of sent.origin))) ≤ vec_capacity out.old }
+        requires fits { length sent.tag
+            + (STORED + room_of_sets (origin_of sent.origin)) ≤ O.room out.old }
         ensures had { Had (played sent.tag self.old
             (on_verdict self.old.mailing self.old.selected (origin_of sent.origin) sent.append.mailbox
-            verdict)) S.step store.old store.new out.old.items out.new.items result self.new }
+            verdict)) S.step store.old store.new (O.said out.old) (O.said out.new) result self.new }
         ensures folders { self.new.folders ≡ self.old.folders }
         ensures alone { self.new.mailing.begun ≡ None }
         ensures sends { result ≡ may_send self.new }
+        ensures lot { O.lot out.new ≡ O.lot out.old }
     {
         let Sent {
             tag,
@@ -540,34 +549,35 @@ impl Session {
     }
 
     // Hears the verdict on a message that was submitted. It is no longer waited for, unless memory was refused.
-    fn hear<S: Store>(
+    fn hear<S: Store, O: Outlet>(
         &mut self,
         sent: Sent,
         verdict: Verdict,
         store: &mut S,
-        out: &mut Vec<u8>,
+        out: &mut O,
     ) -> Result<After, SessionFault>
         requires going { self.old.ended ≡ false }
         requires unsent { self.old.mailing.sent ≡ None }
         requires roomy { IsRoomy sent.origin }
         ensures answered { IfOk result (λ after. AnswersVerdict S.step
             (record self.old { mailing = record self.old.mailing { sent = Some (sent_of sent) } })
-            verdict store.old store.new out.old.items out.new.items after self.new) }
+            verdict store.old store.new (O.said out.old) (O.said out.new) after self.new) }
         ensures lasts { result ≢ Err SessionFault.Ended }
         ensures refused { OnErr result ((self.new
             ≡ record self.old {
               mailing = record self.old.mailing
                   { sent = Some (sent_of sent) };
             }) ×
-            (store.new ≡ store.old) × (out.new.items ≡ out.old.items)) }
-        ensures memory { OnErr result (vec_capacity out.old
-            < vec_len out.old + (length sent.tag + (STORED + room_of_sets (origin_of sent.origin)))) }
+            (store.new ≡ store.old) × (O.said out.new ≡ O.said out.old)) }
+        ensures memory { OnErr result (O.room out.old
+            < length sent.tag + (STORED + room_of_sets (origin_of sent.origin))) }
         ensures done { OnOk result (self.new.mailing.begun ≡ None) }
         ensures folders { self.new.folders ≡ self.old.folders }
         ensures sends { IfOk result (λ after. after ≡ may_send self.new) }
+        ensures lot { O.lot out.new ≡ O.lot out.old }
     {
         let room = sent.tag.as_slice().len() + (STORED + sent.origin.room());
-        if out.reserve(room).is_err() {
+        if out.hold(room).is_err() {
             self.mailing.sent = Some(sent);
             return Err(SessionFault::NoMemory);
         }
@@ -602,26 +612,27 @@ impl Session {
     ///
     /// Errors, after which the session, the store and `out` are as they were, and the same verdict is waited for: `Ended` exactly where the
     /// session has ended; `NoMemory` where memory was refused, and `out` has no room for as many bytes as `verdict_room` tells.
-    pub fn appended<S: Store>(
+    pub fn appended<S: Store, O: Outlet>(
         &mut self,
         verdict: Verdict,
         store: &mut S,
-        out: &mut Vec<u8>,
+        out: &mut O,
     ) -> Result<After, SessionFault>
         requires waits { is_some self.old.mailing.sent ≡ true }
         // What was asked of the store, what is said, and how the session stands then is what `turn_of_verdict` tells, by the store's answers.
         ensures answered { IfOk result (λ after. AnswersVerdict S.step self.old verdict
-            store.old store.new out.old.items out.new.items after self.new) }
+            store.old store.new (O.said out.old) (O.said out.new) after self.new) }
         ensures ended { (result ≡ Err SessionFault.Ended) ↔ (self.old.ended ≡ true) }
         ensures refused { OnErr result ((self.new ≡ self.old) × (store.new ≡ store.old)
-            × (out.new.items ≡ out.old.items)) }
+            × (O.said out.new ≡ O.said out.old)) }
         // Where `out` had the room that `verdict_room` tells, NoMemory never comes.
         ensures memory { result ≡ Err SessionFault.NoMemory
-            → vec_capacity out.old < vec_len out.old + room_for_verdict self.old }
+            → O.room out.old < room_for_verdict self.old }
         // Once it is answered, no literal is waited for. A verdict may be, on the next message that is copied.
         ensures done { OnOk result (self.new.mailing.begun ≡ None) }
         ensures folders { self.new.folders ≡ self.old.folders }
         ensures sends { IfOk result (λ after. after ≡ may_send self.new) }
+        ensures lot { O.lot out.new ≡ O.lot out.old }
     {
         if self.ended {
             return Err(SessionFault::Ended);
@@ -637,15 +648,16 @@ impl Session {
     ///
     /// Errors, after which the session and `out` are as they were: `Ended` exactly where the session has ended; `NoMemory` where `out` has no
     /// room for the answer and memory was refused.
-    pub fn long_line(&mut self, out: &mut Vec<u8>) -> Result<After, SessionFault>
+    pub fn long_line<O: Outlet>(&mut self, out: &mut O) -> Result<After, SessionFault>
         // One line is said, that of `long_line_text`, and a command may follow: an IDLE or APPEND that was begun is over.
         ensures answered { IfOk result (λ after. (after ≡ After.Go)
-            × (out.new.items ≡ out.old.items ++ long_line_text self.old)) }
+            × (O.said out.new ≡ O.said out.old ++ long_line_text self.old)) }
         ensures standing { OnOk result (self.new ≡ (turn_of_long_line self.old).standing) }
         ensures ended { (result ≡ Err SessionFault.Ended) ↔ (self.old.ended ≡ true) }
-        ensures refused { OnErr result ((self.new ≡ self.old) × (out.new.items ≡ out.old.items)) }
+        ensures refused { OnErr result ((self.new ≡ self.old) × (O.said out.new ≡ O.said out.old)) }
         ensures memory { result ≡ Err SessionFault.NoMemory
-            → vec_capacity out.old < vec_len out.old + length (long_line_text self.old) }
+            → O.room out.old < length (long_line_text self.old) }
+        ensures lot { O.lot out.new ≡ O.lot out.old }
     {
         if self.ended {
             return Err(SessionFault::Ended);
@@ -653,7 +665,7 @@ impl Session {
         if let Some(begun) = &self.mailing.begun {
             let text = long_rest_text(begun);
             let tag = begun.tag.as_slice();
-            out.reserve(tag.len() + text.bytes().len() + 3)?;
+            out.hold(tag.len() + text.bytes().len() + 3)?;
             put_tagged(tag, text, out);
             self.mailing.begun = None;
             self.idling = None;
@@ -662,13 +674,13 @@ impl Session {
         match &self.idling {
             None => {
                 let text = ResponseText::LineTooLong;
-                out.reserve(text.bytes().len() + 4)?;
+                out.hold(text.bytes().len() + 4)?;
                 put_untagged(text, out);
             }
             Some(tag) => {
                 let tag = tag.as_slice();
                 let text = ResponseText::ExpectedDone;
-                out.reserve(tag.len() + text.bytes().len() + 3)?;
+                out.hold(tag.len() + text.bytes().len() + 3)?;
                 put_tagged(tag, text, out);
                 self.idling = None;
             }
@@ -677,10 +689,11 @@ impl Session {
     }
 
     // Says BYE for a fault that ends the session.
-    fn part(&mut self, fault: MailFault, response: Response<'_>, out: &mut Vec<u8>)
-        ensures text { out.new.items
+    fn part<O: Outlet>(&mut self, fault: MailFault, response: Response<'_, O>, out: &mut O)
+        ensures text { O.said out.new
             ≡ response.entry.text ++ refusal_text response.entry.tag fault }
         ensures standing { self.new ≡ record self.old { ended = true } }
+        ensures lot { O.lot out.new ≡ response.entry.lot }
     {
         let _ = response.conclude(After::Bye, Err(fault), out);
         self.ended = true;
@@ -692,20 +705,20 @@ impl Session {
     ///
     /// Errors, after which the session and `out` are as they were: `Ended` exactly where the session has ended, and the store isn't asked;
     /// `NoMemory` where memory was refused, by the store or for a BYE line, in which case it isn't asked.
-    pub fn idle_turn<S: Store>(
+    pub fn idle_turn<S: Store, O: Outlet>(
         &mut self,
         store: &mut S,
-        out: &mut Vec<u8>,
+        out: &mut O,
     ) -> Result<usize, SessionFault>
         // What was asked of the store, what is said, and how the session stands then is what the spec's `idle_turn` tells, for so many changes.
         ensures turned { IfOk result (λ count.
-            IdleTurns S.step self.old store.old store.new out.old.items out.new.items count
+            IdleTurns S.step self.old store.old store.new (O.said out.old) (O.said out.new) count
             self.new) }
         ensures mailing { self.new.mailing ≡ self.old.mailing }
         ensures few { IfOk result (λ count. count ≤ 64) }
         // Where it shows nothing and the session goes on, nothing is changed and nothing said.
         ensures quiet { IfOk result (λ count. count ≡ 0 → self.new.ended ≡ false
-            → (self.new ≡ self.old) × (out.new.items ≡ out.old.items)) }
+            → (self.new ≡ self.old) × (O.said out.new ≡ O.said out.old)) }
         // Ended exactly where the session has ended, and the store is as it was.
         ensures ended { (result ≡ Err SessionFault.Ended) ↔ (self.old.ended ≡ true) }
         ensures over { result ≡ Err SessionFault.Ended → store.new ≡ store.old }
@@ -713,9 +726,10 @@ impl Session {
         ensures starved { result ≡ Err SessionFault.NoMemory → Starves S.step store.old store.new }
         // Where `out` has room for a BYE line, the store was asked.
         ensures asked { result ≡ Err SessionFault.NoMemory
-            → vec_len out.old + 48 ≤ vec_capacity out.old →
+            → 48 ≤ O.room out.old →
             S.step store.old (Feed most_changes) (Refused MailFault.NoMemory) store.new }
-        ensures refused { OnErr result ((self.new ≡ self.old) × (out.new.items ≡ out.old.items)) }
+        ensures refused { OnErr result ((self.new ≡ self.old) × (O.said out.new ≡ O.said out.old)) }
+        ensures lot { O.lot out.new ≡ O.lot out.old }
     {
         if self.ended {
             return Err(SessionFault::Ended);
@@ -726,7 +740,7 @@ impl Session {
         let Some(_) = self.selected else {
             return Ok(0);
         };
-        out.reserve(LAST)?;
+        out.hold(LAST)?;
         let mut response = Response::new(b"", LAST, out);
         match response.show(MOST_SHOWN_A_TURN, store) {
             Ok(count) => {

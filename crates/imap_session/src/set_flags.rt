@@ -9,21 +9,22 @@ ghost use Rattle.imap_answers.specs.Answers.{flags_answer};
 ghost use Rattle.imap_session.specs.inner.Response.{adding};
 ghost use Rattle.imap_session.specs.inner.Store.{Does, last};
 
-use crate::response::{Response, hold_room};
+use crate::response::Response;
 use crate::store::Store;
 use crate::texts::ResponseText;
 use change_ring::Flags;
 use imap_answers::write_stored;
 use imap_grammar::{Named, Store as StoreCommand, Verb};
+use line_io::Outlet;
 use mailbox::MailFault;
 use std::alloc::Global;
 
 // Writes the answer for a message, unless the client asked for silence.
-fn write_changed(
+fn write_changed<O: Outlet>(
     command: &StoreCommand<'_>,
     message: Named,
     flags: Flags,
-    response: &mut Response<'_>,
+    response: &mut Response<'_, O>,
 ) -> Result<(), MailFault>
     ensures text { OnOk result (response.new ≡ adding
         (if command.now.silent then [] else flags_answer command.now.by_uid message.position
@@ -35,20 +36,20 @@ fn write_changed(
     if command.silent {
         return Ok(());
     }
-    let start = response.out.len();
+    let mut line = Vec::new(response.out.alloc());
     let Named { position, uid } = message;
-    if write_stored(position, command.by_uid, uid, flags, &mut response.out).is_err() {
+    if write_stored(position, command.by_uid, uid, flags, &mut line).is_err() {
         return Err(MailFault::NoMemory);
     }
-    hold_room(start, response.held, &mut response.out)
+    response.write(&line)
 }
 
 // Changes the flags of one message, and says whether it is there.
-fn store_one<S: Store>(
+fn store_one<S: Store, O: Outlet>(
     command: &StoreCommand<'_>,
     message: Named,
     store: &mut S,
-    response: &mut Response<'_>,
+    response: &mut Response<'_, O>,
 ) -> Result<bool, MailFault>
     ensures { (view : List ℕ) (uid : ℕ) → message ≡ named_at view uid → (x y : Exchange)
         → Does S.step
@@ -63,11 +64,11 @@ fn store_one<S: Store>(
 }
 
 // Changes the flags of these messages, and says whether one of them is gone.
-fn store_all<S: Store>(
+fn store_all<S: Store, O: Outlet>(
     command: &StoreCommand<'_>,
     messages: &[Named],
     store: &mut S,
-    response: &mut Response<'_>,
+    response: &mut Response<'_, O>,
 ) -> Result<bool, MailFault>
     ensures { (view uids : List ℕ) → messages.now ≡ map (named_at view) uids
         → (done : Bool → Exchange) → Does S.step
@@ -85,11 +86,11 @@ fn store_all<S: Store>(
 }
 
 // After the last message: only UID STORE shows changes. Answers what the last line says.
-fn finish_store<S: Store>(
+fn finish_store<S: Store, O: Outlet>(
     command: &StoreCommand<'_>,
     gone: bool,
     store: &mut S,
-    response: &mut Response<'_>,
+    response: &mut Response<'_, O>,
 ) -> Result<ResponseText, MailFault>
     ensures { Does S.step
         (messages_done (commands.Store command.now) command.now.by_uid gone) last store.old
@@ -106,11 +107,11 @@ fn finish_store<S: Store>(
 }
 
 // A STORE in the selected mailbox. Answers what the last line says.
-pub(crate) fn store_messages<S: Store>(
+pub(crate) fn store_messages<S: Store, O: Outlet>(
     alloc: Global,
     command: &StoreCommand<'_>,
     store: &mut S,
-    response: &mut Response<'_>,
+    response: &mut Response<'_, O>,
 ) -> Result<ResponseText, MailFault>
     ensures { Does S.step
         (on_set command.now.by_uid command.now.set (λ view uids. storing command.now view

@@ -1,7 +1,7 @@
 //! What a session asks of the mailboxes of its user: a call for each event of a mailbox, and the view.
 //! Locks, rings and cursors are the store's matter.
 
-ghost use Rattle.std.specs.Prelude.{◌≡◌, ◌≢◌, ◌≤◌, IfErr, ◌⊎◌};
+ghost use Rattle.std.specs.Prelude.{◌≡◌, ◌≢◌, ◌≤◌, IfErr, ◌⊎◌, ◌+◌, vec_len};
 ghost use Rattle.std.specs.Option.{option_copied};
 ghost use Rattle.std.specs.Vec.{vec_capacity};
 ghost use Rattle.imap_session.specs.Exchange.{Call, Enter, Look, Read, Count, Alter, Expunge, Feed, Leave, Discard, Answer, Entered, Found, Counted, Altered, Left};
@@ -53,23 +53,34 @@ pub trait Store {
 
     /// Shows all that is pending, then removes the messages that have \Deleted, of these UIDs where some are
     /// named. Answers how many went.
-    fn expunge(&mut self, uids: Option<&[u32]>, out: &mut Vec<u8>) -> Result<usize, MailFault>
+    fn expunge(
+        &mut self,
+        uids: Option<&[u32]>,
+        spare: usize,
+        out: &mut Vec<u8>,
+    ) -> Result<usize, MailFault>
         // It met a view, showed changes behind `out` as they count there, and removed as many messages as it answers. A refusal writes nothing.
         ensures event { Expunges (λ a.
             step self.old (Expunge (option_copied uids.entry)) a self.new) out.old.items
             out.new.items result }
 
         // The room of `out` never becomes less.
-        ensures room { vec_capacity out.old ≤ vec_capacity out.new };
+        ensures room { vec_capacity out.old ≤ vec_capacity out.new }
+        // Where room for `spare` more bytes stood behind `out`, it stands there still.
+        ensures spare { vec_len out.old + spare ≤ vec_capacity out.old
+            → vec_len out.new + spare ≤ vec_capacity out.new };
 
     /// Shows the changes that are pending, so many of them at most. Answers how many it showed.
-    fn feed(&mut self, limit: usize, out: &mut Vec<u8>) -> Result<usize, MailFault>
+    fn feed(&mut self, limit: usize, spare: usize, out: &mut Vec<u8>) -> Result<usize, MailFault>
         // It met a view and showed as many changes as it answers, `limit` at most, as they count there. A refusal writes nothing.
         ensures event { Feeds (λ a.
             step self.old (Feed limit) a self.new) limit out.old.items out.new.items result }
 
         // The room of `out` never becomes less.
         ensures room { vec_capacity out.old ≤ vec_capacity out.new }
+        // Where room for `spare` more bytes stood behind `out`, it stands there still.
+        ensures spare { vec_len out.old + spare ≤ vec_capacity out.old
+            → vec_len out.new + spare ≤ vec_capacity out.new }
         ensures faults { IfErr result (λ f. f ≢ MailFault.Spent) };
 
     /// Leaves the mailbox, with its messages that have \Deleted removed or not. Answers how many went.

@@ -1,8 +1,7 @@
 //! One command, carried out: the part that fits it, in the state that it wants, and what its last line says.
 //! What each part does is told in the modules of the commands.
 
-ghost use Rattle.std.specs.Prelude.{◌≡◌, ◌+◌, ◌≤◌, ◌++◌, ◌||◌, length, true, false, List, ℕ, Option, None, IfSome, IfNone, vec_len};
-ghost use Rattle.std.specs.Vec.{vec_capacity};
+ghost use Rattle.std.specs.Prelude.{◌≡◌, ◌+◌, ◌≤◌, ◌++◌, ◌||◌, length, true, false, List, ℕ, Option, None, IfSome, IfNone};
 ghost use Rattle.imap_grammar.specs.declared.command.Command.TheVariants as commands;
 ghost use Rattle.imap_session.specs.Commands.{completed, fault_text, on_idle_line, showing};
 ghost use Rattle.imap_session.specs.Exchange.{Mailing};
@@ -19,6 +18,7 @@ use crate::standing::{After, Folder, Profile, Selected};
 use crate::store::Store;
 use crate::texts::{ResponseText, ServerText};
 use imap_grammar::{Append, Command, CopyMessages, ImapFault, Verb, is_done};
+use line_io::Outlet;
 use mailbox::MailFault;
 use std::alloc::Global;
 
@@ -26,9 +26,10 @@ use std::alloc::Global;
 pub(crate) const FIRST: usize = 117;
 
 // Writes what is said of a line that is no command, in room that was reserved.
-pub(crate) fn put_fault(profile: Profile, fault: &ImapFault<'_>, out: &mut Vec<u8>)
-    requires fits { vec_len out.old + length (fault_text profile fault.now) ≤ vec_capacity out.old }
-    ensures text { out.new.items ≡ out.old.items ++ fault_text profile fault.now }
+pub(crate) fn put_fault<O: Outlet>(profile: Profile, fault: &ImapFault<'_>, out: &mut O)
+    requires fits { length (fault_text profile fault.now) ≤ O.room out.old }
+    ensures text { O.said out.new ≡ O.said out.old ++ fault_text profile fault.now }
+    ensures lot { O.lot out.new ≡ O.lot out.old }
 {
     match fault {
         ImapFault::NoTag => {
@@ -83,11 +84,11 @@ pub(crate) fn copy_of<'a, 'b>(said: &'b Command<'a>) -> Option<&'b CopyMessages<
 
 /// Answers a line of a session that idles but for the last line, and answers what that says: DONE shows what is pending, where a mailbox is
 /// selected, and any other line is refused.
-pub(crate) fn end_idle<S: Store>(
+pub(crate) fn end_idle<S: Store, O: Outlet>(
     line: &[u8],
     selected: Option<Selected>,
     store: &mut S,
-    response: &mut Response<'_>,
+    response: &mut Response<'_, O>,
 ) -> Result<ResponseText, MailFault>
     ensures { Does S.step (on_idle_line selected line.now) last store.old store.new response.old
         response.new result }
@@ -100,10 +101,10 @@ pub(crate) fn end_idle<S: Store>(
 }
 
 // CHECK: the same as NOOP (RFC 3501, 6.4.1).
-fn check<S: Store>(
+fn check<S: Store, O: Outlet>(
     selected: Option<Selected>,
     store: &mut S,
-    response: &mut Response<'_>,
+    response: &mut Response<'_, O>,
 ) -> Result<ResponseText, MailFault>
     ensures { Does S.step (showing selected (completed commands.Check)) last store.old store.new
         response.old response.new result }
@@ -113,10 +114,10 @@ fn check<S: Store>(
 }
 
 // NOOP: what is pending is shown, where a mailbox is selected.
-fn note_nothing<S: Store>(
+fn note_nothing<S: Store, O: Outlet>(
     selected: Option<Selected>,
     store: &mut S,
-    response: &mut Response<'_>,
+    response: &mut Response<'_, O>,
 ) -> Result<ResponseText, MailFault>
     ensures { Does S.step (showing selected (completed commands.Noop)) last store.old store.new
         response.old response.new result }
@@ -126,13 +127,17 @@ fn note_nothing<S: Store>(
 }
 
 /// Writes what a command says of the server before all else, in room that was reserved, and answers how many bytes that is. Most say nothing.
-pub(crate) fn put_first_line(profile: Profile, command: &Command<'_>, out: &mut Vec<u8>) -> usize
-    requires fits { vec_len out.old + FIRST ≤ vec_capacity out.old }
-    ensures line { out.new.items ≡ out.old.items ++ first_line profile command.now }
+pub(crate) fn put_first_line<O: Outlet>(
+    profile: Profile,
+    command: &Command<'_>,
+    out: &mut O,
+) -> usize
+    requires fits { FIRST ≤ O.room out.old }
+    ensures line { O.said out.new ≡ O.said out.old ++ first_line profile command.now }
     ensures length { result ≡ length (first_line profile command.now) }
-    ensures len { vec_len out.new ≡ vec_len out.old + result }
     ensures short { result ≤ FIRST }
-    ensures capacity { vec_capacity out.old ≤ vec_capacity out.new }
+    ensures room { O.room out.old ≤ O.room out.new + result }
+    ensures lot { O.lot out.new ≡ O.lot out.old }
 {
     match command {
         Command::Capability => put_of_server(ServerText::Capabilities(profile), out),
@@ -145,14 +150,14 @@ pub(crate) fn put_first_line(profile: Profile, command: &Command<'_>, out: &mut 
 }
 
 // Carries out a command other than IDLE, APPEND, COPY and MOVE but for its first line and its last, and answers what that says.
-pub(crate) fn carry_out<S: Store>(
+pub(crate) fn carry_out<S: Store, O: Outlet>(
     alloc: Global,
     profile: Profile,
     folders: &[Folder],
     command: &Command<'_>,
     selected: &mut Option<Selected>,
     store: &mut S,
-    response: &mut Response<'_>,
+    response: &mut Response<'_, O>,
 ) -> Result<ResponseText, MailFault>
     requires other { is_open command.now ≡ false }
     requires long { length response.old.tag + (LAST + FIRST)

@@ -13,7 +13,7 @@ use crate::standing::{After, Selected};
 use crate::store::Store;
 use crate::texts::ResponseText;
 use delivery_token::{Refusal, Verdict};
-use line_io::put;
+use line_io::Outlet;
 
 /// Room for the line that tells that copies of messages were stored which are moved, beside the sets of their UIDs.
 pub(crate) const MOVED: usize = 56;
@@ -36,36 +36,38 @@ pub(crate) fn refused_text(why: Refusal) -> ResponseText
 
 // Ends a response with the line that tells where an appended message was stored.
 #[tactic(auto, using(crate::proofs::Verdicts::ten_digits))]
-fn end_appended(response: Response<'_>, uidvalidity: u32, uid: u32, out: &mut Vec<u8>)
+fn end_appended<O: Outlet>(response: Response<'_, O>, uidvalidity: u32, uid: u32, out: &mut O)
     requires long { length response.tag + STORED ≤ response.held }
-    ensures { out.new.items ≡ response.entry.text
+    ensures text { O.said out.new ≡ response.entry.text
         ++ tagged response.entry.tag (appended_words uidvalidity uid) }
+    ensures lot { O.lot out.new ≡ response.entry.lot }
 {
     let mut validity = itoa::Buffer::new();
     let mut number = itoa::Buffer::new();
     let tag = response.release(out);
-    put(tag, out);
-    put(b" OK [APPENDUID ", out);
-    put(validity.format(uidvalidity).as_bytes(), out);
-    put(b" ", out);
-    put(number.format(uid).as_bytes(), out);
-    put(b"] APPEND completed\r\n", out);
+    out.put(tag);
+    out.put(b" OK [APPENDUID ");
+    out.put(validity.format(uidvalidity).as_bytes());
+    out.put(b" ");
+    out.put(number.format(uid).as_bytes());
+    out.put(b"] APPEND completed\r\n");
 }
 
 // Shows what is pending in the selected mailbox, and tells that an appended message has this UID in a mailbox of this UIDVALIDITY.
-fn tell_uid<S: Store>(
+fn tell_uid<S: Store, O: Outlet>(
     uidvalidity: u32,
     uid: u32,
     selected: Option<Selected>,
     store: &mut S,
-    mut response: Response<'_>,
-    out: &mut Vec<u8>,
+    mut response: Response<'_, O>,
+    out: &mut O,
 ) -> After
     requires long { length response.tag + STORED ≤ response.held }
     ensures plays { (now : Standing) → Plays S.step response.entry.tag now now
         (told_appended selected uid uidvalidity) store.old store.new response.entry.text
-        out.new.items result }
+        (O.said out.new) result }
     ensures only { (result ≡ After.Go) ⊎ (result ≡ After.Bye) }
+    ensures lot { O.lot out.new ≡ response.entry.lot }
 {
     match show_pending(selected, store, &mut response) {
         Ok(()) => {
@@ -77,19 +79,20 @@ fn tell_uid<S: Store>(
 }
 
 // Tells that an appended message has this UID in this mailbox, which is counted for its UIDVALIDITY.
-fn tell_stored<S: Store>(
+fn tell_stored<S: Store, O: Outlet>(
     mailbox: u8,
     uid: u32,
     selected: Option<Selected>,
     store: &mut S,
-    response: Response<'_>,
-    out: &mut Vec<u8>,
+    response: Response<'_, O>,
+    out: &mut O,
 ) -> After
     requires long { length response.tag + STORED ≤ response.held }
     ensures plays { (now : Standing) → Plays S.step response.entry.tag now now
         (with_validity mailbox (told_appended selected uid)) store.old store.new response.entry.text
-        out.new.items result }
+        (O.said out.new) result }
     ensures only { (result ≡ After.Go) ⊎ (result ≡ After.Bye) }
+    ensures lot { O.lot out.new ≡ response.entry.lot }
 {
     match store.status(mailbox) {
         Ok(status) => tell_uid(status.uidvalidity, uid, selected, store, response, out),
@@ -98,19 +101,20 @@ fn tell_stored<S: Store>(
 }
 
 // Answers the verdict on an appended message that was for this mailbox.
-pub(crate) fn tell_verdict<S: Store>(
+pub(crate) fn tell_verdict<S: Store, O: Outlet>(
     mailbox: u8,
     verdict: Verdict,
     selected: Option<Selected>,
     store: &mut S,
-    response: Response<'_>,
-    out: &mut Vec<u8>,
+    response: Response<'_, O>,
+    out: &mut O,
 ) -> After
     requires long { length response.tag + STORED ≤ response.held }
     ensures plays { (mailing : Mailing) (now : Standing) → Plays S.step response.entry.tag now now
         (on_verdict mailing selected Client mailbox verdict) store.old store.new response.entry.text
-        out.new.items result }
+        (O.said out.new) result }
     ensures only { (result ≡ After.Go) ⊎ (result ≡ After.Bye) }
+    ensures lot { O.lot out.new ≡ response.entry.lot }
 {
     match verdict {
         Verdict::Refused(why) => response.conclude(After::Go, Ok(refused_text(why)), out),

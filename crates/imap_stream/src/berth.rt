@@ -30,7 +30,9 @@ pub trait Hush {
 
 // The visit has a look, unless it is over. Answers whether that ended it: its reader may wait then for
 // bytes that nobody would answer.
-fn ends_by_a_look<B: Naming, R: Wait, G: Gate, W: Sink>(visit: &mut Visit<'_, B, R, G, W>) -> bool
+fn ends_by_a_look<B: Naming, R: Wait, G: Gate, W: Sink + Drop>(
+    visit: &mut Visit<'_, B, R, G, W>,
+) -> bool
     ensures over { is_over visit.old ≡ true → (result ≡ false) × (visit.new ≡ visit.old) }
     ensures ends { is_over visit.old ≡ false → result ≡ is_over visit.new }
     ensures looks { is_over visit.old ≡ false → Looks visit.old visit.new }

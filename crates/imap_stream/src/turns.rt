@@ -2,7 +2,6 @@
 //! and the turns of a session that idles. All of it is appended; who sends it stands in `visit`.
 
 ghost use Rattle.std.specs.Prelude.{◌≡◌, ◌++◌, List, None, false, true, OnErr, OnOk, IfErr};
-ghost use Rattle.std.specs.Vec.{vec_capacity};
 ghost use Rattle.imap_session.specs.Dialogue.{Dialogue, StandsFor};
 ghost use Rattle.workers_sync.specs.Carried.{Carried};
 ghost use Rattle.session_thread.specs.Life.{moment};
@@ -10,6 +9,7 @@ ghost use Rattle.imap_stream.specs.Visits.{Hears, HearsInPart, ShowsAll, ShowsIn
 
 use house_history::Naming;
 use imap_session::ImapConnection;
+use line_io::Outlet;
 use session_thread::{LockedStore, answer, idle_turn};
 use std::alloc::{AllocError, Global};
 use std::sync::Wait;
@@ -19,19 +19,20 @@ use workers_sync::{Courier, Gate, Lost};
 /// The session has turns while it idles, until one shows nothing.
 ///
 /// Errors: `AllocError` where memory was refused for a turn; those before stand.
-pub(crate) fn show_all<B: Naming, R: Wait, G: Gate>(
+pub(crate) fn show_all<B: Naming, R: Wait, G: Gate, O: Outlet>(
     rt: &R,
     connection: &mut ImapConnection,
     store: &mut LockedStore<'_, B, R, G>,
-    out: &mut Vec<u8>,
+    out: &mut O,
 ) -> Result<(), AllocError>
     ensures ok { OnOk result ((d : Dialogue) → StandsFor connection.old d
         → (next : Dialogue) × StandsFor connection.new next
-        × ShowsAll (moment d store.old out.old.items) (moment next store.new out.new.items)) }
+        × ShowsAll (moment d store.old (O.said out.old)) (moment next store.new (O.said out.new))) }
     ensures err { OnErr result ((d : Dialogue) → StandsFor connection.old d
         → (next : Dialogue) × StandsFor connection.new next
-        × ShowsInPart (vec_capacity out.new) (moment d store.old out.old.items)
-        (moment next store.new out.new.items)) }
+        × ShowsInPart (O.room out.new) (moment d store.old (O.said out.old))
+        (moment next store.new (O.said out.new))) }
+    ensures lot { O.lot out.new ≡ O.lot out.old }
 {
     for _turn in rt.forever() {
         if !connection.is_idling() {
@@ -51,7 +52,7 @@ pub(crate) fn show_all<B: Naming, R: Wait, G: Gate>(
 ///
 /// Errors: `NoMemory` where memory was refused, within the piece or within the turns, or to the courier;
 /// `Torn` where the courier met something else than the verdict. What was done by then stands.
-pub(crate) fn answer_and_show<B: Naming, R: Wait, G: Gate, C: Courier>(
+pub(crate) fn answer_and_show<B: Naming, R: Wait, G: Gate, C: Courier, O: Outlet>(
     rt: &R,
     alloc: Global,
     connection: &mut ImapConnection,
@@ -59,7 +60,7 @@ pub(crate) fn answer_and_show<B: Naming, R: Wait, G: Gate, C: Courier>(
     courier: &mut C,
     piece: &[u8],
     idles: &AtomicBool,
-    out: &mut Vec<u8>,
+    out: &mut O,
 ) -> Result<(), Lost>
     // The session hasn't ended, no message of it waits for a verdict, and the courier may carry one.
     requires going { connection.old.session.ended ≡ false }
@@ -76,14 +77,15 @@ pub(crate) fn answer_and_show<B: Naming, R: Wait, G: Gate, C: Courier>(
         → C.carried courier.new (done ++ carried))
         × ((d : Dialogue) → StandsFor connection.old d
         → (next : Dialogue) × StandsFor connection.new next
-        × Hears piece.now carried (moment d store.old out.old.items)
-        (moment next store.new out.new.items))) }
+        × Hears piece.now carried (moment d store.old (O.said out.old))
+        (moment next store.new (O.said out.new)))) }
 
     // After an error it stopped within the piece, or in the turns behind it; what was said by then stands behind `out`.
     ensures err { IfErr result (λ why. (d : Dialogue) → StandsFor connection.old d
         → (next : Dialogue) × StandsFor connection.new next
-        × HearsInPart (vec_capacity out.new) piece.now why (moment d store.old out.old.items)
-        (moment next store.new out.new.items)) }
+        × HearsInPart (O.room out.new) piece.now why (moment d store.old (O.said out.old))
+        (moment next store.new (O.said out.new))) }
+    ensures lot { O.lot out.new ≡ O.lot out.old }
 {
     let answered = answer(alloc, connection, store, courier, piece, out);
     idles.store(connection.is_idling(), Ordering::SeqCst);

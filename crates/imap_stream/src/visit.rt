@@ -1,21 +1,22 @@
 //! One client's visit: its session, and where its answers go. Nothing is left unsent between two calls.
 //! Whose threads make the calls stands in `berth`.
 
-ghost use Rattle.std.specs.Prelude.{◌≡◌, ◌≢◌, ◌⊎◌, ℕ, ◌<◌, ◌≤◌, ◌++◌, [], List, None, Ok, Err, false, true, length, take, IfOk, IfErr, OnErr, OnOk};
+ghost use Rattle.std.specs.Prelude.{◌≡◌, ◌≢◌, ◌⊎◌, ℕ, ◌<◌, ◌≤◌, ◌++◌, [], List, None, Ok, Err, false, true, length, take, IfOk, IfErr, IfSome, OnErr, OnOk};
 ghost use Rattle.std.specs.Io.KnownBytes.{Appends};
-ghost use Rattle.std.specs.Vec.{vec_capacity};
+ghost use Rattle.line_io.specs.Outgoing.{IsReady};
 ghost use Rattle.workers_sync.specs.Carried.{Carried};
 ghost use Rattle.workers_sync.specs.declared.courier.Lost.{Lost};
 ghost use Rattle.session_thread.specs.Life.{Departs, IsForgotten};
 ghost use Rattle.imap_session.specs.Dialogue.{StandsFor};
 ghost use Rattle.imap_session.specs.Commands.{greeting};
 ghost use Rattle.imap_session.specs.Exchange.{begun_with};
+ghost use Rattle.imap_stream.specs.inner.Visits.{TookFirst};
 ghost use Rattle.imap_stream.specs.Visits.{Hears, HearsInPart, IsGreeted, SendsAll, SendsFirst, ShowsAll, ShowsInPart, Tells, Visit, awaited, farewell, is_over, takes_bytes};
 
 use crate::turns::{answer_and_show, show_all};
 use house_history::Naming;
 use imap_session::{Admission, After, Folder, ImapConnection, Store};
-use line_io::{Sink, send};
+use line_io::{Buffer, Outgoing, Outlet, Sink};
 use session_thread::{LockedStore, depart, takes_more};
 use std::alloc::{AllocError, Global};
 use std::marker::Model;
@@ -26,10 +27,8 @@ use workers_sync::{Courier, Gate, Lost};
 /// What a client is told that is dismissed.
 const FAREWELL: &[u8] = b"* BYE Shutting down\r\n";
 
-/// The most room, in bytes, that a visit keeps for its answers once they were sent. Most answers fit
-/// there, and are written with no memory asked for. One that fetches a whole mailbox may take as much as
-/// the mailbox, and a client may be silent for weeks behind it: that room is let go.
-const KEPT_ROOM: usize = 64 * 1024;
+/// The most bytes of what is said that wait to be sent. What is longer, as a message's text, is sent from where it stands.
+const ROW: usize = 16 * 1024;
 
 /// Why a visit came to a stop.
 #[derive(Clone, Copy, Debug, PartialEq, Eq)]
@@ -52,66 +51,35 @@ impl From<AllocError> for VisitFault {
     }
 }
 
-// Sends what was written, and lets go of it.
-fn flush<W: Sink>(output: &mut W, written: &mut Vec<u8>) -> Result<(), VisitFault>
-    requires { W.failed output.old ≡ false }
-    ensures ok { OnOk result (Appends (W.taken output.old) (W.taken output.new) written.old.items) }
-    ensures live { OnOk result (W.failed output.new ≡ false) }
-    ensures err { OnErr result ((sent : ℕ) × (sent < length written.old.items) ×
-        Appends (W.taken output.old) (W.taken output.new) (take sent written.old.items)) }
-    ensures failed { OnErr result (W.failed output.new ≡ true) }
-    ensures cleared { (written.new.items ≡ [])
-        × (vec_capacity written.new ≡ vec_capacity written.old) }
-    ensures fault { IfErr result (λ fault. fault ≡ VisitFault.Write) }
-{
-    let sent = send(output, written);
-    written.clear();
-    match sent {
-        Ok(()) => Ok(()),
-        Err(_) => Err(VisitFault::Write),
-    }
-}
-
-// Lets go of the room that a long answer was written in, once that was sent. It takes no memory.
-fn trim(written: &mut Vec<u8>)
-    requires { written.old.items ≡ [] }
-    ensures empty { written.new.items ≡ [] }
-    ensures few { vec_capacity written.new ≤ KEPT_ROOM }
-{
-    if written.capacity() > KEPT_ROOM {
-        *written = Vec::new(*written.allocator());
-    }
-}
-
-// The connection of a client that was greeted on `output`, and the room that this was written in.
-fn greeted<W: Sink>(
+// The outlet of a client that was greeted on `output`, behind its greeting, of which nothing is left unsent. The row in which what is said waits may be
+// refused memory: what is said is sent at once then.
+fn greeted<W: Sink + Drop>(
     alloc: Global,
-    folders: Vec<Folder>,
-    admission: Admission,
-    output: &mut W,
-) -> Result<(ImapConnection, Vec<u8>), VisitFault>
-    requires live { W.failed output.old ≡ false }
-    ensures stands { IfOk result (λ made. StandsFor made.0 (record {
-      standing = begun_with admission folders.items;
-      begun = [];
-    })) }
-    ensures empty { IfOk result (λ made. made.1.items ≡ []) }
-    ensures took { OnOk result (Appends (W.taken output.old) (W.taken output.new)
-        (greeting admission.profile)) }
-    ensures live { OnOk result (W.failed output.new ≡ false) }
-    ensures untorn { IfErr result (λ fault. fault ≢ VisitFault.Torn) }
-    ensures short { result ≡ Err VisitFault.NoMemory → output.new ≡ output.old }
-    ensures cut { result ≡ Err VisitFault.Write →
-        (sent : ℕ) × (sent < length (greeting admission.profile))
-        × Appends (W.taken output.old) (W.taken output.new)
-        (take sent (greeting admission.profile)) }
-    ensures failed { result ≡ Err VisitFault.Write → W.failed output.new ≡ true }
+    connection: &ImapConnection,
+    output: W,
+) -> Result<Outgoing<W>, (W, VisitFault)>
+    requires live { W.failed output ≡ false }
+    ensures ready { IfOk result IsReady }
+    ensures took { IfOk result (λ out. IfSome out.buffer (λ b.
+        Appends (W.taken output) b.taken (greeting connection.now.session.profile))) }
+    ensures fault { IfErr result (λ stop. stop.1 ≡ VisitFault.Write) }
+    ensures cut { IfErr result (λ stop. TookFirst (W.taken output)
+        (greeting connection.now.session.profile) (W.taken stop.0)) }
+    ensures failed { IfErr result (λ stop. W.failed stop.0 ≡ true) }
 {
-    let connection = ImapConnection::new(alloc, folders, admission)?;
-    let mut out = Vec::new(alloc);
-    connection.greet(&mut out)?;
-    flush(output, &mut out)?;
-    Ok((connection, out))
+    let mut row = Vec::new(alloc);
+    let _ = row.resize(ROW, 0);
+    let mut out = Outgoing::new(alloc, Buffer::new(output, row));
+    let Ok(()) = connection.greet(&mut out) else {
+        unreachable!()
+    };
+    let Ok(()) = out.flush() else {
+        let Some(output) = out.into_sink() else {
+            unreachable!()
+        };
+        return Err((output, VisitFault::Write));
+    };
+    Ok(out)
 }
 
 // Why a visit stops whose session brought no verdict, or was refused memory.
@@ -132,32 +100,30 @@ pub struct Visit<'a, B: Naming, R: Wait, G: Gate, W: Sink> {
     rt: &'a R,
     connection: ImapConnection,
     store: LockedStore<'a, B, R, G>,
-    // What is written before it is sent.
-    out: Vec<u8>,
-    output: W,
+    out: Outgoing<W>,
     is_closed: bool,
 }
 
 impl<'a, B: Naming, R: Wait, G: Gate, W: Sink> Model for Visit<'a, B, R, G, W> {
-    ghost use Rattle.std.specs.Prelude.{◌≡◌, [], false};
-    ghost use Rattle.std.specs.Vec.{vec_capacity};
+    ghost use Rattle.line_io.specs.Outgoing.{room_of};
     ghost use Rattle.imap_stream.specs.Visits.{Visit};
+    ghost use Rattle.imap_stream.specs.inner.Visits.{HasSent, failed_of, taken_of};
 
     ghost Value = { Visit };
 
     ghost view = { λ v. record {
       link = v.connection;
       selection = v.store;
-      taken = W.taken v.output;
-      failed = W.failed v.output;
+      taken = taken_of v.out;
+      failed = failed_of v.out;
       closed = v.is_closed;
-      room = vec_capacity v.out;
+      room = room_of v.out.buffer v.out.spare;
     } };
 
-    ghost invariant = { λ v. (v.out.items ≡ []) × (v.is_closed ≡ false → W.failed v.output ≡ false) };
+    ghost invariant = { λ v. HasSent v.is_closed v.out };
 }
 
-impl<'a, B: Naming, R: Wait, G: Gate, W: Sink> Visit<'a, B, R, G, W> {
+impl<'a, B: Naming, R: Wait, G: Gate, W: Sink + Drop> Visit<'a, B, R, G, W> {
     /// Opens the visit of a client, and greets it (RFC 9051, 7.1.1 and 7.1.4): the greeting was sent.
     /// `store` is its session's, which is in no mailbox, `folders` are its user's mailboxes, it comes in
     /// by `admission`, and its answers go to `output`.
@@ -170,7 +136,7 @@ impl<'a, B: Naming, R: Wait, G: Gate, W: Sink> Visit<'a, B, R, G, W> {
         store: LockedStore<'a, B, R, G>,
         folders: Vec<Folder>,
         admission: Admission,
-        mut output: W,
+        output: W,
     ) -> Result<Visit<'a, B, R, G, W>, (W, VisitFault)>
         requires live { W.failed output ≡ false }
         requires outside { store.entered ≡ None }
@@ -190,17 +156,17 @@ impl<'a, B: Naming, R: Wait, G: Gate, W: Sink> Visit<'a, B, R, G, W> {
             (take sent (greeting admission.profile))) }
         ensures failed { IfErr result (λ stop. stop.1 ≡ VisitFault.Write → W.failed stop.0 ≡ true) }
     {
-        match greeted(alloc, folders, admission, &mut output) {
-            Ok((connection, out)) => Ok(Visit {
-                rt,
-                connection,
-                store,
-                out,
-                output,
-                is_closed: false,
-            }),
-            Err(fault) => Err((output, fault)),
-        }
+        let Ok(connection) = ImapConnection::new(alloc, folders, admission) else {
+            return Err((output, VisitFault::NoMemory));
+        };
+        let out = greeted(alloc, &connection, output)?;
+        Ok(Visit {
+            rt,
+            connection,
+            store,
+            out,
+            is_closed: false,
+        })
     }
 
     /// Nothing more is done for the client: its session has ended, the output failed, bytes of it were
@@ -233,7 +199,7 @@ impl<'a, B: Naming, R: Wait, G: Gate, W: Sink> Visit<'a, B, R, G, W> {
     /// Takes a piece of the client's bytes: each line that ends in it is answered, up to the one that
     /// ends the session. A message that is submitted in it is given to `courier`, and the verdict on it
     /// is answered before anything more is taken. Where the session idles behind the piece, it has turns
-    /// until one shows nothing. What was said is sent, all at once, and no mailbox is held meanwhile.
+    /// until one shows nothing. What is said is sent as it is made, and no mailbox is held meanwhile.
     /// Answers what the client may send next; a visit that is over does nothing, nor does one whose session awaits a verdict.
     ///
     /// Whether the session idles is stored in `idles` before its first turn: a change that this turn
@@ -290,6 +256,7 @@ impl<'a, B: Naming, R: Wait, G: Gate, W: Sink> Visit<'a, B, R, G, W> {
         if !self.takes_bytes() {
             return Ok(self.awaited());
         }
+        self.out.begin();
         let heard = answer_and_show(
             self.rt,
             alloc,
@@ -300,15 +267,12 @@ impl<'a, B: Naming, R: Wait, G: Gate, W: Sink> Visit<'a, B, R, G, W> {
             idles,
             &mut self.out,
         );
-        let Ok(()) = flush(&mut self.output, &mut self.out) else {
+        let Ok(()) = self.out.flush() else {
             self.is_closed = true;
             return Err(VisitFault::Write);
         };
         match heard {
-            Ok(()) => {
-                trim(&mut self.out);
-                Ok(self.awaited())
-            }
+            Ok(()) => Ok(self.awaited()),
             Err(why) => {
                 // What comes behind the bytes that are lost would be read as something else.
                 self.is_closed = true;
@@ -318,7 +282,7 @@ impl<'a, B: Naming, R: Wait, G: Gate, W: Sink> Visit<'a, B, R, G, W> {
     }
 
     /// Shows the client what there is, where its session idles: turns until one shows nothing, and what
-    /// was said is sent, all at once, while no mailbox is held. Where it doesn't idle nothing is done.
+    /// is said is sent as it is made, while no mailbox is held. Where it doesn't idle nothing is done.
     /// Answers what the client may send next.
     ///
     /// Errors: `NoMemory` where memory was refused for a turn; what was said by then was sent, and the
@@ -349,18 +313,18 @@ impl<'a, B: Naming, R: Wait, G: Gate, W: Sink> Visit<'a, B, R, G, W> {
         if self.is_over() {
             return Ok(After::Bye);
         }
+        self.out.begin();
         let shown = show_all(
             self.rt,
             &mut self.connection,
             &mut self.store,
             &mut self.out,
         );
-        let Ok(()) = flush(&mut self.output, &mut self.out) else {
+        let Ok(()) = self.out.flush() else {
             self.is_closed = true;
             return Err(VisitFault::Write);
         };
         shown?;
-        trim(&mut self.out);
         Ok(self.awaited())
     }
 
@@ -387,7 +351,9 @@ impl<'a, B: Naming, R: Wait, G: Gate, W: Sink> Visit<'a, B, R, G, W> {
             return Ok(());
         }
         self.is_closed = true;
-        let Ok(()) = send(&mut self.output, FAREWELL) else {
+        self.out.begin();
+        self.out.put(FAREWELL);
+        let Ok(()) = self.out.flush() else {
             return Err(VisitFault::Write);
         };
         Ok(())

@@ -1,2 +1,3 @@
+pub mod Buffer
 pub mod CuttingLaws
 pub mod WireLaws

@@ -1,18 +1,27 @@
-//! Bytes as they come and go: lines of a stream, and a cutter for them; bytes that came and wait to be taken; a sink for what is sent; and the
-//! laws of lines. What a line says, where data begins, and what becomes of a text, is for the crates above.
+//! Bytes as they come and go: lines of a stream, and a cutter for them; bytes that came and wait to be taken; a sink for what is sent; an outlet for
+//! what is said, which is kept in a vector or sent from a buffer over a sink; and the laws of lines. What a line says, where data begins, and what
+//! becomes of a text, is for the crates above.
 #![tactic(auto)]
 
+mod buffer;
 mod cutter;
+mod held;
 mod incoming;
 mod laws;
 mod marks;
+mod outgoing;
+mod outlet;
 mod parts;
 mod sink;
 
+pub use buffer::{Buffer, FlushFault};
 pub use cutter::LineCutter;
+pub use held::Held;
 pub use incoming::Incoming;
 pub use laws::{each_stream_is_cut_in_one_way, whole_lines_may_be_taken_by_others};
 pub use marks::append_marked;
+pub use outgoing::Outgoing;
+pub use outlet::Outlet;
 pub use parts::{append_parts, drop_front, put};
 pub use sink::{SendFault, Sink, Watched, send};
 

@@ -1,5 +1,5 @@
 //! What a client does to the mailbox. After each call it knows how the history begins, with all that has happened here.
-ghost use Rattle.std.specs.Prelude.{◌≡◌, ◌≢◌, ◌≤◌, ◌++◌, List, [], Ok, Err, IfErr, IfOk, IfSome, OnErr};
+ghost use Rattle.std.specs.Prelude.{◌≡◌, ◌≢◌, ◌+◌, ◌≤◌, ◌++◌, List, [], Ok, Err, IfErr, IfOk, IfSome, OnErr, vec_len};
 ghost use Rattle.std.specs.List.Sorted.{IsStrictlyIncreasing};
 ghost use Rattle.std.specs.Option.{option_copied};
 ghost use Rattle.std.specs.Vec.{vec_capacity};
@@ -56,12 +56,13 @@ impl<B: Naming> LockedMailbox<B> {
         workers_sync::enter(&mut self.mailbox)
     }
 
-    /// Shows a client its next changes, as `workers_sync::feed` has it.
+    /// Shows a client its next changes, as `workers_sync::feed` has it, also with room to `spare`.
     pub fn feed(
         &mut self,
         front: &mut Front<B>,
         handle: &mut CursorHandle,
         limit: usize,
+        spare: usize,
         out: &mut Vec<u8>,
     ) -> Result<usize, MailFault>
         ensures event { DoesFeed self.old.mailbox handle.old limit out.old.items out.new.items
@@ -69,6 +70,9 @@ impl<B: Naming> LockedMailbox<B> {
         ensures few { IfOk result (λ n. n ≤ limit) }
         ensures faults { IfErr result (λ f. f ≢ MailFault.Spent) }
         ensures room { vec_capacity out.old ≤ vec_capacity out.new }
+        // Where room for `spare` more bytes stood behind `out`, it stands there still.
+        ensures spare { vec_len out.old + spare ≤ vec_capacity out.old
+            → vec_len out.new + spare ≤ vec_capacity out.new }
         ensures history { Knows self.old self.new [] front.old front.new }
         // Just what this mailbox's log has next in the house's history is written, however the history goes on.
         ensures shown { IfOk result (λ n. (h : List Event) → IsPrefix front.new h
@@ -77,7 +81,7 @@ impl<B: Naming> LockedMailbox<B> {
             (next_of (changes_in self.old.mailbox.number h) handle.old.at n)) }
     {
         self.part.look(front);
-        workers_sync::feed(&mut self.mailbox, handle, limit, out)
+        workers_sync::feed(&mut self.mailbox, handle, limit, spare, out)
     }
 
     /// Reads a message, as `workers_sync::read` has it. Its text is that of the copy which was stored under this UID.
@@ -120,24 +124,29 @@ impl<B: Naming> LockedMailbox<B> {
         Ok(flags)
     }
 
-    /// Shows a client all that is pending, and removes messages, as `workers_sync::expunge` has it.
+    /// Shows a client all that is pending, and removes messages, as `workers_sync::expunge` has it, also
+    /// with room to `spare`.
     pub fn expunge(
         &mut self,
         front: &mut Front<B>,
         handle: &mut CursorHandle,
         uids: Option<&[u32]>,
+        spare: usize,
         out: &mut Vec<u8>,
     ) -> Result<usize, MailFault>
         ensures event { DoesExpunge self.old.mailbox handle.old (option_copied uids.entry)
             out.old.items out.new.items result self.new.mailbox handle.new }
         ensures room { vec_capacity out.old ≤ vec_capacity out.new }
+        // Where room for `spare` more bytes stood behind `out`, it stands there still.
+        ensures spare { vec_len out.old + spare ≤ vec_capacity out.old
+            → vec_len out.new + spare ≤ vec_capacity out.new }
         ensures history { Knows self.old self.new
             (on_ok result
             (events.Changed self.old.mailbox.number (steps.Expunge (option_copied uids.entry))))
             front.old front.new }
     {
         self.part.look(front);
-        let gone = workers_sync::expunge(&mut self.mailbox, handle, uids, out)?;
+        let gone = workers_sync::expunge(&mut self.mailbox, handle, uids, spare, out)?;
         self.part.expunge(front, uids);
         Ok(gone)
     }

@@ -1,7 +1,7 @@
 //! What a mailbox's clients do: each holds a cursor, is shown changes by it, reads messages and sets
 //! their flags. Which messages go, and how a client leaves, is told in `removal`.
 
-ghost use Rattle.std.specs.Prelude.{◌≡◌, ◌≢◌, ◌+◌, ◌-◌, ◌^◌, ◌<◌, ◌≤◌, ◌↔◌, ◌⊎◌, List, ◌++◌, length, min, Some, None, Err, OnOk, OnErr, IfOk, IfErr, IfSome, IsErr, IsSome, IsTrue, option_map, if◌then◌else◌, vec_capacity};
+ghost use Rattle.std.specs.Prelude.{◌≡◌, ◌≢◌, ◌+◌, ◌-◌, ◌^◌, ◌<◌, ◌≤◌, ◌↔◌, ◌⊎◌, List, ◌++◌, length, min, Some, None, Err, OnOk, OnErr, IfOk, IfErr, IfSome, IsErr, IsSome, IsTrue, option_map, if◌then◌else◌, vec_capacity, vec_len};
 ghost use Rattle.std.specs.List.Sorted.{IsStrictlyIncreasing};
 ghost use Rattle.change_ring.specs.Log.{view_at};
 ghost use Rattle.change_ring.specs.Logged.{flags_logged, seen_logged};
@@ -170,11 +170,13 @@ impl Mailbox {
     /// Shows a client its next changes, at most `limit`, as `CursorSet::feed` does: a line for each
     /// behind `out` (RFC 9051, 7.4 and 7.5), and answers how many. Nothing is logged. Stranger where
     /// the handle has no cursor here; else Lapped where the next change was overwritten; else NoMemory
-    /// where memory is refused. After each the mailbox, the handle and `out` are unchanged.
+    /// where memory is refused. After each the mailbox, the handle and what `out` says are unchanged.
+    /// Room for `spare` more bytes behind what `out` says, where it stood there, stands there still.
     pub fn feed(
         &mut self,
         handle: &mut CursorHandle,
         limit: usize,
+        spare: usize,
         out: &mut Vec<u8>,
     ) -> Result<usize, FeedFault>
         // Stranger exactly where the handle has no cursor here, Lapped exactly where it has and the next change was overwritten.
@@ -208,8 +210,11 @@ impl Mailbox {
             ++ lines o.view (next_changes self.old.window handle.old.at n))) }
         // `out` keeps its room or has more.
         ensures room { vec_capacity out.old ≤ vec_capacity out.new }
+        // Where room for `spare` more bytes stood behind `out`, it stands there still.
+        ensures spare { vec_len out.old + spare ≤ vec_capacity out.old
+            → vec_len out.new + spare ≤ vec_capacity out.new }
     {
-        let count = self.cursors.feed(&self.ring, handle, limit, out)?;
+        let count = self.cursors.feed(&self.ring, handle, limit, spare, out)?;
         Ok(count)
     }
 

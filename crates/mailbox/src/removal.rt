@@ -2,7 +2,7 @@
 //! All of a call's removals are one event, logged in the order of the UIDs. Those with \Deleted alone
 //! are passed: whatever else is to go is given it first, which is neither logged nor shown.
 
-ghost use Rattle.std.specs.Prelude.{◌≡◌, ◌+◌, ◌^◌, ◌≤◌, ◌<◌, ◌↔◌, ◌⊎◌, ◌==◌, true, List, ◌++◌, length, count_by, None, Err, OnOk, OnErr, IfOk, IfErr, IsTrue, option_map, drop, Some, IsSome, IfSome, if◌then◌else◌, vec_capacity};
+ghost use Rattle.std.specs.Prelude.{◌≡◌, ◌+◌, ◌^◌, ◌≤◌, ◌<◌, ◌↔◌, ◌⊎◌, ◌==◌, true, List, ◌++◌, length, count_by, None, Err, OnOk, OnErr, IfOk, IfErr, IsTrue, option_map, drop, Some, IsSome, IfSome, if◌then◌else◌, vec_capacity, vec_len};
 ghost use Rattle.change_ring.specs.Log.{view_at};
 ghost use Rattle.change_ring.specs.Logged.{discards, removals, removals_if};
 ghost use Rattle.change_ring.specs.Window.{changes_from, total};
@@ -88,12 +88,15 @@ impl Mailbox {
     /// Shows a client all that is pending, then removes the messages that have \Deleted, of a set
     /// of UIDs where there is one (RFC 9051, 6.4.3 and 6.4.9): answers how many went. They are
     /// logged in the order of their UIDs, and the client is to be shown them later. Stranger,
-    /// Lapped, Spent or NoMemory, in this order; the mailbox, the handle and `out` are then unchanged.
-    /// The set may have UIDs in any order, and such as no message has; one that rises costs least.
+    /// Lapped, Spent or NoMemory, in this order; the mailbox, the handle and what `out` says are then
+    /// unchanged. Room for `spare` more bytes behind what `out` says, where it stood there, stands
+    /// there still. The set may have UIDs in any order, and such as no message has; one that rises
+    /// costs least.
     pub fn expunge(
         &mut self,
         handle: &mut CursorHandle,
         set: Option<&[u32]>,
+        spare: usize,
         out: &mut Vec<u8>,
     ) -> Result<usize, MailFault>
         // Stranger, Lapped and Spent come exactly where they hold, in this order; NoMemory only where something is pending.
@@ -145,6 +148,9 @@ impl Mailbox {
             ++ lines o.view (changes_from handle.old.at self.old.window))) }
         // `out` keeps its room or has more.
         ensures room { vec_capacity out.old ≤ vec_capacity out.new }
+        // Where room for `spare` more bytes stood behind `out`, it stands there still.
+        ensures spare { vec_len out.old + spare ≤ vec_capacity out.old
+            → vec_len out.new + spare ≤ vec_capacity out.new }
     {
         self.admit(handle)?;
         let choice = Choice::of(set);
@@ -153,7 +159,7 @@ impl Mailbox {
             return Err(MailFault::Spent);
         }
         // Whoever is admitted is no stranger and has missed nothing: only memory can be wanting.
-        let Ok(_shown) = self.feed(handle, usize::MAX, out) else {
+        let Ok(_shown) = self.feed(handle, usize::MAX, spare, out) else {
             return Err(MailFault::NoMemory);
         };
         self.remove(choice);

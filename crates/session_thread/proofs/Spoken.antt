@@ -204,10 +204,10 @@ said_all bytes used carried old new before after was link whole spoken d stands 
     let n = spoken d stands in (n.0, n.1, record { used = used; speaks = n.2; all = subst (λ (s : Standing). WasAll used bytes s) n.1.session whole })
 
 -- memory was refused before the next line
-pub said_short : (room : ℕ) (bytes : List ℕ) (used : ℕ) (carried : List Carried) (old new : LockedStore) (before after : List ℕ) (was link : ImapConnection) → room < length after + (answer_room + tag_len (kept_tag link.session)) → Spoken bytes used carried was old before link new after
+pub said_short : (room : ℕ) (bytes : List ℕ) (used : ℕ) (carried : List Carried) (old new : LockedStore) (before after : List ℕ) (was link : ImapConnection) → room < answer_room + tag_len (kept_tag link.session) → Spoken bytes used carried was old before link new after
     → (d : Dialogue) → StandsFor was d → (next : Dialogue) × StandsFor link next × SaysInPart room bytes lost.NoMemory (moment d old before) (moment next new after)
 said_short room bytes used carried old new before after was link full spoken d stands =
-    let n = spoken d stands in (n.0, n.1, short used carried n.2 (subst (λ (s : Standing). room < length after + (answer_room + tag_len (kept_tag s))) n.1.session full) refl)
+    let n = spoken d stands in (n.0, n.1, short used carried n.2 (subst (λ (s : Standing). room < answer_room + tag_len (kept_tag s)) n.1.session full) refl)
 
 -- no verdict came on the message that was submitted
 pub said_unheard : (room : ℕ) (bytes : List ℕ) (used : ℕ) (carried : List Carried) (why : Lost) (old new : LockedStore) (before after : List ℕ) (was link : ImapConnection) → may_send link.session ≡ Submit

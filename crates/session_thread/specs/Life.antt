@@ -133,9 +133,9 @@ pub data Lives (turns : ℕ) (first : Moment) : List Step → List Carried → M
 
 -- ---- where it stops
 
--- A session is short of room where it stands: what it writes to has none for the next line's last words and their like, out of `room` bytes.
+-- A session is short of room where it stands: what it writes to takes so many bytes more, too few for the next line's last words and their like.
 abbrev pub IsShort : ℕ → Moment → Type 0
-IsShort room now = room < length now.text + (answer_room + tag_len (kept_tag now.dialogue.standing))
+IsShort room now = room < answer_room + tag_len (kept_tag now.dialogue.standing)
 
 -- A turn was refused memory where the session stands: it is short of room, or its mailbox refused the turn.
 abbrev pub IsShortInTurn : ℕ → Moment → Type 0

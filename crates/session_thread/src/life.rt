@@ -2,7 +2,6 @@
 //! the thread, and what its steps are, stands above.
 
 ghost use Rattle.std.specs.Prelude.{◌≡◌, ◌++◌, ◌<◌, ◌⊎◌, ℕ, List, None, false, true, IfErr, OnErr, OnOk};
-ghost use Rattle.std.specs.Vec.{vec_capacity};
 ghost use Rattle.imap_session.specs.Commands.{greeting};
 ghost use Rattle.imap_session.specs.declared.standing.Profile.TheVariants.{Standard};
 ghost use Rattle.imap_session.specs.Dialogue.{Dialogue, StandsFor};
@@ -14,6 +13,7 @@ use crate::speaking::answer;
 use crate::turns::idle_turn;
 use house_history::Naming;
 use imap_session::{Admission, After, Folder, ImapConnection, Profile, Store};
+use line_io::Outlet;
 use settings::Step;
 use std::alloc::{AllocError, Global};
 use std::sync::Wait;
@@ -32,23 +32,24 @@ pub fn takes_more(connection: &ImapConnection) -> bool
 }
 
 // The session has turns while it idles, until so many changes were shown or so many turns are spent. Others go on where one showed nothing.
-fn wait_for<B: Naming, R: Wait, G: Gate>(
+fn wait_for<B: Naming, R: Wait, G: Gate, O: Outlet>(
     connection: &mut ImapConnection,
     store: &mut LockedStore<'_, B, R, G>,
     count: u64,
     turns: u64,
-    out: &mut Vec<u8>,
+    out: &mut O,
 ) -> Result<(), AllocError>
     ensures ok { OnOk result ((d : Dialogue) → StandsFor connection.old d
         → (next : Dialogue) × StandsFor connection.new next
-        × Awaits turns count (moment d store.old out.old.items)
-        (moment next store.new out.new.items)) }
+        × Awaits turns count (moment d store.old (O.said out.old))
+        (moment next store.new (O.said out.new))) }
     ensures err { OnErr result ((d : Dialogue) → StandsFor connection.old d
         → (next : Dialogue) × StandsFor connection.new next
         × ((had : ℕ) × (had < turns)
-        × Turns count (moment d store.old out.old.items) had (moment next store.new out.new.items)
-        × (IsOver count (moment next store.new out.new.items) → ⊥))
-        × IsShortInTurn (vec_capacity out.new) (moment next store.new out.new.items)) }
+        × Turns count (moment d store.old (O.said out.old)) had (moment next store.new (O.said out.new))
+        × (IsOver count (moment next store.new (O.said out.new)) → ⊥))
+        × IsShortInTurn (O.room out.new) (moment next store.new (O.said out.new))) }
+    ensures lot { O.lot out.new ≡ O.lot out.old }
 {
     for _turn in 0..turns {
         if store.shown() >= count {
@@ -66,14 +67,14 @@ fn wait_for<B: Naming, R: Wait, G: Gate>(
 }
 
 // One step. A session that has ended, or awaits a verdict, does nothing.
-fn make<B: Naming, R: Wait, G: Gate, C: Courier>(
+fn make<B: Naming, R: Wait, G: Gate, C: Courier, O: Outlet>(
     alloc: Global,
     connection: &mut ImapConnection,
     store: &mut LockedStore<'_, B, R, G>,
     courier: &mut C,
     step: &Step,
     turns: u64,
-    out: &mut Vec<u8>,
+    out: &mut O,
 ) -> Result<(), Lost>
     requires ready { C.ready courier.old }
     ensures ready { C.ready courier.new }
@@ -83,13 +84,14 @@ fn make<B: Naming, R: Wait, G: Gate, C: Courier>(
         → C.carried courier.new (done ++ carried))
         × ((d : Dialogue) → StandsFor connection.old d
         → (next : Dialogue) × StandsFor connection.new next
-        × Steps turns step.now carried (moment d store.old out.old.items)
-        (moment next store.new out.new.items))) }
+        × Steps turns step.now carried (moment d store.old (O.said out.old))
+        (moment next store.new (O.said out.new)))) }
     ensures err { IfErr result (λ why. (d : Dialogue) → StandsFor connection.old d
         → (next : Dialogue) × StandsFor connection.new next
         × (takes_more d.standing ≡ true)
-        × StopsIn turns (vec_capacity out.new) step.now why (moment d store.old out.old.items)
-        (moment next store.new out.new.items)) }
+        × StopsIn turns (O.room out.new) step.now why (moment d store.old (O.said out.old))
+        (moment next store.new (O.said out.new))) }
+    ensures lot { O.lot out.new ≡ O.lot out.old }
 {
     if !takes_more(connection) {
         return Ok(());
@@ -101,14 +103,14 @@ fn make<B: Naming, R: Wait, G: Gate, C: Courier>(
 }
 
 // The steps, after the greeting.
-fn make_all<B: Naming, R: Wait, G: Gate, C: Courier>(
+fn make_all<B: Naming, R: Wait, G: Gate, C: Courier, O: Outlet>(
     alloc: Global,
     connection: &mut ImapConnection,
     store: &mut LockedStore<'_, B, R, G>,
     courier: &mut C,
     steps: &[Step],
     turns: u64,
-    out: &mut Vec<u8>,
+    out: &mut O,
 ) -> Result<(), Lost>
     requires ready { C.ready courier.old }
     ensures ready { C.ready courier.new }
@@ -118,12 +120,13 @@ fn make_all<B: Naming, R: Wait, G: Gate, C: Courier>(
         → C.carried courier.new (done ++ carried))
         × ((d : Dialogue) → StandsFor connection.old d
         → (next : Dialogue) × StandsFor connection.new next
-        × Lives turns (moment d store.old out.old.items) steps.now carried
-        (moment next store.new out.new.items))) }
+        × Lives turns (moment d store.old (O.said out.old)) steps.now carried
+        (moment next store.new (O.said out.new)))) }
     ensures err { IfErr result (λ why. (d : Dialogue) → StandsFor connection.old d
         → (next : Dialogue) × StandsFor connection.new next
-        × LivesInPart turns (vec_capacity out.new) (moment d store.old out.old.items) steps.now why
-        (moment next store.new out.new.items)) }
+        × LivesInPart turns (O.room out.new) (moment d store.old (O.said out.old)) steps.now why
+        (moment next store.new (O.said out.new))) }
+    ensures lot { O.lot out.new ≡ O.lot out.old }
 {
     for step in steps {
         make(alloc, connection, store, courier, step, turns, out)?;
@@ -163,7 +166,7 @@ pub fn depart<B: Naming, R: Wait, G: Gate>(store: &mut LockedStore<'_, B, R, G>)
 /// the greeting the session stops, and leaves its mailbox all the same: what was said by then stands
 /// behind `out`, and is what the steps say that were made, and of the next what was answered or the turns
 /// that were had. What a command was refused memory for is told to the client and is no error.
-pub fn live<B: Naming, R: Wait, G: Gate, C: Courier>(
+pub fn live<B: Naming, R: Wait, G: Gate, C: Courier, O: Outlet>(
     alloc: Global,
     store: &mut LockedStore<'_, B, R, G>,
     courier: &mut C,
@@ -171,7 +174,7 @@ pub fn live<B: Naming, R: Wait, G: Gate, C: Courier>(
     most: Option<u32>,
     steps: &[Step],
     turns: u64,
-    out: &mut Vec<u8>,
+    out: &mut O,
 ) -> Result<(), Lost>
     // The courier may carry a message; it may after, and is what it may have become by carrying.
     requires ready { C.ready courier.old }
@@ -182,23 +185,24 @@ pub fn live<B: Naming, R: Wait, G: Gate, C: Courier>(
     ensures ok { OnOk result ((carried : List Carried) ×
         ((done : List Carried) → C.carried courier.old done
         → C.carried courier.new (done ++ carried))
-        × ((last : Moment) × Lives turns (greeted_at most folders.items store.old (out.old.items
+        × ((last : Moment) × Lives turns (greeted_at most folders.items store.old (O.said out.old
         ++ greeting Standard)) steps.now carried last
-        × (out.new.items ≡ last.text) × Departs last.selection store.new)) }
+        × (O.said out.new ≡ last.text) × Departs last.selection store.new)) }
 
     // After an error nothing was said or done; or it was greeted, made its first steps, stopped in the next, and left or is forgotten;
     // or it made all, and is forgotten.
-    ensures err { IfErr result (λ why. (store.new ≡ store.old) × (out.new.items ≡ out.old.items)
+    ensures err { IfErr result (λ why. (store.new ≡ store.old) × (O.said out.new ≡ O.said out.old)
         × (why ≡ Lost.NoMemory)
-        ⊎ ((last : Moment) × LivesInPart turns (vec_capacity out.new)
-        (greeted_at most folders.items store.old (out.old.items ++ greeting Standard))
+        ⊎ ((last : Moment) × LivesInPart turns (O.room out.new)
+        (greeted_at most folders.items store.old (O.said out.old ++ greeting Standard))
         steps.now why last
-        × (out.new.items ≡ last.text)
+        × (O.said out.new ≡ last.text)
         × (Departs last.selection store.new ⊎ IsForgotten last.selection store.new))
         ⊎ (carried : List Carried) × ((last : Moment)
-        × Lives turns (greeted_at most folders.items store.old (out.old.items
+        × Lives turns (greeted_at most folders.items store.old (O.said out.old
         ++ greeting Standard)) steps.now carried last
-        × (out.new.items ≡ last.text) × IsForgotten last.selection store.new × (why ≡ Lost.Torn))) }
+        × (O.said out.new ≡ last.text) × IsForgotten last.selection store.new × (why ≡ Lost.Torn))) }
+    ensures lot { O.lot out.new ≡ O.lot out.old }
 {
     let known = Admission {
         max_message: most,

@@ -1,7 +1,7 @@
 //! One hold of a mailbox's lock for each call: through the door of `locked_mailbox` one thing is done to the mailbox that is found, and the
 //! house's history is told of it. Which lock, and for whose handle, is told above.
 
-ghost use Rattle.std.specs.Prelude.{◌≡◌, ◌≢◌, ◌≤◌, ◌⊎◌, ℕ, List, [], None, Some, Ok, Err, IfErr, IfOk, option_map};
+ghost use Rattle.std.specs.Prelude.{◌≡◌, ◌≢◌, ◌+◌, ◌≤◌, ◌⊎◌, ℕ, List, [], None, Some, Ok, Err, IfErr, IfOk, option_map, vec_len};
 ghost use Rattle.imap_grammar.specs.Sets.{messages_in};
 ghost use Rattle.std.specs.Option.{option_copied};
 ghost use Rattle.std.specs.Vec.{vec_capacity};
@@ -310,6 +310,7 @@ fn expunge_all<B: Naming, R: Wait>(
     lock: &Mutex<LockedMailbox<B>>,
     front: &mut Front<B>,
     mut handle: CursorHandle,
+    spare: usize,
     out: &mut Vec<u8>,
 ) -> (Result<usize, MailFault>, CursorHandle)
     ensures event { Held front.old front.new
@@ -317,6 +318,9 @@ fn expunge_all<B: Naming, R: Wait>(
         (λ found left.
         DoesExpunge found handle None out.old.items out.new.items result.0 left result.1) }
     ensures room { vec_capacity out.old ≤ vec_capacity out.new }
+    // Where room for `spare` more bytes stood behind `out`, it stands there still.
+    ensures spare { vec_len out.old + spare ≤ vec_capacity out.old
+        → vec_len out.new + spare ≤ vec_capacity out.new }
 {
     let mut seen = front.again();
     let (gone, handle, seen) = under_with(
@@ -334,8 +338,10 @@ fn expunge_all<B: Naming, R: Wait>(
                 (on_ok result.0 (events.Changed locked.old.mailbox.number (steps.Expunge None)))
                 seen result.2 }
             ensures room { vec_capacity out.old ≤ vec_capacity out.new }
+            ensures spare { vec_len out.old + spare ≤ vec_capacity out.old
+                → vec_len out.new + spare ≤ vec_capacity out.new }
         {
-            let gone = locked.expunge(&mut seen, &mut handle, None, out);
+            let gone = locked.expunge(&mut seen, &mut handle, None, spare, out);
             (gone, handle, seen)
         },
     );
@@ -350,6 +356,7 @@ fn expunge_named<B: Naming, R: Wait>(
     front: &mut Front<B>,
     mut handle: CursorHandle,
     uids: &[u32],
+    spare: usize,
     out: &mut Vec<u8>,
 ) -> (Result<usize, MailFault>, CursorHandle)
     ensures event { Held front.old front.new
@@ -357,6 +364,9 @@ fn expunge_named<B: Naming, R: Wait>(
         (λ found left. DoesExpunge found handle (Some uids.now) out.old.items out.new.items
         result.0 left result.1) }
     ensures room { vec_capacity out.old ≤ vec_capacity out.new }
+    // Where room for `spare` more bytes stood behind `out`, it stands there still.
+    ensures spare { vec_len out.old + spare ≤ vec_capacity out.old
+        → vec_len out.new + spare ≤ vec_capacity out.new }
 {
     let mut seen = front.again();
     let (gone, handle, seen) = under_with(
@@ -375,8 +385,10 @@ fn expunge_named<B: Naming, R: Wait>(
                 (events.Changed locked.old.mailbox.number (steps.Expunge (Some uids.entry.now))))
                 seen result.2 }
             ensures room { vec_capacity out.old ≤ vec_capacity out.new }
+            ensures spare { vec_len out.old + spare ≤ vec_capacity out.old
+                → vec_len out.new + spare ≤ vec_capacity out.new }
         {
-            let gone = locked.expunge(&mut seen, &mut handle, Some(uids), out);
+            let gone = locked.expunge(&mut seen, &mut handle, Some(uids), spare, out);
             (gone, handle, seen)
         },
     );
@@ -390,6 +402,7 @@ pub(crate) fn expunge<B: Naming, R: Wait>(
     front: &mut Front<B>,
     handle: CursorHandle,
     uids: Option<&[u32]>,
+    spare: usize,
     out: &mut Vec<u8>,
 ) -> (Result<usize, MailFault>, CursorHandle)
     ensures event { Held front.old front.new
@@ -397,10 +410,13 @@ pub(crate) fn expunge<B: Naming, R: Wait>(
         (λ found left. DoesExpunge found handle (option_copied uids.entry) out.old.items
         out.new.items result.0 left result.1) }
     ensures room { vec_capacity out.old ≤ vec_capacity out.new }
+    // Where room for `spare` more bytes stood behind `out`, it stands there still.
+    ensures spare { vec_len out.old + spare ≤ vec_capacity out.old
+        → vec_len out.new + spare ≤ vec_capacity out.new }
 {
     match uids {
-        None => expunge_all(rt, lock, front, handle, out),
-        Some(uids) => expunge_named(rt, lock, front, handle, uids, out),
+        None => expunge_all(rt, lock, front, handle, spare, out),
+        Some(uids) => expunge_named(rt, lock, front, handle, uids, spare, out),
     }
 }
 
@@ -410,6 +426,7 @@ pub(crate) fn feed<B: Naming, R: Wait>(
     front: &mut Front<B>,
     mut handle: CursorHandle,
     limit: usize,
+    spare: usize,
     out: &mut Vec<u8>,
 ) -> (Result<usize, MailFault>, CursorHandle)
     ensures event { Held front.old front.new says_nothing (λ found left.
@@ -417,6 +434,9 @@ pub(crate) fn feed<B: Naming, R: Wait>(
     ensures few { IfOk result.0 (λ n. n ≤ limit) }
     ensures faults { IfErr result.0 (λ f. f ≢ MailFault.Spent) }
     ensures room { vec_capacity out.old ≤ vec_capacity out.new }
+    // Where room for `spare` more bytes stood behind `out`, it stands there still.
+    ensures spare { vec_len out.old + spare ≤ vec_capacity out.old
+        → vec_len out.new + spare ≤ vec_capacity out.new }
 {
     let mut seen = front.again();
     let (fed, handle, seen) = under_with(
@@ -433,9 +453,11 @@ pub(crate) fn feed<B: Naming, R: Wait>(
             ensures few { IfOk result.0 (λ n. n ≤ limit) }
             ensures faults { IfErr result.0 (λ f. f ≢ MailFault.Spent) }
             ensures room { vec_capacity out.old ≤ vec_capacity out.new }
+            ensures spare { vec_len out.old + spare ≤ vec_capacity out.old
+                → vec_len out.new + spare ≤ vec_capacity out.new }
             ensures history { Knows locked.old locked.new [] seen result.2 }
         {
-            let fed = locked.feed(&mut seen, &mut handle, limit, out);
+            let fed = locked.feed(&mut seen, &mut handle, limit, spare, out);
             (fed, handle, seen)
         },
     );

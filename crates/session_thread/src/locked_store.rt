@@ -269,14 +269,27 @@ impl<'a, B: Naming, R: Wait, G: Gate> Store for LockedStore<'a, B, R, G> {
         flags
     }
 
-    fn expunge(&mut self, uids: Option<&[u32]>, out: &mut Vec<u8>) -> Result<usize, MailFault> {
+    fn expunge(
+        &mut self,
+        uids: Option<&[u32]>,
+        spare: usize,
+        out: &mut Vec<u8>,
+    ) -> Result<usize, MailFault> {
         let Some(here) = self.entered.take() else {
             return Err(MailFault::Stranger);
         };
         self.pace.pass();
         let lock = &self.mailboxes[usize::from(here.mailbox)];
         let mut front = self.front.again();
-        let (gone, handle) = locked::expunge(self.rt, lock, &mut front, here.handle, uids, out);
+        let (gone, handle) = locked::expunge(
+            self.rt,
+            lock,
+            &mut front,
+            here.handle,
+            uids,
+            spare,
+            out,
+        );
         self.entered = Some(Entry {
             mailbox: here.mailbox,
             start: here.start,
@@ -289,14 +302,14 @@ impl<'a, B: Naming, R: Wait, G: Gate> Store for LockedStore<'a, B, R, G> {
         gone
     }
 
-    fn feed(&mut self, limit: usize, out: &mut Vec<u8>) -> Result<usize, MailFault> {
+    fn feed(&mut self, limit: usize, spare: usize, out: &mut Vec<u8>) -> Result<usize, MailFault> {
         let Some(here) = self.entered.take() else {
             return Err(MailFault::Stranger);
         };
         self.pace.pass();
         let lock = &self.mailboxes[usize::from(here.mailbox)];
         let mut front = self.front.again();
-        let (fed, handle) = locked::feed(self.rt, lock, &mut front, here.handle, limit, out);
+        let (fed, handle) = locked::feed(self.rt, lock, &mut front, here.handle, limit, spare, out);
         self.entered = Some(Entry {
             mailbox: here.mailbox,
             start: here.start,

@@ -3,7 +3,6 @@
 //! are copied each follows the verdict on the one before. Which bytes come, and what becomes of the answers, stands above.
 
 ghost use Rattle.std.specs.Prelude.{◌≡◌, ◌≢◌, ◌∷◌, ◌++◌, [], List, None, false, true, IfErr, OnErr, OnOk};
-ghost use Rattle.std.specs.Vec.{vec_capacity};
 ghost use Rattle.imap_session.specs.Dialogue.{Dialogue, StandsFor};
 ghost use Rattle.imap_session.specs.Exchange.{may_send};
 ghost use Rattle.imap_session.specs.Store.{Follows};
@@ -15,6 +14,7 @@ ghost use Rattle.session_thread.specs.inner.Hearing.{HearsOn};
 use crate::locked_store::LockedStore;
 use house_history::{Naming, uid_fits};
 use imap_session::{After, ImapConnection};
+use line_io::Outlet;
 use std::alloc::Global;
 use std::sync::Wait;
 use workers_sync::{Courier, Gate, Lost};
@@ -29,11 +29,11 @@ fn awaits_verdict(connection: &ImapConnection) -> bool
 
 // Carries the message that was submitted, and answers the verdict on it. Room for the answer is asked for
 // first: behind the carrying nothing is refused.
-fn hear_verdict<B: Naming, R: Wait, G: Gate, C: Courier>(
+fn hear_verdict<B: Naming, R: Wait, G: Gate, C: Courier, O: Outlet>(
     connection: &mut ImapConnection,
     store: &mut LockedStore<'_, B, R, G>,
     courier: &mut C,
-    out: &mut Vec<u8>,
+    out: &mut O,
 ) -> Result<(), Lost>
     requires ready { C.ready courier.old }
     requires awaits { may_send connection.old.session ≡ after.Submit }
@@ -46,12 +46,13 @@ fn hear_verdict<B: Naming, R: Wait, G: Gate, C: Courier>(
         → C.carried courier.new (done ++ one ∷ []))
         × ((d : Dialogue) → StandsFor connection.old d
         → (next : Dialogue) × StandsFor connection.new next
-        × TellsVerdict one (moment d store.old out.old.items)
-        (moment next store.new out.new.items))) }
+        × TellsVerdict one (moment d store.old (O.said out.old))
+        (moment next store.new (O.said out.new)))) }
     ensures same { OnErr result ((connection.new ≡ connection.old) × (store.new ≡ store.old)
-        × (out.new.items ≡ out.old.items)) }
+        × (O.said out.new ≡ O.said out.old)) }
+    ensures lot { O.lot out.new ≡ O.lot out.old }
 {
-    out.reserve(connection.verdict_room())?;
+    out.hold(connection.verdict_room())?;
     let Some(append) = connection.submission() else {
         unreachable!()
     };
@@ -65,11 +66,11 @@ fn hear_verdict<B: Naming, R: Wait, G: Gate, C: Courier>(
 
 // Carries the message that was submitted, and answers the verdict on it; and so the messages that follow it, where it is one of several that are copied, till no
 // verdict is awaited.
-fn hear_verdicts<B: Naming, R: Wait, G: Gate, C: Courier>(
+fn hear_verdicts<B: Naming, R: Wait, G: Gate, C: Courier, O: Outlet>(
     connection: &mut ImapConnection,
     store: &mut LockedStore<'_, B, R, G>,
     courier: &mut C,
-    out: &mut Vec<u8>,
+    out: &mut O,
 ) -> Result<(), Lost>
     requires ready { C.ready courier.old }
     ensures ready { C.ready courier.new }
@@ -81,7 +82,8 @@ fn hear_verdicts<B: Naming, R: Wait, G: Gate, C: Courier>(
         → C.carried courier.new (done ++ carried)))
         × ((d : Dialogue) → StandsFor connection.old d
         → (next : Dialogue) × StandsFor connection.new next
-        × HearsOn carried (moment d store.old out.old.items) (moment next store.new out.new.items)) }
+        × HearsOn carried (moment d store.old (O.said out.old)) (moment next store.new (O.said out.new))) }
+    ensures lot { O.lot out.new ≡ O.lot out.old }
 {
     while awaits_verdict(connection) {
         hear_verdict(connection, store, courier, out)?;
@@ -96,13 +98,13 @@ fn hear_verdicts<B: Naming, R: Wait, G: Gate, C: Courier>(
 /// before the next line, or to the courier, or for the answer to a verdict before its message was carried;
 /// `Torn` where the courier met something else than that verdict. What was answered by then stands behind
 /// `out`.
-pub fn answer<B: Naming, R: Wait, G: Gate, C: Courier>(
+pub fn answer<B: Naming, R: Wait, G: Gate, C: Courier, O: Outlet>(
     alloc: Global,
     connection: &mut ImapConnection,
     store: &mut LockedStore<'_, B, R, G>,
     courier: &mut C,
     bytes: &[u8],
-    out: &mut Vec<u8>,
+    out: &mut O,
 ) -> Result<(), Lost>
     // The session hasn't ended, no message of it waits for a verdict, and the courier may carry one.
     requires going { connection.old.session.ended ≡ false }
@@ -119,14 +121,15 @@ pub fn answer<B: Naming, R: Wait, G: Gate, C: Courier>(
         → C.carried courier.new (done ++ carried))
         × ((d : Dialogue) → StandsFor connection.old d
         → (next : Dialogue) × StandsFor connection.new next
-        × Says bytes.now carried (moment d store.old out.old.items)
-        (moment next store.new out.new.items))) }
+        × Says bytes.now carried (moment d store.old (O.said out.old))
+        (moment next store.new (O.said out.new)))) }
 
     // After an error some bytes were taken and answered, and it was short of room or memory (`NoMemory`), or no verdict came on its message.
     ensures err { IfErr result (λ why. (d : Dialogue) → StandsFor connection.old d
         → (next : Dialogue) × StandsFor connection.new next
-        × SaysInPart (vec_capacity out.new) bytes.now why (moment d store.old out.old.items)
-        (moment next store.new out.new.items)) }
+        × SaysInPart (O.room out.new) bytes.now why (moment d store.old (O.said out.old))
+        (moment next store.new (O.said out.new))) }
+    ensures lot { O.lot out.new ≡ O.lot out.old }
 {
     let mut used = 0;
     loop {

@@ -64,7 +64,7 @@ fn enter<S: Store>(store: &mut S, mailbox: u8) -> Result<Opening, MailFault> {
 }
 
 fn feed<S: Store>(store: &mut S, limit: usize, out: &mut Vec<u8>) -> Result<usize, MailFault> {
-    store.feed(limit, out)
+    store.feed(limit, 0, out)
 }
 
 fn count<S: Store>(store: &mut S, mailbox: u8) -> Result<Status, MailFault> {

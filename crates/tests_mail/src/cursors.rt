@@ -147,13 +147,14 @@ fn ring_of(alloc: Global, room: usize, changes: &[Change]) -> Result<ChangeRing,
     Ok(ring)
 }
 
-// Feeds of at most so many changes each, and how many each of them showed.
+// Feeds of at most so many changes each, with so much room to spare, and how many each of them showed.
 fn feed_each(
     alloc: Global,
     set: &mut CursorSet,
     ring: &ChangeRing,
     handle: &mut CursorHandle,
     limits: &[usize],
+    spare: usize,
     text: &mut Vec<u8>,
 ) -> Result<Vec<usize>, AllocError>
     requires base { ring.now.base ≡ 0 }
@@ -162,7 +163,7 @@ fn feed_each(
 {
     let mut counts = Vec::new(alloc);
     for limit in limits {
-        let Ok(count) = set.feed(ring, handle, *limit, text) else {
+        let Ok(count) = set.feed(ring, handle, *limit, spare, text) else {
             return Err(AllocError);
         };
         let Ok(()) = counts.push(count) else {
@@ -172,22 +173,25 @@ fn feed_each(
     Ok(counts)
 }
 
-// How many changes each of some feeds showed to a client, the lines, and the UIDs that it counts
-// then.
+// How many changes each of some feeds showed to a client, the lines, the room that is left behind
+// them, and the UIDs that it counts then.
 #[derive(Drop)]
 struct Outcome {
     counts: Vec<usize>,
     text: Vec<u8>,
+    left: usize,
     view: Vec<u32>,
 }
 
-// Feeds of at most so many changes each, to a client that counts these UIDs.
+// Feeds of at most so many changes each, to a client that counts these UIDs, into room for so many bytes.
+// Each is to leave that room.
 fn fed(
     alloc: Global,
     room: usize,
     uids: &[u32],
     changes: &[Change],
     limits: &[usize],
+    spare: usize,
 ) -> Result<Outcome, AllocError>
     requires some { 0 < room }
     requires few { length changes.now ≤ room }
@@ -198,14 +202,24 @@ fn fed(
     let Ok(mut handle) = set.enter(uids, 0) else {
         return Err(AllocError);
     };
-    let mut text = Vec::new(alloc);
-    let counts = feed_each(alloc, &mut set, &ring, &mut handle, limits, &mut text)?;
+    let mut text = Vec::with_capacity(alloc, spare)?;
+    let counts = feed_each(
+        alloc,
+        &mut set,
+        &ring,
+        &mut handle,
+        limits,
+        spare,
+        &mut text,
+    )?;
+    let left = text.capacity() - text.len();
     let Ok(view) = set.view(&handle) else {
         return Err(AllocError);
     };
     Ok(Outcome {
         counts,
         text,
+        left,
         view: Vec::from_slice(alloc, view)?,
     })
 }
@@ -223,17 +237,25 @@ struct Case<'a> {
     view: &'a [u32],
 }
 
-// Whether a client is told what a case says.
-fn goes(alloc: Global, case: Case<'_>) -> Result<bool, AllocError> {
+// Whether a client is told what a case says, and as much room as there was before is left behind it.
+fn goes(alloc: Global, case: Case<'_>, spare: usize) -> Result<bool, AllocError> {
     if case.room == 0 || case.changes.len() > case.room {
         return Ok(false);
     }
     if !may_be_shown(alloc, case.uids, case.changes)? {
         return Ok(false);
     }
-    let told = fed(alloc, case.room, case.uids, case.changes, case.limits)?;
+    let told = fed(
+        alloc,
+        case.room,
+        case.uids,
+        case.changes,
+        case.limits,
+        spare,
+    )?;
     Ok(
-        &told.counts[..] == case.counts
+        told.left >= spare
+            && &told.counts[..] == case.counts
             && &told.text[..] == case.text
             && &told.view[..] == case.view,
     )
@@ -416,7 +438,49 @@ const FULL: Case<'static> = Case {
 #[test]
 fn each_client_is_told_what_its_case_says(rt: HostRuntime) -> Result<(), AllocError> {
     for (name, case) in CASES {
-        assert!(rt; goes(rt.alloc(), *case)?, "{}", *name);
+        assert!(rt; goes(rt.alloc(), *case, 0)?, "{}", *name);
+    }
+    Ok(())
+}
+
+// Feeds that show as many changes as their names say.
+const COUNTED: &[(&str, Case<'static>)] = &[
+    (
+        "none",
+        Case {
+            limits: &[0],
+            counts: &[0],
+            text: b"",
+            view: &[],
+            ..FIVE
+        },
+    ),
+    (
+        "one",
+        Case {
+            limits: &[1],
+            counts: &[1],
+            text: b"* 1 EXISTS\r\n",
+            view: &[4],
+            ..FIVE
+        },
+    ),
+    ("several", FIVE),
+    (
+        "none, one and several",
+        Case {
+            limits: &[0, 1, 2],
+            counts: &[0, 1, 2],
+            ..FIVE
+        },
+    ),
+];
+
+// More room than the lines of all changes want: none of it may be used for them.
+#[test]
+fn room_to_spare_is_left_behind_what_is_shown(rt: HostRuntime) -> Result<(), AllocError> {
+    for (name, case) in COUNTED {
+        assert!(rt; goes(rt.alloc(), *case, 1000)?, "{}", *name);
     }
     Ok(())
 }
@@ -471,7 +535,7 @@ fn half_goes(alloc: Global) -> Result<bool, AllocError> {
         text: lines.as_bytes(),
         view: &kept,
     };
-    goes(alloc, case)
+    goes(alloc, case, 0)
 }
 
 #[test]
@@ -498,7 +562,7 @@ fn last_ones_go(alloc: Global) -> Result<bool, AllocError> {
         text: lines.as_bytes(),
         view: &kept,
     };
-    goes(alloc, case)
+    goes(alloc, case, 0)
 }
 
 #[test]
@@ -517,7 +581,7 @@ fn feed_lapped(
     if ring.base() <= handle.at() {
         return None;
     }
-    Some(set.feed(ring, handle, 64, out))
+    Some(set.feed(ring, handle, 64, 0, out))
 }
 
 // A ring of which more were added than it has room for.
@@ -581,7 +645,7 @@ fn feeds_none(
     if !is_stranger(set, handle) {
         return false;
     }
-    let fed = set.feed(ring, handle, 10, out);
+    let fed = set.feed(ring, handle, 10, 0, out);
     fed == Err(FeedFault::Stranger) && out.is_empty() && is_stranger(set, handle)
 }
 

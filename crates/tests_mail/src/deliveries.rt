@@ -209,11 +209,11 @@ fn step(
         Act::Enters(session, mailbox) => Ok(core.enter(*session, *mailbox).is_ok()),
         Act::View(session, uids) => Ok(counts(core, *session, uids)),
         Act::IsUpToDate(session, wanted) => Ok(core.is_up_to_date(*session) == *wanted),
-        Act::Feed(session, wanted) => Ok(core.feed(*session, 64, out) == *wanted),
+        Act::Feed(session, wanted) => Ok(core.feed(*session, 64, 0, out) == *wanted),
         Act::Read(session, uid, mark, wanted) => Ok(reads(core, *session, *uid, *mark) == *wanted),
         Act::Store(session, uid, op, wanted) => Ok(core.store(*session, *uid, *op) == *wanted),
         Act::Expunge(session, set, wanted) => {
-            Ok(core.expunge(*session, Some(*set), out) == *wanted)
+            Ok(core.expunge(*session, Some(*set), 0, out) == *wanted)
         }
         Act::Leave(session, remove, wanted) => Ok(core.leave(*session, *remove) == *wanted),
         Act::Discard(mailbox, uids, wanted) => Ok(core.discard(*mailbox, *uids) == *wanted),

@@ -128,8 +128,8 @@ fn step(
         Act::View(wanted) => counts(mailbox, handle, *wanted),
         Act::Read(uid, mark, wanted) => reads(mailbox, handle, *uid, *mark) == *wanted,
         Act::Alter(uid, op, wanted) => alter(mailbox, handle, *uid, *op) == *wanted,
-        Act::Feed(limit, wanted) => feed(mailbox, handle, *limit, out) == *wanted,
-        Act::Expunge(set, wanted) => expunge(mailbox, handle, *set, out) == *wanted,
+        Act::Feed(limit, wanted) => feed(mailbox, handle, *limit, 0, out) == *wanted,
+        Act::Expunge(set, wanted) => expunge(mailbox, handle, *set, 0, out) == *wanted,
         Act::Discard(uids) => discard(mailbox, uids).is_ok(),
         Act::Lines(wanted) => lines_are(out, wanted),
     }

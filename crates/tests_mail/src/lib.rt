@@ -35,6 +35,8 @@ mod mailboxes;
 #[cfg(test)]
 mod marking;
 #[cfg(test)]
+mod outlets;
+#[cfg(test)]
 mod parcels;
 #[cfg(test)]
 mod pauses;

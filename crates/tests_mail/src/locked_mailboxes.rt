@@ -149,7 +149,7 @@ fn step<B: Naming>(
         Act::Deliver(m, wanted) => delivers(alloc, senders, locked, *m, *wanted),
         Act::Withdraw => withdraws(alloc, senders),
         Act::Feed(limit, wanted) => {
-            locked.feed(&mut senders.front, handle, *limit, out) == *wanted
+            locked.feed(&mut senders.front, handle, *limit, 0, out) == *wanted
         }
         Act::Read(uid, mark, wanted) => {
             reads(locked, &mut senders.front, handle, *uid, *mark) == *wanted
@@ -158,7 +158,7 @@ fn step<B: Naming>(
             locked.alter(&mut senders.front, handle, *uid, *op) == *wanted
         }
         Act::Expunge(set, wanted) => {
-            locked.expunge(&mut senders.front, handle, *set, out) == *wanted
+            locked.expunge(&mut senders.front, handle, *set, 0, out) == *wanted
         }
         Act::Discard(uids) => locked.discard(&mut senders.front, uids).is_ok(),
         Act::Counts(shown, there) => counts(locked, handle, *shown, *there),

@@ -201,8 +201,8 @@ fn step(
         Act::StoreEach(every, count, op, wanted) => {
             Ok(stores_each(mailbox, handle, *every, *count, *op, *wanted))
         }
-        Act::Feed(wanted) => Ok(mailbox.feed(handle, 64, out) == *wanted),
-        Act::Expunge(set, wanted) => Ok(mailbox.expunge(handle, *set, out) == *wanted),
+        Act::Feed(wanted) => Ok(mailbox.feed(handle, 64, 0, out) == *wanted),
+        Act::Expunge(set, wanted) => Ok(mailbox.expunge(handle, *set, 0, out) == *wanted),
         Act::Lines(wanted) => Ok(lines_are(out, wanted)),
         _ => tells(alloc, mailbox, act),
     }

@@ -308,11 +308,11 @@ fn sleep_and_look<B: Naming, R: Wait>(
 ) -> Option<Vec<u8>> {
     let mut said = Vec::new(alloc);
     let mut store = store_of(rt, order, 0, house, bells);
-    if store.enter(0).is_err() || store.feed(64, &mut said).is_err() {
+    if store.enter(0).is_err() || store.feed(64, 0, &mut said).is_err() {
         return None;
     }
     bell.sleep(rt);
-    let fed = store.feed(64, &mut said);
+    let fed = store.feed(64, 0, &mut said);
     if fed.is_err() || store.shown() != 1 {
         return None;
     }
@@ -447,8 +447,8 @@ fn calls_outside<B: Naming, R: Wait>(
         && store.read(1, false).is_err()
         && store.status(2).is_err()
         && store.store(1, FlagOp::Insert(FLAGGED)).is_err()
-        && store.expunge(None, out).is_err()
-        && store.feed(64, out).is_err()
+        && store.expunge(None, 0, out).is_err()
+        && store.feed(64, 0, out).is_err()
         && store.leave(true).is_err()
 }
 
@@ -463,8 +463,8 @@ fn calls_inside<B: Naming, R: Wait>(
         && store.read(1, false).is_ok()
         && store.status(0).is_ok()
         && store.store(1, FlagOp::Insert(FLAGGED)).is_ok()
-        && store.expunge(None, out).is_ok()
-        && store.feed(64, out).is_ok()
+        && store.expunge(None, 0, out).is_ok()
+        && store.feed(64, 0, out).is_ok()
         && store.leave(false).is_ok()
 }
 
@@ -491,7 +491,7 @@ fn change_much<B: Naming, R: Wait>(
     for _ in 0..9 {
         let set = store.store(1, FlagOp::Insert(FLAGGED));
         let unset = store.store(1, FlagOp::Remove(FLAGGED));
-        if set.is_err() || unset.is_err() || store.feed(64, out).is_err() {
+        if set.is_err() || unset.is_err() || store.feed(64, 0, out).is_err() {
             return false;
         }
     }
@@ -610,7 +610,7 @@ fn wakes_each_time<B: Naming, R: Wait>(
         return false;
     }
     bell.sleep(rt);
-    let gone = store.expunge(None, &mut out);
+    let gone = store.expunge(None, 0, &mut out);
     bell.sleep(rt);
     gone == Ok(1)
 }
@@ -749,8 +749,8 @@ fn is_a_stranger<B: Naming, R: Wait>(
     has_chosen(store, alloc) == Some(false)
         && store.read(1, true).err() == Some(MailFault::Stranger)
         && store.store(1, FlagOp::Insert(FLAGGED)) == Err(MailFault::Stranger)
-        && store.expunge(None, out) == Err(MailFault::Stranger)
-        && store.feed(64, out) == Err(MailFault::Stranger)
+        && store.expunge(None, 0, out) == Err(MailFault::Stranger)
+        && store.feed(64, 0, out) == Err(MailFault::Stranger)
         && store.leave(true) == Err(MailFault::Stranger)
         && out.is_empty()
 }

@@ -1,7 +1,7 @@
 //! The calls, on a mailbox that is held: each makes one call of the mailbox, and asks before and
 //! behind it for what every mailbox keeps.
 
-ghost use Rattle.std.specs.Prelude.{◌≡◌, ◌≢◌, ◌≤◌, Ok, Err, IfErr, IfOk, OnErr};
+ghost use Rattle.std.specs.Prelude.{◌≡◌, ◌≢◌, ◌+◌, ◌≤◌, Ok, Err, IfErr, IfOk, OnErr, vec_len};
 ghost use Rattle.std.specs.List.Sorted.{IsStrictlyIncreasing};
 ghost use Rattle.std.specs.Option.{option_copied};
 ghost use Rattle.std.specs.Vec.{vec_capacity};
@@ -116,11 +116,13 @@ pub fn alter(
 ///
 /// Stranger where the handle has no cursor here; else Lapped where the next change was overwritten;
 /// else NoMemory where memory is refused, which is wanted only where there is something to show;
-/// never Spent. The mailbox, the handle and `out` are then unchanged.
+/// never Spent. The mailbox, the handle and what `out` says are then unchanged. Room for `spare` more
+/// bytes behind what `out` says, where it stood there, stands there still.
 pub fn feed(
     mailbox: &mut Mailbox,
     handle: &mut CursorHandle,
     limit: usize,
+    spare: usize,
     out: &mut Vec<u8>,
 ) -> Result<usize, MailFault>
     // After Ok it is one event: the lines of the next changes are written, and the handle goes on by as many. Else nothing has changed.
@@ -131,9 +133,12 @@ pub fn feed(
     ensures faults { IfErr result (λ f. f ≢ MailFault.Spent) }
     // `out` keeps its room or has more.
     ensures room { vec_capacity out.old ≤ vec_capacity out.new }
+    // Where room for `spare` more bytes stood behind `out`, it stands there still.
+    ensures spare { vec_len out.old + spare ≤ vec_capacity out.old
+        → vec_len out.new + spare ≤ vec_capacity out.new }
 {
     every_mailbox_keeps(mailbox);
-    let fed = mailbox.feed(handle, limit, out);
+    let fed = mailbox.feed(handle, limit, spare, out);
     every_mailbox_keeps(mailbox);
     answer_of(fed)
 }
@@ -144,20 +149,25 @@ pub fn feed(
 ///
 /// Stranger where the handle has no cursor here; else Lapped where the next change was overwritten;
 /// else Spent where the log has no room for the removals; else NoMemory where memory is refused,
-/// which is wanted only where something is pending. The mailbox, the handle and `out` are then
-/// unchanged.
+/// which is wanted only where something is pending. The mailbox, the handle and what `out` says are
+/// then unchanged. Room for `spare` more bytes behind what `out` says, where it stood there, stands
+/// there still.
 pub fn expunge(
     mailbox: &mut Mailbox,
     handle: &mut CursorHandle,
     uids: Option<&[u32]>,
+    spare: usize,
     out: &mut Vec<u8>,
 ) -> Result<usize, MailFault>
     ensures event { DoesExpunge mailbox.old handle.old (option_copied uids.entry) out.old.items
         out.new.items result mailbox.new handle.new }
     ensures room { vec_capacity out.old ≤ vec_capacity out.new }
+    // Where room for `spare` more bytes stood behind `out`, it stands there still.
+    ensures spare { vec_len out.old + spare ≤ vec_capacity out.old
+        → vec_len out.new + spare ≤ vec_capacity out.new }
 {
     every_mailbox_keeps(mailbox);
-    let gone = mailbox.expunge(handle, uids, out);
+    let gone = mailbox.expunge(handle, uids, spare, out);
     every_mailbox_keeps(mailbox);
     gone
 }

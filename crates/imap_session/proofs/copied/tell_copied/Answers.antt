@@ -1,3 +1,6 @@
+use Rattle.std.proofs.Common.{◌∙◌, []}
+use Rattle.imap_session.specs.Commands.{wrong_state}
+use Rattle.imap_session.proofs.Lots.{anybody}
 use Rattle.imap_session.specs.Commands.{copied_words, says, showing}
 use Rattle.imap_session.specs.inner.Seen.{batch_of}
 use Rattle.imap_session.proofs.Ending.{plays_said, plays_stopped}
@@ -7,10 +10,16 @@ pub returns-in-Ok-clause-plays : goal.returns-in-Ok-clause-plays
 returns-in-Ok-clause-plays g c now =
     let words = copied_words c.args.uidvalidity (batch_of c.args.batch.now) in
     plays_said g.S.Store.step words now (showing c.args.selected (says words)) _ _ c.args.response _ _
-    (c.in-Ok.ensures.done (says words) c.args.response.tag now) c.end_copied.ensures
+    (c.in-Ok.ensures.done (says words) c.args.response.tag now) c.end_copied.ensures.text
 
 pub returns-in-Err-clause-plays : goal.returns-in-Err-clause-plays
 returns-in-Err-clause-plays g c now =
     let words = copied_words c.args.uidvalidity (batch_of c.args.batch.now) in
     plays_stopped g.S.Store.step now (showing c.args.selected (says words)) c.in-Err.fault _ _ c.args.response _ _ c.conclude.result
     (c.in-Err.ensures.done (says words) c.args.response.tag now) c.conclude.ensures.text c.conclude.ensures.after
+
+pub returns-in-Ok-clause-lot : goal.returns-in-Ok-clause-lot
+returns-in-Ok-clause-lot g c = c.end_copied.ensures.lot ∙ (c.in-Ok.ensures.done wrong_state [] anybody).wrote.1
+
+pub returns-in-Err-clause-lot : goal.returns-in-Err-clause-lot
+returns-in-Err-clause-lot g c = c.conclude.ensures.lot ∙ (c.in-Err.ensures.done wrong_state [] anybody).wrote.1

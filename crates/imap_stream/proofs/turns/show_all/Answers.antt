@@ -15,7 +15,7 @@ returns-in_err-shown-clause-err g c =
     let e = c.in_err-shown.ensures.err t.0 t.1 in (
       t.0,
       e.0,
-      shows_in_part _ (moment d c.args.store.now c.args.out.now.items) t.0 c.loop-turn.store c.idle_turn.new.store c.loop-turn.out.items c.idle_turn.new.out.items c.loop-turn.connection t.1 (sym c.is_idling.ensures ∙ c.if-not-is_idling.false) t.2 e.1 e.2,
+      shows_in_part _ (moment d c.args.store.now (g.O.Outlet.said c.args.out.now)) t.0 c.loop-turn.store c.idle_turn.new.store (g.O.Outlet.said c.loop-turn.out) (g.O.Outlet.said c.idle_turn.new.out) c.loop-turn.connection t.1 (sym c.is_idling.ensures ∙ c.if-not-is_idling.false) t.2 e.1 e.2,
     )
 
 pub returns-then-shown-eq0-clause-ok : goal.returns-then-shown-eq0-clause-ok
@@ -24,7 +24,7 @@ returns-then-shown-eq0-clause-ok g c d s =
     let n = c.in_ok-shown.ensures.ok t.0 t.1 in (
       n.0,
       n.1,
-      shows_all c.in_ok-shown.shown (moment d c.args.store.now c.args.out.now.items) (moment t.0 c.loop-turn.store c.loop-turn.out.items) (moment n.0 c.idle_turn.new.store c.idle_turn.new.out.items) t.2 n.2 c.if-shown-eq0.true,
+      shows_all c.in_ok-shown.shown (moment d c.args.store.now (g.O.Outlet.said c.args.out.now)) (moment t.0 c.loop-turn.store (g.O.Outlet.said c.loop-turn.out)) (moment n.0 c.idle_turn.new.store (g.O.Outlet.said c.idle_turn.new.out)) t.2 n.2 c.if-shown-eq0.true,
     )
 
 pub loop-turn-preserved : goal.loop-turn-preserved
@@ -33,5 +33,5 @@ loop-turn-preserved g c d s =
     let n = c.in_ok-shown.ensures.ok t.0 t.1 in (
       n.0,
       n.1,
-      another c.in_ok-shown.shown (moment t.0 c.loop-turn.store c.loop-turn.out.items) (moment n.0 c.idle_turn.new.store c.idle_turn.new.out.items) t.2 (omega (arith, c.if-shown-eq0.false)) n.2,
+      another c.in_ok-shown.shown (moment t.0 c.loop-turn.store (g.O.Outlet.said c.loop-turn.out)) (moment n.0 c.idle_turn.new.store (g.O.Outlet.said c.idle_turn.new.out)) t.2 (omega (arith, c.if-shown-eq0.false)) n.2,
     )

@@ -4,4 +4,4 @@ use Rattle.imap_stream.specs.Visits.{GoesOnShowing}
 use Rattle.imap_stream.proofs.turns.show_all.Given as goal
 
 abbrev pub invariant-loop-turn : goal.invariant-loop-turn
-invariant-loop-turn g l = (d : Dialogue) → StandsFor l.fn.connection d → (now : Dialogue) × StandsFor l.connection now × GoesOnShowing (moment d l.fn.store l.fn.out.items) (moment now l.store l.out.items)
+invariant-loop-turn g l = (d : Dialogue) → StandsFor l.fn.connection d → (now : Dialogue) × StandsFor l.connection now × GoesOnShowing (moment d l.fn.store (g.O.Outlet.said l.fn.out)) (moment now l.store (g.O.Outlet.said l.out))

@@ -11,8 +11,9 @@ invariant-loop-alloc g l =
     × (l.used ≤ length l.bytes)
     × (l.connection.session.ended ≡ false)
     × (l.connection.session.mailing.sent ≡ None)
+    × (g.O.Outlet.lot l.out ≡ g.O.Outlet.lot l.fn.out)
     × ((carried : List Carried) × ((done : List Carried) → g.C.Courier.carried l.fn.courier done → g.C.Courier.carried l.courier (done ++ carried))
-    × ((d : Dialogue) → StandsFor l.fn.connection d → (now : Dialogue) × StandsFor l.connection now × Speaks l.bytes (moment d l.fn.store l.fn.out.items) l.used carried (moment now l.store l.out.items)))
+    × ((d : Dialogue) → StandsFor l.fn.connection d → (now : Dialogue) × StandsFor l.connection now × Speaks l.bytes (moment d l.fn.store (g.O.Outlet.said l.fn.out)) l.used carried (moment now l.store (g.O.Outlet.said l.out))))
 
 abbrev pub decreases-loop-alloc : goal.decreases-loop-alloc
 decreases-loop-alloc g l = length l.bytes - l.used

@@ -1,10 +1,10 @@
-use Rattle.std.proofs.Common.{◌++◌, ◌∷◌, []}
+use Rattle.std.proofs.Common.{refl, ◌∙◌, ◌++◌, ◌∷◌, []}
 use Rattle.session_thread.proofs.Spoken.{fewer_verdicts, heard_none, heard_one, heard_same, more_carried, never_ok, none_more}
 use Rattle.session_thread.proofs.speaking.hear_verdicts.Goals as goal
 
 pub loop-connection-init : goal.loop-connection-init
 loop-connection-init g c =
-    (c.requires.ready, λ first h. h, ([], none_more (g.C.Courier.carried c.args.courier.now), heard_none c.args.connection.now c.args.store.now c.args.out.now.items))
+    (c.requires.ready, λ first h. h, refl, ([], none_more (g.C.Courier.carried c.args.courier.now), heard_none c.args.connection.now c.args.store.now (g.O.Outlet.said c.args.out.now)))
 
 pub hear_verdict-requires-clause-ready : goal.hear_verdict-requires-clause-ready
 hear_verdict-requires-clause-ready g c = c.loop-connection.invariant.0
@@ -21,10 +21,11 @@ loop-connection-preserved g c =
     let one = c.in_ok-hear_verdict.ensures.told in (
       c.in_ok-hear_verdict.ensures.ready,
       λ first k. c.in_ok-hear_verdict.ensures.kept first (v.1 first k),
+      c.in_ok-hear_verdict.ensures.lot ∙ v.2,
       (
-        v.2.0 ++ one.0 ∷ [],
-        more_carried (g.C.Courier.carried c.args.courier.now) (g.C.Courier.carried l.courier) (g.C.Courier.carried h.courier) v.2.0 (one.0 ∷ []) v.2.1 one.1,
-        heard_one v.2.0 one.0 c.args.store.now l.store h.store c.args.out.now.items l.out.items h.out.items c.args.connection.now l.connection h.connection one.2 v.2.2,
+        v.3.0 ++ one.0 ∷ [],
+        more_carried (g.C.Courier.carried c.args.courier.now) (g.C.Courier.carried l.courier) (g.C.Courier.carried h.courier) v.3.0 (one.0 ∷ []) v.3.1 one.1,
+        heard_one v.3.0 one.0 c.args.store.now l.store h.store (g.O.Outlet.said c.args.out.now) (g.O.Outlet.said l.out) (g.O.Outlet.said h.out) c.args.connection.now l.connection h.connection one.2 v.3.2,
       ),
     )
 
@@ -36,9 +37,9 @@ returns-in_err-hear_verdict-clause-told g c =
     let l = c.loop-connection in
     let v = l.invariant in
     let h = c.hear_verdict.new in (
-      v.2.0,
+      v.3.0,
       never_ok c.from_residual.result _ c.from_residual.ensures.0,
-      heard_same v.2.0 c.args.store.now l.store h.store c.args.out.now.items l.out.items h.out.items c.args.connection.now l.connection h.connection c.in_err-hear_verdict.ensures.same v.2.2,
+      heard_same v.3.0 c.args.store.now l.store h.store (g.O.Outlet.said c.args.out.now) (g.O.Outlet.said l.out) (g.O.Outlet.said h.out) c.args.connection.now l.connection h.connection c.in_err-hear_verdict.ensures.same v.3.2,
     )
 
 pub returns-clause-ready : goal.returns-clause-ready
@@ -48,4 +49,4 @@ pub returns-clause-kept : goal.returns-clause-kept
 returns-clause-kept g c = c.loop-connection.invariant.1
 
 pub returns-clause-told : goal.returns-clause-told
-returns-clause-told g c = c.loop-connection.invariant.2
+returns-clause-told g c = c.loop-connection.invariant.3

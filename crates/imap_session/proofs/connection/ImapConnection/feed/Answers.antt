@@ -23,7 +23,7 @@ returns-in-NeedMore-clause-ok g c d s =
     let all : take c.take-cut.result.used c.args.piece.now ≡ c.args.piece.now = ap (λ n. take n c.args.piece.now) used ∙ take-length c.args.piece.now in
     let tells = subst (λ w. cutting.Tells w c.take-cut.new.self d.begun (take c.take-cut.result.used c.args.piece.now)) c.in-NeedMore.is (c.take-cut.ensures.lines d.begun cut) in
     let live : d.standing.ended ≡ false = ap (λ x. x.ended) (sym same) ∙ sym c.ended.ensures ∙ c.if-ended.false in
-    begins live used (c.may_send.ensures ∙ ap may_send same ∙ ap (λ (b : Bool). if b then Bye else waits_for d.standing) live) refl (c.reserve.ensures.items)
+    begins live used (c.may_send.ensures ∙ ap may_send same ∙ ap (λ (b : Bool). if b then Bye else waits_for d.standing) live) refl (c.hold.ensures.said)
     (has_begun c.self.inside.session c.take-cut.new.self d c.args.piece.now same s.uncut (none_due c.self.inside.session d.standing same c.literal_due.result c.literal_due.ensures (omega (arith, c.if-literal_due-gt0.false)))
     (subst (λ (t : List ℕ). cutting.StandsFor c.take-cut.new.self (d.begun ++ t)) all (c.take-cut.ensures.stands d.begun cut))
     (subst (λ (t : List ℕ). wire_lines (d.begun ++ t) ≡ wire_lines d.begun) all tells))
@@ -41,8 +41,8 @@ returns-in-Ok-clause-ok g c d s =
     let whole = line_ends d used c.line.result.now s.uncut ended in
     ends c.line.result.now c.line-in-Line.new.self (ap (λ x. x.ended) (sym same) ∙ sym c.ended.ensures ∙ c.if-ended.false) whole.0 whole.1 (none_due c.self.inside.session d.standing same c.literal_due.result c.literal_due.ensures (omega (arith, c.if-literal_due-gt0.false)))
     (reads short
-    (subst (λ (now : Standing). Answers g.S.Store.step now c.line.result.now c.args.store.now c.line-in-Line.new.store c.args.out.now.items c.line-in-Line.new.out.items c.in-Ok.after c.line-in-Line.new.self) same
-    (subst (λ (t : List ℕ). Answers g.S.Store.step c.self.inside.session c.line.result.now c.args.store.now c.line-in-Line.new.store t c.line-in-Line.new.out.items c.in-Ok.after c.line-in-Line.new.self) c.reserve.ensures.items
+    (subst (λ (now : Standing). Answers g.S.Store.step now c.line.result.now c.args.store.now c.line-in-Line.new.store (g.O.Outlet.said c.args.out.now) (g.O.Outlet.said c.line-in-Line.new.out) c.in-Ok.after c.line-in-Line.new.self) same
+    (subst (λ (t : List ℕ). Answers g.S.Store.step c.self.inside.session c.line.result.now c.args.store.now c.line-in-Line.new.store t (g.O.Outlet.said c.line-in-Line.new.out) c.in-Ok.after c.line-in-Line.new.self) c.hold.ensures.said
     c.in-Ok.ensures.answered)))
     (stands_anew c.line-in-Line.new.self c.take-cut.new.self d.begun used c.line.result.now (c.take-cut.ensures.stands d.begun cut) ended)
 
@@ -55,7 +55,7 @@ returns-in-Ok-long_line-clause-ok g c d s =
     let max : c.take-cut.new.self.max ≡ 8192 = c.take-cut.ensures.max ∙ c.self.invariant.0 in
     let whole = line_ends d used told.0 s.uncut told.1 in
     ends told.0 c.long_line.new.self (ap (λ x. x.ended) (sym same) ∙ sym c.ended.ensures ∙ c.if-ended.false) whole.0 whole.1 (none_due c.self.inside.session d.standing same c.literal_due.result c.literal_due.ensures (omega (arith, c.if-literal_due-gt0.false)))
-    (too_long (subst (λ (n : ℕ). n < length told.0 + 2) max told.2) refl (c.in-Ok-long_line.ensures.answered.1 ∙ ap (λ (t : List ℕ). t ++ long_line_text c.self.inside.session) c.reserve.ensures.items ∙ ap (λ (x : Standing). c.args.out.now.items ++ long_line_text x) same)
+    (too_long (subst (λ (n : ℕ). n < length told.0 + 2) max told.2) refl (c.in-Ok-long_line.ensures.answered.1 ∙ ap (λ (t : List ℕ). t ++ long_line_text c.self.inside.session) c.hold.ensures.said ∙ ap (λ (x : Standing). (g.O.Outlet.said c.args.out.now) ++ long_line_text x) same)
     c.in-Ok-long_line.ensures.answered.0 (c.in-Ok-long_line.ensures.standing ∙ ap (λ (x : Standing). (turn_of_long_line x).standing) same))
     (stands_anew c.long_line.new.self c.take-cut.new.self d.begun used told.0 (c.take-cut.ensures.stands d.begun cut) told.1)
 
@@ -66,6 +66,6 @@ returns-then-literal_due-gt0-clause-ok g c d s =
     let e = c.take_literal.ensures in
     let positive : 0 < c.literal_due.result = omega (arith, c.if-literal_due-gt0.true) in
     let due : 0 < due_of d.standing.mailing.begun = subst (λ (n : ℕ). 0 < n) (c.literal_due.ensures ∙ ap (λ (x : Standing). due_of x.mailing.begun) same) positive in
-    literal_taken g.S.Store.step d c.args.piece.now c.args.store.now c.args.out.now.items c.take_literal.result c.args.self.now c.take_literal.new.self s live due
+    literal_taken g.S.Store.step d c.args.piece.now c.args.store.now (g.O.Outlet.said c.args.out.now) c.take_literal.result c.args.self.now c.take_literal.new.self s live due
     (e.used ∙ ap (λ (x : Standing). min (length c.args.piece.now) (due_of x.mailing.begun)) s.session) e.none
     (λ some. subst (λ (x : Standing). TakesBytes x (take c.take_literal.result.used c.args.piece.now) c.take_literal.new.self.session) s.session (e.takes some)) e.cutter e.sends

@@ -12,7 +12,8 @@ loop-fed-init g c = record {
   asked = asks_none g.S.Store.step c.args.store.now c.args.store.now refl;
   goes_on = c.requires.going;
   unsent = c.requires.unsent;
-  took = λ d s. ([], d, nothing_taken g.S.Store.step d c.args.store.now, s, sym (append-nil c.args.out.now.items));
+  lot = refl;
+  took = λ d s. ([], d, nothing_taken g.S.Store.step d c.args.store.now, s, sym (append-nil (g.O.Outlet.said c.args.out.now)));
 }
 
 pub loop-fed-preserved : goal.loop-fed-preserved
@@ -25,9 +26,10 @@ loop-fed-preserved g c =
       asked = asks_then g.S.Store.step c.args.store.now c.loop-fed.store c.feed.new.store i.asked e.asked;
       goes_on = live;
       unsent = c.awaits_verdict.ensures.none c.if-awaits_verdict.false;
+      lot = e.lot ∙ i.lot;
       took = λ d s.
           let t = i.took d s in
-          let m = taken_on g.S.Store.step d t.1 c.args.piece.now c.loop-fed.used c.args.store.now c.loop-fed.store c.feed.new.store t.0 c.args.out.now.items c.loop-fed.out.items c.feed.new.out.items
+          let m = taken_on g.S.Store.step d t.1 c.args.piece.now c.loop-fed.used c.args.store.now c.loop-fed.store c.feed.new.store t.0 (g.O.Outlet.said c.args.out.now) (g.O.Outlet.said c.loop-fed.out) (g.O.Outlet.said c.feed.new.out)
           c.in-Ok.fed c.loop-fed.self c.feed.new.self t.2 t.3 i.goes_on i.unsent t.4 e.sends (e.ok t.1 t.3) in
           let after = goes_to c.in-Ok.fed.after c.feed.new.self m.next e.sends live m.stands in
           (m.said, m.next, subst (λ (a : After). Answered g.S.Store.step d (take (c.loop-fed.used + c.in-Ok.fed.used) c.args.piece.now) c.args.store.now c.feed.new.store m.said a m.next) after m.answered, m.stands, m.wrote);
@@ -38,7 +40,7 @@ returns-then-used-piece-clause-took g c d s =
     let i = c.loop-fed.invariant in
     let e = c.in-Ok.ensures in
     let t = i.took d s in
-    let m = taken_on g.S.Store.step d t.1 c.args.piece.now c.loop-fed.used c.args.store.now c.loop-fed.store c.feed.new.store t.0 c.args.out.now.items c.loop-fed.out.items c.feed.new.out.items
+    let m = taken_on g.S.Store.step d t.1 c.args.piece.now c.loop-fed.used c.args.store.now c.loop-fed.store c.feed.new.store t.0 (g.O.Outlet.said c.args.out.now) (g.O.Outlet.said c.loop-fed.out) (g.O.Outlet.said c.feed.new.out)
     c.in-Ok.fed c.loop-fed.self c.feed.new.self t.2 t.3 i.goes_on i.unsent t.4 e.sends (e.ok t.1 t.3) in
     record { said = m.said; how = c.in-Ok.fed.after; next = m.next; answered = m.answered; stands = m.stands; wrote = m.wrote; is = inr refl }
 
@@ -47,4 +49,4 @@ returns-then-used-piece-clause-asked g c = asks_then g.S.Store.step c.args.store
 
 pub returns-then-is_empty-clause-took : goal.returns-then-is_empty-clause-took
 returns-then-is_empty-clause-took g c d s =
-    took_nothing g.S.Store.step d c.args.piece.now c.args.out.now.items c.args.store.now c.args.self.now c.may_send.result s c.requires.going c.may_send.ensures
+    took_nothing g.S.Store.step d c.args.piece.now (g.O.Outlet.said c.args.out.now) c.args.store.now c.args.self.now c.may_send.result s c.requires.going c.may_send.ensures

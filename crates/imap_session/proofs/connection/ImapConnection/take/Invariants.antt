@@ -9,8 +9,9 @@ invariant-loop-fed g l = record {
   asked : Asks g.S.Store.step l.fn.store l.store;
   goes_on : l.self.session.ended ≡ false;
   unsent : l.self.session.mailing.sent ≡ None;
+  lot : g.O.Outlet.lot l.out ≡ g.O.Outlet.lot l.fn.out;
   took : (d : Dialogue) → StandsFor l.fn.self d → (said : List ℕ) × (next : Dialogue) × Answered g.S.Store.step d (take l.used l.piece) l.fn.store l.store said (waits_for next.standing) next
-      × StandsFor l.self next × (l.out.items ≡ l.fn.out.items ++ said);
+      × StandsFor l.self next × ((g.O.Outlet.said l.out) ≡ (g.O.Outlet.said l.fn.out) ++ said);
 }
 
 abbrev pub decreases-loop-fed : goal.decreases-loop-fed

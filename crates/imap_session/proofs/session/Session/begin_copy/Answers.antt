@@ -17,7 +17,7 @@ pub returns-in-Ok-Said-clause-had : goal.returns-in-Ok-Said-clause-had
 returns-in-Ok-Said-clause-had g c =
     let now = c.args.self.now in
     had_played g.S.Store.step c.args.response.tag now now now (on_command c.args.response.tag now (commands.Copy c.args.copy.now)) _ _ _ _ _
-    (plays_said g.S.Store.step (response_text c.in-Ok-Said.text) now (on_command c.args.response.tag now (commands.Copy c.args.copy.now)) _ _ c.args.response c.args.response _ ((rw (c.in-Ok-Said.is, c.in-Ok-Said.field-0-is) at (c.find_copies.ensures.does c.args.response)) c.args.response.tag now) c.end.ensures) refl
+    (plays_said g.S.Store.step (response_text c.in-Ok-Said.text) now (on_command c.args.response.tag now (commands.Copy c.args.copy.now)) _ _ c.args.response c.args.response _ ((rw (c.in-Ok-Said.is, c.in-Ok-Said.field-0-is) at (c.find_copies.ensures.does c.args.response)) c.args.response.tag now) c.end.ensures.text) refl
 
 pub returns-in-Err-clause-had : goal.returns-in-Err-clause-had
 returns-in-Err-clause-had g c =

@@ -6,5 +6,5 @@ use Rattle.imap_session.proofs.session.Session.go_on.Goals as goal
 pub returns-in-Ok-clause-had : goal.returns-in-Ok-clause-had
 returns-in-Ok-clause-had g c =
     let now = c.args.self.now in
-    had_led_alone g.S.Store.step c.args.tag now c.submit_next.new.self (copy_stored now.mailing now.selected (batch_of c.args.batch) c.args.mailbox) c.args.store.now c.args.out.now.items c.args.out.now.items _
-    (c.in-Ok.ensures.sent (with_validity c.args.mailbox (told_copied now.selected (batch_of c.args.batch))) c.args.out.now.items)
+    had_led_alone g.S.Store.step c.args.tag now c.submit_next.new.self (copy_stored now.mailing now.selected (batch_of c.args.batch) c.args.mailbox) c.args.store.now (g.O.Outlet.said c.args.out.now) (g.O.Outlet.said c.args.out.now) _
+    (c.in-Ok.ensures.sent (with_validity c.args.mailbox (told_copied now.selected (batch_of c.args.batch))) (g.O.Outlet.said c.args.out.now))

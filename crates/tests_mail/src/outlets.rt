@@ -1,0 +1,158 @@
+//! What is said through outlets: a vector keeps all of it, and a buffer sends the first bytes of it, to a sink that takes few at a time and fails at
+//! any of them, from rows of several lengths.
+
+use line_io::{Buffer, Held, Outlet, Sink};
+use std::alloc::{AllocError, Global};
+
+// What is said, piece by piece. One is longer than the longest row.
+const PIECES: &[&[u8]] = &[
+    b"* 1",
+    b"",
+    b" EXISTS\r\n",
+    b"x",
+    b"twenty bytes at once",
+    b"\r\n",
+];
+
+// All of it, and what is said behind it.
+const WHOLE: &[u8] = b"* 1 EXISTS\r\nxtwenty bytes at once\r\n* BYE\r\n";
+
+// Takes at most three bytes an offer, and fails once it has taken so many. Behind that it would take any, so that one sees whether it is offered more.
+#[derive(Drop)]
+struct Short<'a> {
+    taken: &'a mut Vec<u8>,
+    most: usize,
+    has_failed: bool,
+}
+
+impl Sink for Short<'_> {
+    ghost failed = { λ s. s.has_failed };
+
+    fn offer(&mut self, bytes: &[u8]) -> Option<usize> {
+        let left = self.most.saturating_sub(self.taken.len());
+        let count = left.min(3).min(bytes.len());
+        if count == 0 || self.taken.extend_from_slice(&bytes[..count]).is_err() {
+            self.most = usize::MAX;
+            self.has_failed = true;
+            return None;
+        }
+        Some(count)
+    }
+}
+
+// Takes whatever it is offered, and notes how many bytes that were.
+#[derive(Drop)]
+struct Noting<'a> {
+    offers: &'a mut Vec<usize>,
+    has_failed: bool,
+}
+
+impl Sink for Noting<'_> {
+    ghost failed = { λ s. s.has_failed };
+
+    fn offer(&mut self, bytes: &[u8]) -> Option<usize> {
+        if self.offers.push(bytes.len()).is_err() {
+            self.has_failed = true;
+            return None;
+        }
+        Some(bytes.len())
+    }
+}
+
+fn say<O: Outlet>(pieces: &[&[u8]], out: &mut O) -> Result<(), AllocError> {
+    for piece in pieces {
+        out.hold(piece.len())?;
+        out.put(piece);
+    }
+    Ok(())
+}
+
+// Says a line that is written into the outlet's vector.
+fn say_lent<O: Outlet>(line: &[u8], out: &mut O) -> Result<(), AllocError> {
+    let mut part = out.lend();
+    let written = part.extend_from_slice(line);
+    out.take_back(part);
+    written?;
+    Ok(())
+}
+
+fn say_whole<O: Outlet>(out: &mut O) -> Result<(), AllocError> {
+    say(PIECES, out)?;
+    say_lent(b"* BYE\r\n", out)
+}
+
+// Whether a sink that fails once it has taken `most` bytes has just these of what was said, and flushing tells whether they are all.
+fn is_cut(alloc: Global, length: usize, most: usize) -> Result<bool, AllocError> {
+    let row = vec![in alloc; 0; length]?;
+    let mut taken = Vec::new(alloc);
+    let sink = Short {
+        taken: &mut taken,
+        most,
+        has_failed: false,
+    };
+    let mut out = Buffer::new(sink, row);
+    say_whole(&mut out)?;
+    let told = out.flush().is_ok();
+    if !told {
+        say_whole(&mut out)?;
+    }
+    let same = out.flush().is_ok() == told && out.has_failed() != told;
+    drop(out);
+    let few = most.min(WHOLE.len());
+    Ok(same && told == (WHOLE.len() <= most) && taken.as_slice() == &WHOLE[..few])
+}
+
+// Whether a buffer with a row of this length offers its sink these numbers of bytes, where pieces of 2, 2, 1, 10 and 0 bytes are said.
+fn offers(alloc: Global, length: usize, want: &[usize]) -> Result<bool, AllocError> {
+    let row = vec![in alloc; 0; length]?;
+    let mut offers = Vec::new(alloc);
+    let sink = Noting {
+        offers: &mut offers,
+        has_failed: false,
+    };
+    let mut out = Buffer::new(sink, row);
+    say(&[b"ab", b"cd", b"e", b"0123456789", b""], &mut out)?;
+    let told = out.flush().is_ok();
+    drop(out);
+    Ok(told && offers.as_slice() == want)
+}
+
+#[test]
+fn a_vector_keeps_all_that_is_said(rt: HostRuntime) -> Result<(), AllocError> {
+    let mut out = Vec::new(rt.alloc());
+    say_whole(&mut out)?;
+    assert_eq!(rt; out.as_slice(), WHOLE);
+    Ok(())
+}
+
+#[test]
+fn a_sink_has_the_first_bytes_of_what_is_said(rt: HostRuntime) -> Result<(), AllocError> {
+    for length in 0..13_usize {
+        for most in 0..45_usize {
+            assert!(rt; is_cut(rt.alloc(), length, most)?);
+        }
+    }
+    Ok(())
+}
+
+#[test]
+fn a_piece_that_is_longer_than_the_row_goes_as_it_is(rt: HostRuntime) -> Result<(), AllocError> {
+    assert!(rt; offers(rt.alloc(), 0, &[2, 2, 1, 10])?);
+    assert!(rt; offers(rt.alloc(), 4, &[4, 1, 10])?);
+    assert!(rt; offers(rt.alloc(), 10, &[5, 10])?);
+    assert!(rt; offers(rt.alloc(), 16, &[15])?);
+    Ok(())
+}
+
+#[test]
+fn room_is_held_for_a_last_line(rt: HostRuntime) -> Result<(), AllocError> {
+    let mut out = Held::new(Vec::new(rt.alloc()));
+    out.hold(7)?;
+    out.write(b"* 1 EXISTS\r\n")?;
+    assert!(rt; out.outlet.capacity() - out.outlet.len() >= 7);
+    out.put(b"* BYE\r\n");
+    assert_eq!(rt; out.held, 0);
+    let bytes = out.into_outlet();
+    assert_eq!(rt; bytes.as_slice(), b"* 1 EXISTS\r\n* BYE\r\n".as_slice());
+    Ok(())
+}
