@@ -29,13 +29,3 @@ SentAll b = Appends b.start b.taken b.said
 -- the first bytes of what was said were sent, and not all
 abbrev pub SentFirst : Buffer → Type 0
 SentFirst b = (sent : List ℕ) × (rest : List ℕ) × (b.said ≡ sent ++ rest) × (0 < length rest) × Appends b.start b.taken sent
-
--- an outlet in which so much room is held
-pub record Held : Type 0 where
-  pub held : ℕ
-  pub said : List ℕ
-  pub lot : Lot
-
--- these bytes were said too
-abbrev pub adding : List ℕ → Held → Held
-adding bytes h = record h { said = h.said ++ bytes }

@@ -5,7 +5,6 @@
 
 mod buffer;
 mod cutter;
-mod held;
 mod incoming;
 mod laws;
 mod marks;
@@ -16,7 +15,6 @@ mod sink;
 
 pub use buffer::{Buffer, FlushFault};
 pub use cutter::LineCutter;
-pub use held::Held;
 pub use incoming::Incoming;
 pub use laws::{each_stream_is_cut_in_one_way, whole_lines_may_be_taken_by_others};
 pub use marks::append_marked;

@@ -1,7 +1,7 @@
-//! What is said through outlets: a vector keeps all of it, and a buffer sends the first bytes of it, to a sink that takes few at a time and fails at
-//! any of them, from rows of several lengths.
+//! What is said through outlets: a vector keeps all of it, and an outgoing one sends the first bytes of it, to a sink that takes few at a time and fails
+//! at any of them, from rows of several lengths.
 
-use line_io::{Buffer, Held, Outlet, Sink};
+use line_io::{Buffer, Outgoing, Outlet, Sink};
 use std::alloc::{AllocError, Global};
 
 // What is said, piece by piece. One is longer than the longest row.
@@ -90,13 +90,13 @@ fn is_cut(alloc: Global, length: usize, most: usize) -> Result<bool, AllocError>
         most,
         has_failed: false,
     };
-    let mut out = Buffer::new(sink, row);
+    let mut out = Outgoing::new(alloc, Buffer::new(sink, row));
     say_whole(&mut out)?;
     let told = out.flush().is_ok();
     if !told {
         say_whole(&mut out)?;
     }
-    let same = out.flush().is_ok() == told && out.has_failed() != told;
+    let same = out.flush().is_ok() == told;
     drop(out);
     let few = most.min(WHOLE.len());
     Ok(same && told == (WHOLE.len() <= most) && taken.as_slice() == &WHOLE[..few])
@@ -110,7 +110,7 @@ fn offers(alloc: Global, length: usize, want: &[usize]) -> Result<bool, AllocErr
         offers: &mut offers,
         has_failed: false,
     };
-    let mut out = Buffer::new(sink, row);
+    let mut out = Outgoing::new(alloc, Buffer::new(sink, row));
     say(&[b"ab", b"cd", b"e", b"0123456789", b""], &mut out)?;
     let told = out.flush().is_ok();
     drop(out);
@@ -141,18 +141,5 @@ fn a_piece_that_is_longer_than_the_row_goes_as_it_is(rt: HostRuntime) -> Result<
     assert!(rt; offers(rt.alloc(), 4, &[4, 1, 10])?);
     assert!(rt; offers(rt.alloc(), 10, &[5, 10])?);
     assert!(rt; offers(rt.alloc(), 16, &[15])?);
-    Ok(())
-}
-
-#[test]
-fn room_is_held_for_a_last_line(rt: HostRuntime) -> Result<(), AllocError> {
-    let mut out = Held::new(Vec::new(rt.alloc()));
-    out.hold(7)?;
-    out.write(b"* 1 EXISTS\r\n")?;
-    assert!(rt; out.outlet.capacity() - out.outlet.len() >= 7);
-    out.put(b"* BYE\r\n");
-    assert_eq!(rt; out.held, 0);
-    let bytes = out.into_outlet();
-    assert_eq!(rt; bytes.as_slice(), b"* 1 EXISTS\r\n* BYE\r\n".as_slice());
     Ok(())
 }
