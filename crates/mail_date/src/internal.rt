@@ -1,14 +1,11 @@
 //! A date as IMAP writes it between quotes (RFC 9051, date-time).
 //! The quotes themselves, and what stands around them, are for the crates above. Nothing is read here.
 
-ghost use Rattle.std.specs.Prelude.{◌≡◌, ◌≤◌, ◌<◌, ◌+◌, ◌++◌, true, length, vec_len, vec_capacity};
+ghost use Rattle.std.specs.Prelude.{◌≡◌, ◌≤◌, ◌<◌, ◌∷◌, ◌++◌, if◌then◌else◌, true, length};
 ghost use Rattle.mail_date.specs.Dates.{month_names, is_date};
-ghost use Rattle.mail_date.specs.Internal.{digit, two_digits, four_digits, sign, date_text, time_text, zone_text, internal_text, name_at};
+ghost use Rattle.mail_date.specs.Internal.{digit, two_digits, four_digits, date_text, time_text, internal_text, name_at};
 
 use crate::stamp::Stamp;
-
-/// How many bytes a date has as IMAP writes it, without its quotes: so much room `write_internal_date` wants.
-pub const INTERNAL_LEN: usize = 26;
 
 fn digit(n: u8) -> u8
     requires { n < 10 }
@@ -59,75 +56,65 @@ fn four_digits(n: u16) -> [u8; 4]
     ]
 }
 
-fn sign(is_west: bool) -> [u8; 1]
-    ensures { result ≡ sign is_west }
+fn sign(is_west: bool) -> u8
+    ensures { result ≡ (if is_west then 45 else 43) }
 {
-    if is_west { *b"-" } else { *b"+" }
+    if is_west { b'-' } else { b'+' }
 }
 
-/// Appends bytes for which there is room.
-fn put(bytes: &[u8], out: &mut Vec<u8>)
-    requires { vec_len out.old + length bytes.now ≤ vec_capacity out.old }
-    ensures items { out.new.items ≡ out.old.items ++ bytes.now }
-    ensures len { vec_len out.new ≡ vec_len out.old + length bytes.now }
-    ensures room { vec_capacity out.old ≤ vec_capacity out.new }
-{
-    let _ = out.extend_from_slice(bytes);
-}
-
-fn put_date(stamp: &Stamp, out: &mut Vec<u8>)
+fn date_bytes(stamp: &Stamp) -> [u8; 11]
     requires date { is_date stamp.now ≡ true }
-    requires has_room { vec_len out.old + 11 ≤ vec_capacity out.old }
-    ensures items { out.new.items ≡ out.old.items ++ date_text stamp.now }
-    ensures len { vec_len out.new ≡ vec_len out.old + 11 }
-    ensures room { vec_capacity out.old ≤ vec_capacity out.new }
+    ensures value { result ≡ date_text stamp.now }
+    ensures len { length result ≡ 11 }
 {
-    put(&two_digits(stamp.day), out);
-    put(b"-", out);
-    put(&name_of(stamp.month), out);
-    put(b"-", out);
-    put(&four_digits(stamp.year), out);
+    let day = two_digits(stamp.day);
+    let month = name_of(stamp.month);
+    let year = four_digits(stamp.year);
+    [
+        day[0], day[1], b'-', month[0], month[1], month[2], b'-', year[0], year[1], year[2],
+        year[3],
+    ]
 }
 
-fn put_time(stamp: &Stamp, out: &mut Vec<u8>)
+fn time_bytes(stamp: &Stamp) -> [u8; 8]
     requires date { is_date stamp.now ≡ true }
-    requires has_room { vec_len out.old + 8 ≤ vec_capacity out.old }
-    ensures items { out.new.items ≡ out.old.items ++ time_text stamp.now }
-    ensures len { vec_len out.new ≡ vec_len out.old + 8 }
-    ensures room { vec_capacity out.old ≤ vec_capacity out.new }
+    ensures { result ≡ time_text stamp.now }
 {
-    put(&two_digits(stamp.hour), out);
-    put(b":", out);
-    put(&two_digits(stamp.minute), out);
-    put(b":", out);
-    put(&two_digits(stamp.second), out);
+    let hour = two_digits(stamp.hour);
+    let minute = two_digits(stamp.minute);
+    let second = two_digits(stamp.second);
+    [
+        hour[0], hour[1], b':', minute[0], minute[1], b':', second[0], second[1],
+    ]
 }
 
-fn put_zone(stamp: &Stamp, out: &mut Vec<u8>)
+fn zone_bytes(stamp: &Stamp) -> [u8; 5]
     requires date { is_date stamp.now ≡ true }
-    requires has_room { vec_len out.old + 5 ≤ vec_capacity out.old }
-    ensures items { out.new.items ≡ out.old.items ++ zone_text stamp.now }
-    ensures len { vec_len out.new ≡ vec_len out.old + 5 }
-    ensures room { vec_capacity out.old ≤ vec_capacity out.new }
+    ensures { result ≡ (if stamp.now.zone.is_west then 45 else 43)
+        ∷ two_digits stamp.now.zone.hours ++ two_digits stamp.now.zone.minutes }
 {
-    put(&sign(stamp.zone.is_west), out);
-    put(&two_digits(stamp.zone.hours), out);
-    put(&two_digits(stamp.zone.minutes), out);
+    let hours = two_digits(stamp.zone.hours);
+    let minutes = two_digits(stamp.zone.minutes);
+    [
+        sign(stamp.zone.is_west),
+        hours[0],
+        hours[1],
+        minutes[0],
+        minutes[1],
+    ]
 }
 
-/// Appends a date as IMAP writes it, without its quotes: `07-Feb-1994 21:52:25 -0800` (RFC 9051, date-time). Day,
-/// hour, minute and second have two digits always, the year four, and an unknown zone is `-0000`. It asks for no
-/// memory: there must be room for `INTERNAL_LEN` bytes behind what `out` has.
-pub fn write_internal_date(stamp: &Stamp, out: &mut Vec<u8>)
+/// A date as IMAP writes it, without its quotes: `07-Feb-1994 21:52:25 -0800` (RFC 9051, date-time). Day, hour, minute and second have two digits
+/// always, the year four, and an unknown zone is `-0000`.
+pub fn internal_date(stamp: &Stamp) -> [u8; 26]
     requires date { is_date stamp.now ≡ true }
-    requires has_room { vec_len out.old + 26 ≤ vec_capacity out.old }
-    ensures items { out.new.items ≡ out.old.items ++ internal_text stamp.now }
-    ensures len { vec_len out.new ≡ vec_len out.old + 26 }
-    ensures room { vec_capacity out.old ≤ vec_capacity out.new }
+    ensures { result ≡ internal_text stamp.now }
 {
-    put_date(stamp, out);
-    put(b" ", out);
-    put_time(stamp, out);
-    put(b" ", out);
-    put_zone(stamp, out);
+    let [d0, d1, d2, d3, d4, d5, d6, d7, d8, d9, d10] = date_bytes(stamp);
+    let [t0, t1, t2, t3, t4, t5, t6, t7] = time_bytes(stamp);
+    let [z0, z1, z2, z3, z4] = zone_bytes(stamp);
+    [
+        d0, d1, d2, d3, d4, d5, d6, d7, d8, d9, d10, b' ', t0, t1, t2, t3, t4, t5, t6, t7, b' ',
+        z0, z1, z2, z3, z4,
+    ]
 }

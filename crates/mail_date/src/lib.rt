@@ -19,7 +19,7 @@ pub use field::{
 };
 pub use front::{day_at, month_at, two_at};
 pub use given::read_internal_date;
-pub use internal::{INTERNAL_LEN, write_internal_date};
+pub use internal::internal_date;
 pub use laws::{
     a_given_date_is_read, a_message_has_the_date_that_it_says, the_first_received_is_taken,
     the_last_semicolon_is_taken, what_is_read_is_spelled, what_is_spelled_is_read,

@@ -1,20 +1,12 @@
 //! Each public call where all goes well, and messages that say no date. The dates are those of RFC 5322 and RFC 3501.
 
 use crate::{
-    INTERNAL_LEN, Stamp, Zone, day_at, message_date, month_at, read_internal_date, two_at,
-    write_internal_date,
+    Stamp, Zone, day_at, internal_date, message_date, month_at, read_internal_date, two_at,
 };
-use std::alloc::{AllocError, Global};
 
 // The example of APPEND (RFC 3501, section 6.3.11), as Postfix would have stamped it.
 const STAMPED: &[u8] =
     b"Return-Path: <foobar@Blurdybloop.example>\r\nReceived: from mail.blurdybloop.example (mail.blurdybloop.example [192.0.2.7])\r\n\tby owatagu.example (Postfix) with ESMTP id 4XyZ1b2c3dz1\r\n\tfor <mooch@owatagu.example>; Mon,  7 Feb 1994 21:52:25 -0800 (PST)\r\nReceived: by localhost; Mon, 7 Feb 1994 21:50:00 -0800\r\nSubject: afternoon meeting\r\n\r\nHello Joe\r\n";
-
-fn written(alloc: Global, text: &[u8]) -> Result<Vec<u8>, AllocError> {
-    let mut out = Vec::with_capacity(alloc, INTERNAL_LEN)?;
-    write_internal_date(&message_date(text), &mut out);
-    Ok(out)
-}
 
 // Its date.
 const AFTERNOON: Stamp = Stamp {
@@ -37,26 +29,19 @@ fn a_relay_has_dated_its_message(rt: HostRuntime) {
 }
 
 #[test]
-fn a_date_is_written_as_imap_has_it(rt: HostRuntime) -> Result<(), AllocError> {
-    let text = written(rt.alloc(), STAMPED)?;
-    assert_eq!(rt; text.as_slice(), b"07-Feb-1994 21:52:25 -0800".as_slice());
-    Ok(())
+fn a_date_is_written_as_imap_has_it(rt: HostRuntime) {
+    assert_eq!(rt;
+        internal_date(&message_date(STAMPED)),
+        *b"07-Feb-1994 21:52:25 -0800"
+    );
 }
 
 #[test]
-fn a_message_without_a_date_has_the_first_day(rt: HostRuntime) -> Result<(), AllocError> {
-    let first = b"01-Jan-1970 00:00:00 +0000".as_slice();
-    let none = written(
-        rt.alloc(),
-        b"Date: Mon, 7 Feb 1994 21:52:25 -0800\r\n\r\nHello\r\n",
-    )?;
-    assert_eq!(rt; none.as_slice(), first);
-    let bad = written(
-        rt.alloc(),
-        b"Received: by x; 30 Feb 1994 21:52:25 -0800\r\n\r\n",
-    )?;
-    assert_eq!(rt; bad.as_slice(), first);
-    Ok(())
+fn a_message_without_a_date_has_the_first_day(rt: HostRuntime) {
+    let none = message_date(b"Date: Mon, 7 Feb 1994 21:52:25 -0800\r\n\r\nHello\r\n");
+    assert_eq!(rt; internal_date(&none), *b"01-Jan-1970 00:00:00 +0000");
+    let bad = message_date(b"Received: by x; 30 Feb 1994 21:52:25 -0800\r\n\r\n");
+    assert_eq!(rt; internal_date(&bad), *b"01-Jan-1970 00:00:00 +0000");
 }
 
 #[test]
