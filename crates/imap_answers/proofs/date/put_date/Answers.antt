@@ -1,7 +1,6 @@
 use Rattle.std.proofs.Common.{◌≡◌, ℕ, List, ◌++◌, ap, ◌∙◌, append_assoc}
 use Rattle.std.specs.Prelude.{codes}
 use Rattle.delivery_token.specs.Text.{date_of}
-use Rattle.mail_date.specs.declared.stamp.Stamp.{Stamp}
 use Rattle.mail_date.specs.Internal.{internal_text}
 use Rattle.imap_answers.proofs.date.put_date.Goals as goal
 
@@ -11,5 +10,7 @@ in_order out front date last one two three a b c = rw (c, b, a) (simp append_ass
 pub returns-clause-said : goal.returns-clause-said
 returns-clause-said g c =
     in_order (g.O.Outlet.said c.args.out.now) (codes "INTERNALDATE \"") (internal_text (date_of c.args.text.now)) (codes "\"")
-    (g.O.Outlet.said c.put.new.self) (g.O.Outlet.said c.put_stamp.new.out) (g.O.Outlet.said c.put-2.new.self)
-    c.put.ensures.said (c.put_stamp.ensures.said ∙ ap (λ (s : Stamp). g.O.Outlet.said c.put.new.self ++ internal_text s) c.date.ensures.date) c.put-2.ensures.said
+    (g.O.Outlet.said c.put.new.self) (g.O.Outlet.said c.put-2.new.self) (g.O.Outlet.said c.put-3.new.self)
+    c.put.ensures.said
+    (c.put-2.ensures.said ∙ ap (λ (date : List ℕ). g.O.Outlet.said c.put.new.self ++ date) (c.internal_date.ensures ∙ ap internal_text c.date.ensures.date))
+    c.put-3.ensures.said

@@ -30,10 +30,10 @@ signed false digits = refl
 
 pub returns : goal.returns
 returns c =
-  let s = c.args.stamp.now in
-  let digits = two_digits s.zone.hours ++ two_digits s.zone.minutes in
-  let zone = (if s.zone.is_west then 45 else 43) ∷ digits in
-  let day : c.date_bytes.result ≡ date_text s = c.date_bytes.ensures.value in
-  let same : zone ≡ zone_text s = signed s.zone.is_west digits ∙ sym (append_assoc (sign s.zone.is_west) (two_digits s.zone.hours) (two_digits s.zone.minutes)) in
-  let whole : c.date_bytes.result ++ 32 ∷ (time_text s ++ 32 ∷ zone) ≡ internal_text s = rw day (rw same (joined (date_text s) (time_text s) (zone_text s))) in
-  rw c.time_bytes.ensures (rw c.zone_bytes.ensures (eleven c.date_bytes.result (32 ∷ (time_text s ++ 32 ∷ zone)) c.date_bytes.ensures.len ∙ whole))
+    let s = c.args.stamp.now in
+    let digits = two_digits s.zone.hours ++ two_digits s.zone.minutes in
+    let zone = (if s.zone.is_west then 45 else 43) ∷ digits in
+    let day : c.date_bytes.result ≡ date_text s = c.date_bytes.ensures.value in
+    let same : zone ≡ zone_text s = signed s.zone.is_west digits ∙ sym (append_assoc (sign s.zone.is_west) (two_digits s.zone.hours) (two_digits s.zone.minutes)) in
+    let whole : c.date_bytes.result ++ 32 ∷ (time_text s ++ 32 ∷ zone) ≡ internal_text s = rw day (rw same (joined (date_text s) (time_text s) (zone_text s))) in
+    rw c.time_bytes.ensures (rw c.zone_bytes.ensures (eleven c.date_bytes.result (32 ∷ (time_text s ++ 32 ∷ zone)) c.date_bytes.ensures.len ∙ whole))
