@@ -12,6 +12,8 @@ Parts; `--quick` tries every seventh case of each, or fewer.
 - `cuts`: what clients say, cut at every position into two pieces, and byte by byte: the answers are those that the whole has, byte for byte.
 - `slow`: two hundred connections to the port of mail and as many to a user's, which say nothing, or a byte a second, or never read. Mail goes on where a worker
   is free, memory doesn't grow, and the end of the input ends the server.
+- `answers`: clients that ask for a thousand times what stands, in one line, and never read, or a byte a second: they hold their own sessions, and memory for no
+  more than a few rows; mail goes on. Whoever reads has all of it.
 - `lapped`: a session that idles and doesn't read while more changes come than its mailbox keeps: it is told them in order, or that it missed too many.
 - `patience`, only where it is named, for it takes five minutes: a mail connection that says nothing is let go, and whoever waited is served; a session isn't.
 
@@ -25,6 +27,7 @@ import sys
 import threading
 import time
 
+from hostile.answers import answer_much
 from hostile.checks import Tally
 from hostile.cuts import cut_all
 from hostile.lapped import fall_behind
@@ -33,7 +36,7 @@ from hostile.resets import reset_all
 from hostile.slow import be_patient, be_slow
 from serving_house import end_by_exit
 
-PARTS = {"memory": refuse_memory, "resets": reset_all, "cuts": cut_all, "slow": be_slow, "lapped": fall_behind}
+PARTS = {"memory": refuse_memory, "resets": reset_all, "cuts": cut_all, "slow": be_slow, "answers": answer_much, "lapped": fall_behind}
 BY_NAME = {**PARTS, "patience": be_patient}
 
 

@@ -10,6 +10,16 @@ from talks import DELIVERED, Wrong, data_of, mail, session
 LAPPED = b"* BYE Too many changes were missed"
 
 
+def expect_answered(rows, answer, count, times):
+    """All messages were asked for so many times over, and answered: each, or, of an answer that wasn't read while some were removed, those that stood still."""
+    if any(text.count(b"BODY[] {") != times for text in rows):
+        raise Wrong("a message was answered in part")
+    if answer == b"OK FETCH completed" and len(rows) == count:
+        return
+    if answer != b"NO [EXPUNGEISSUED] Some messages are gone" or len(rows) >= count:
+        raise Wrong(f"{len(rows)} messages of {count} were answered, and then {answer!r}")
+
+
 class Racing:
     """A mailbox of which one session makes changes, more than it keeps, and another idles and doesn't read meanwhile."""
 
@@ -63,9 +73,8 @@ class Racing:
         idling.say(question + b"i IDLE\r\n")
         idling.has_more(PATIENCE)
         lines = self.make_changes()
-        answers = [idling.response() for _ in range(count + 1)] if times else []
-        if answers and (answers[-1] != b"q OK FETCH completed" or any(text.count(b"BODY[] {") != times for text in answers[:-1])):
-            raise Wrong("the question wasn't answered")
+        if times:
+            expect_answered(*idling.finish(b"q"), count, times)
         idling.expect(b"+ idling")
         return self.told(idling, lines)
 
