@@ -92,11 +92,13 @@ impl ImapConnection {
 
     /// Appends the greeting (RFC 9051, 7.1.4).
     ///
-    /// Errors: `AllocError` where memory was refused; then nothing was written.
+    /// Errors: `AllocError` where `out` has no room for it and memory was refused; then nothing was written.
     pub fn greet<O: Outlet>(&self, out: &mut O) -> Result<(), AllocError>
         ensures ok { OnOk result (O.said out.new
             ≡ O.said out.old ++ greeting self.now.session.profile) }
         ensures err { OnErr result (O.said out.new ≡ O.said out.old) }
+        ensures memory { OnErr result (O.room out.old
+            < length (greeting self.now.session.profile)) }
         ensures lot { O.lot out.new ≡ O.lot out.old }
     {
         self.session.greet(out)
