@@ -1,2 +1,3 @@
-mod Showing
-mod Sending
+pub mod Flushing
+pub mod Sending
+pub mod Showing
