@@ -8,7 +8,7 @@ use Rattle.std.specs.Io.KnownBytes.{Appends}
 use Rattle.line_io.specs.declared.buffer.FlushFault.{FlushFault}
 use Rattle.line_io.specs.Outlet.{Buffer, Lot}
 use Rattle.line_io.specs.Outgoing.{Flushed, Outgoing, lot_of, room_of, said_of}
-use Rattle.imap_stream.specs.inner.Visits.{HasSent, TookFirst, failed_of, taken_of}
+use Rattle.imap_stream.specs.inner.Visits.{HasSent, IsFresh, TookFirst, failed_of, taken_of}
 
 -- what an outlet says that is flushed into a sink which had taken `start` when nothing was said yet
 abbrev pub IsFlushed : Outgoing → Result (Unit {0}) FlushFault → Outgoing → Type 0
@@ -18,6 +18,7 @@ IsFlushed before r after = IfSome before.buffer (λ (b : Buffer). (a : Buffer) �
 pub record AllWent (start : Option (List ℕ)) (before after : Outgoing) : Type 0 where
   pub took : Appends start (taken_of after) (said_of before.buffer before.kept)
   pub live : failed_of after ≡ false
+  pub there : (b : Buffer) × (after.buffer ≡ Some b)
   pub room : room_of after.buffer after.spare ≡ room_of before.buffer before.spare
 
 -- the first bytes of it were, and not all
@@ -60,6 +61,7 @@ went start memory u before after (Some b) here lot h =
     record {
       took = subst (λ (t : List ℕ). Appends start (taken_of after) t) (sym said) (subst (λ (o : Option (List ℕ)). Appends start o b.said) (sym taken) (all_of start b h.0 u (ap (λ (l : Lot). l.start) lot) h.2));
       live = ap (λ (o : Option Buffer). option_map_or (λ (y : Buffer). y.failed) o true) there ∙ h.2.failed;
+      there = (h.0, there);
       room = ap (λ (o : Option Buffer). room_of o after.spare) there ∙ sym (ap (λ (o : Option Buffer). room_of o before.spare) here);
     }
 
@@ -91,6 +93,35 @@ sink_has t f out b is h =
     let k = subst (λ (o : Option Buffer). IfSome o (λ (x : Buffer). (t ≡ x.taken) × (f ≡ x.failed))) is h in
     ap (λ (o : Option Buffer). option_map_or (λ (y : Buffer). y.taken) o None) is ∙ sym k.0
 
+-- ---- behind a fresh beginning
+
+-- nothing was said yet
+pub none_of_fresh : (start : Option (List ℕ)) (fresh : Outgoing) → IsFresh start fresh → said_of fresh.buffer fresh.kept ≡ []
+none_of_fresh start fresh f = ap (λ (o : Option Buffer). said_of o fresh.kept) f.1 ∙ f.4
+
+lot_of_fresh : (start : Option (List ℕ)) (fresh : Outgoing) (f : IsFresh start fresh) → lot_of fresh.buffer ≡ record { start = start; memory = Some f.0.memory }
+lot_of_fresh start fresh f = ap lot_of f.1 ∙ ap (λ (t : Option (List ℕ)). record { start = t; memory = Some f.0.memory }) f.5
+
+-- an outlet whose buffer has another row has room as before
+rested : (start : Option (List ℕ)) (before after fresh : Outgoing) → AllWent start before after → IsFresh (taken_of after) fresh → AllWent start before fresh
+rested start before after fresh went f =
+    let taken : taken_of fresh ≡ taken_of after = ap (λ (o : Option Buffer). option_map_or (λ (y : Buffer). y.taken) o None) f.1 ∙ f.6 in
+    record {
+      took = subst (λ (t : Option (List ℕ)). Appends start t (said_of before.buffer before.kept)) (sym taken) went.took;
+      live = ap (λ (o : Option Buffer). option_map_or (λ (y : Buffer). y.failed) o true) f.1 ∙ f.2;
+      there = (f.0, f.1);
+      room = ap (λ (o : Option Buffer). room_of o fresh.spare) f.1 ∙ sym (ap (λ (o : Option Buffer). room_of o after.spare) went.there.1) ∙ went.room;
+    }
+
+pub all_went_behind : (start : Option (List ℕ)) (fresh before after last : Outgoing) (r : Result (Unit {0}) FlushFault) (u : Unit {0}) → IsFresh start fresh → lot_of before.buffer ≡ lot_of fresh.buffer → r ≡ Ok u → IsFlushed before r after
+    → IsFresh (taken_of after) last → AllWent start before last
+all_went_behind start fresh before after last r u f lot is h then_fresh =
+    rested start before after last (all_went start f.0.memory r u before after is (lot ∙ lot_of_fresh start fresh f) h) then_fresh
+
+pub first_went_behind : (start : Option (List ℕ)) (fresh before after : Outgoing) (r : Result (Unit {0}) FlushFault) (e : FlushFault) → IsFresh start fresh → lot_of before.buffer ≡ lot_of fresh.buffer → r ≡ Err e → IsFlushed before r after
+    → FirstWent start before after
+first_went_behind start fresh before after r e f lot is h = first_went start f.0.memory r e before after is (lot ∙ lot_of_fresh start fresh f) h
+
 -- ---- where it was begun anew
 
 -- what is known of an outlet that was begun anew
@@ -109,10 +140,10 @@ lot_begun closed old begun sent h =
     let taken : taken_of old ≡ sent.0.taken = ap (λ (o : Option Buffer). option_map_or (λ (y : Buffer). y.taken) o None) sent.1 in
     ap (λ (o : Outgoing). lot_of o.buffer) (begun_as closed old begun sent h) ∙ ap (λ (t : Option (List ℕ)). record { start = t; memory = Some sent.0.memory }) (sym taken)
 
-pub all_went_behind : (closed : Bool) (old begun before after : Outgoing) (r : Result (Unit {0}) FlushFault) (u : Unit {0}) → HasSent closed old → IsBegun old begun → lot_of before.buffer ≡ lot_of begun.buffer → r ≡ Ok u → IsFlushed before r after
+pub all_went_begun : (closed : Bool) (old begun before after : Outgoing) (r : Result (Unit {0}) FlushFault) (u : Unit {0}) → HasSent closed old → IsBegun old begun → lot_of before.buffer ≡ lot_of begun.buffer → r ≡ Ok u → IsFlushed before r after
     → AllWent (taken_of old) before after
-all_went_behind closed old begun before after r u sent began lot is h = all_went (taken_of old) sent.0.memory r u before after is (lot ∙ lot_begun closed old begun sent began) h
+all_went_begun closed old begun before after r u sent began lot is h = all_went (taken_of old) sent.0.memory r u before after is (lot ∙ lot_begun closed old begun sent began) h
 
-pub first_went_behind : (closed : Bool) (old begun before after : Outgoing) (r : Result (Unit {0}) FlushFault) (e : FlushFault) → HasSent closed old → IsBegun old begun → lot_of before.buffer ≡ lot_of begun.buffer → r ≡ Err e → IsFlushed before r after
+pub first_went_begun : (closed : Bool) (old begun before after : Outgoing) (r : Result (Unit {0}) FlushFault) (e : FlushFault) → HasSent closed old → IsBegun old begun → lot_of before.buffer ≡ lot_of begun.buffer → r ≡ Err e → IsFlushed before r after
     → FirstWent (taken_of old) before after
-first_went_behind closed old begun before after r e sent began lot is h = first_went (taken_of old) sent.0.memory r e before after is (lot ∙ lot_begun closed old begun sent began) h
+first_went_begun closed old begun before after r e sent began lot is h = first_went (taken_of old) sent.0.memory r e before after is (lot ∙ lot_begun closed old begun sent began) h

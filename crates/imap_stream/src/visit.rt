@@ -10,7 +10,7 @@ ghost use Rattle.session_thread.specs.Life.{Departs, IsForgotten};
 ghost use Rattle.imap_session.specs.Dialogue.{StandsFor};
 ghost use Rattle.imap_session.specs.Commands.{greeting};
 ghost use Rattle.imap_session.specs.Exchange.{begun_with};
-ghost use Rattle.imap_stream.specs.inner.Visits.{TookFirst};
+ghost use Rattle.imap_stream.specs.inner.Visits.{IsFresh, TookFirst, taken_of};
 ghost use Rattle.imap_stream.specs.Visits.{Hears, HearsInPart, IsGreeted, SendsAll, SendsFirst, ShowsAll, ShowsInPart, Tells, Visit, awaited, farewell, is_over, takes_bytes};
 
 use crate::turns::{answer_and_show, show_all};
@@ -27,8 +27,11 @@ use workers_sync::{Courier, Gate, Lost};
 /// What a client is told that is dismissed.
 const FAREWELL: &[u8] = b"* BYE Shutting down\r\n";
 
-/// The most bytes of what is said that wait to be sent. What is longer, as a message's text, is sent from where it stands.
+/// The most bytes of what is said to a client that was heard that wait to be sent. What is longer, as a message's text, is sent from where it stands.
 const ROW: usize = 16 * 1024;
+
+/// The same of what a client is greeted with, or shown that idles: lines of some 40 bytes.
+const SHORT_ROW: usize = 2 * 1024;
 
 /// Why a visit came to a stop.
 #[derive(Clone, Copy, Debug, PartialEq, Eq)]
@@ -51,8 +54,22 @@ impl From<AllocError> for VisitFault {
     }
 }
 
-// The outlet of a client that was greeted on `output`, behind its greeting, of which nothing is left unsent. The row in which what is said waits may be
-// refused memory: what is said is sent at once then.
+// Gives the buffer a row of so many bytes in place of the one that it has, and begins anew. Where memory is refused it has none, and what is said is sent
+// at once. A client that is silent has none either, so it costs no memory.
+fn give_row<W: Sink + Drop>(size: usize, out: &mut Outgoing<W>)
+    requires { IsReady out.old }
+    ensures { IsFresh (taken_of out.old) out.new }
+{
+    let alloc = out.alloc();
+    let Some(output) = out.take().into_sink() else {
+        unreachable!()
+    };
+    let mut row = Vec::new(alloc);
+    let _ = row.resize(size, 0);
+    *out = Outgoing::new(alloc, Buffer::new(output, row));
+}
+
+// The outlet of a client that was greeted on `output`, behind its greeting, of which nothing is left unsent.
 fn greeted<W: Sink + Drop>(
     alloc: Global,
     connection: &ImapConnection,
@@ -68,7 +85,7 @@ fn greeted<W: Sink + Drop>(
     ensures failed { IfErr result (λ stop. W.failed stop.0 ≡ true) }
 {
     let mut row = Vec::new(alloc);
-    let _ = row.resize(ROW, 0);
+    let _ = row.resize(SHORT_ROW, 0);
     let mut out = Outgoing::new(alloc, Buffer::new(output, row));
     let Ok(()) = connection.greet(&mut out) else {
         unreachable!()
@@ -79,6 +96,7 @@ fn greeted<W: Sink + Drop>(
         };
         return Err((output, VisitFault::Write));
     };
+    give_row(0, &mut out);
     Ok(out)
 }
 
@@ -256,7 +274,7 @@ impl<'a, B: Naming, R: Wait, G: Gate, W: Sink + Drop> Visit<'a, B, R, G, W> {
         if !self.takes_bytes() {
             return Ok(self.awaited());
         }
-        self.out.begin();
+        give_row(ROW, &mut self.out);
         let heard = answer_and_show(
             self.rt,
             alloc,
@@ -271,6 +289,7 @@ impl<'a, B: Naming, R: Wait, G: Gate, W: Sink + Drop> Visit<'a, B, R, G, W> {
             self.is_closed = true;
             return Err(VisitFault::Write);
         };
+        give_row(0, &mut self.out);
         match heard {
             Ok(()) => Ok(self.awaited()),
             Err(why) => {
@@ -313,7 +332,7 @@ impl<'a, B: Naming, R: Wait, G: Gate, W: Sink + Drop> Visit<'a, B, R, G, W> {
         if self.is_over() {
             return Ok(After::Bye);
         }
-        self.out.begin();
+        give_row(SHORT_ROW, &mut self.out);
         let shown = show_all(
             self.rt,
             &mut self.connection,
@@ -324,6 +343,7 @@ impl<'a, B: Naming, R: Wait, G: Gate, W: Sink + Drop> Visit<'a, B, R, G, W> {
             self.is_closed = true;
             return Err(VisitFault::Write);
         };
+        give_row(0, &mut self.out);
         shown?;
         Ok(self.awaited())
     }

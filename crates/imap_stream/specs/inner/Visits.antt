@@ -33,3 +33,7 @@ HasSent closed out = (b : Buffer) × (out.buffer ≡ Some b) × (b.pending ≡ [
 -- the first of these bytes were taken, and not all
 abbrev pub TookFirst : Option (List ℕ) → List ℕ → Option (List ℕ) → Type 0
 TookFirst before said after = (sent : ℕ) × (sent < length said) × Appends before after (take sent said)
+
+-- The buffer is in its place, and nothing was said yet: its sink, which hasn't failed, has taken so much.
+abbrev pub IsFresh : Option (List ℕ) → Outgoing → Type 0
+IsFresh taken out = (b : Buffer) × (out.buffer ≡ Some b) × (b.failed ≡ false) × (b.pending ≡ []) × (b.said ≡ []) × (b.start ≡ taken) × (b.taken ≡ taken)
