@@ -24,15 +24,15 @@ LIMITS = {
     "product functions with 8 arguments or more": 17,
     "most arguments of a product function": 9,
     "per mille of clauses that begin with a line over 100 columns": 0,
-    "lines of proofs": 100500,
+    "lines of proofs": 101200,
     "lines of docs/PROVING.md": 300,
-    "lines of code, definitions and proofs": 195000,
+    "lines of code, definitions and proofs": 197000,
     "files that name an option (ring_max)": 50,
     "files that name a setting of serve (lmtp_port)": 35,
     "files that name a refusal of a copy (MailboxFull)": 39,
     "files that name a field of the house (visitors)": 54,
     "files that name a verb with an answer (STATUS)": 43,
-    "files that name an item of FETCH (RFC822.SIZE)": 40,
+    "files that name an item of FETCH (RFC822.SIZE)": 42,
     "files that have a text of IMAP (No such mailbox)": 14,
 }
 

@@ -39,7 +39,8 @@ type Person = Owner<Meeting, AtMostTwo>;
 // A first meeting with nobody else.
 fn alone(person: &mut Person, known: &mut Known, meeting: &Meeting)
     requires book { known.old.book ≡ person.old.book }
-    requires self_alone { (meeting.now.host ≡ person.old.key) × (meeting.now.guest ≡ person.old.key) }
+    requires self_alone { (meeting.now.host ≡ person.old.key)
+        × (meeting.now.guest ≡ person.old.key) }
     requires first { person.old.own ≡ [] }
     ensures person { (person.new.book ≡ person.old.book) × (person.new.key ≡ person.old.key)
         × (person.new.own ≡ meeting.now ∷ []) }
@@ -68,7 +69,8 @@ fn together(person: &mut Person, other: &mut Person, known: &mut Known, meeting:
 fn met() -> Known
     ensures alone { Contains result.log (record { host = 0; guest = 0 }) }
     ensures together { Contains result.log (record { host = 0; guest = 1 }) }
-    ensures twice { (k : ℕ) → length (filter (λ m. (k == m.host) || (k == m.guest)) result.log) ≤ 2 }
+    ensures twice { (k : ℕ)
+        → length (filter (λ m. (k == m.host) || (k == m.guest)) result.log) ≤ 2 }
 {
     let (mut known, mut rights) = Known::open(2);
     let mut first = rights.take();
