@@ -71,7 +71,8 @@ fn search_all<S: Store>(
     messages: &[Named],
     store: &mut S,
 ) -> Result<Vec<usize>, MailFault>
-    ensures { (response : ResponseSpec) (view uids : List ℕ) → messages.now ≡ map (named_at view) uids
+    ensures { (response : ResponseSpec) (view uids : List ℕ)
+        → messages.now ≡ map (named_at view) uids
         → (done : List ℕ → Exchange) → Does S.step
         (wanting (searching search.now last view done uids []))
         (λ found. done found.items) store.old store.new response response result }
@@ -91,7 +92,8 @@ fn search_view<S: Store>(
     messages: &[Named],
     store: &mut S,
 ) -> Result<Vec<usize>, MailFault>
-    ensures { (response : ResponseSpec) (view uids : List ℕ) → messages.now ≡ map (named_at view) uids
+    ensures { (response : ResponseSpec) (view uids : List ℕ)
+        → messages.now ≡ map (named_at view) uids
         → (done : List ℕ → Exchange) → Does S.step
         (wanting (searching search.now (named_at view (last_uid uids)) view done uids []))
         (λ found. done found.items) store.old store.new response response result }
