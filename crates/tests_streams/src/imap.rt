@@ -23,7 +23,7 @@ use std::thread::{self, Threads, join};
 use workers_sync::{Courier, Lost, SessionBell, Sleeper};
 
 // Two changes are kept: a client that misses three has fallen behind.
-const SMALL: Limits = Limits {
+pub(crate) const SMALL: Limits = Limits {
     messages: 8,
     ring: 2,
     ring_max: 0,
@@ -114,7 +114,7 @@ fn text(alloc: Global) -> Result<Text, AllocError> {
     Text::new(Vec::from_slice(alloc, b"Return-Path: <s@a.example>\r\nhi\r\n")?)
 }
 
-fn deliver<B: Naming, R: Wait>(rt: &R, house: &TestHouse<B>, text: Text) -> bool {
+pub(crate) fn deliver<B: Naming, R: Wait>(rt: &R, house: &TestHouse<B>, text: Text) -> bool {
     matches!(
         house.deliver(rt, 0, text, NO_FLAGS),
         Some(Verdict::Stored { uid: _ })
@@ -155,7 +155,10 @@ pub(crate) fn known(most: Option<u32>) -> Admission {
 }
 
 // The courier of a session that takes no message: it is never asked.
-fn nobody<'a, B: Naming, R: Wait>(rt: &'a R, house: &'a TestHouse<B>) -> TestCourier<'a, B, R> {
+pub(crate) fn nobody<'a, B: Naming, R: Wait>(
+    rt: &'a R,
+    house: &'a TestHouse<B>,
+) -> TestCourier<'a, B, R> {
     TestCourier::new(rt, house, Some(Lost::Torn))
 }
 
