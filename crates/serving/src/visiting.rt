@@ -16,6 +16,17 @@ use workers_sync::Sleeper;
 /// What is said last to a client that missed too many changes (RFC 9051, 7.1.5).
 const LAPSED: &[u8] = b"* BYE Too many changes were missed\r\n";
 
+// What is still to come of that line behind this. A line is said in parts, and what waits may be sent between two of them.
+fn rest_behind(said: &[u8]) -> Option<&'static [u8]> {
+    if said.ends_with(b"* BYE ") {
+        return Some(b"Too many changes were missed\r\n");
+    }
+    if said.ends_with(b"* BYE Too many changes were missed") {
+        return Some(b"\r\n");
+    }
+    None
+}
+
 /// What a berth shows of its client's session.
 #[derive(Drop)]
 pub(crate) struct Sign {
@@ -38,11 +49,9 @@ impl Sign {
         self.idles.load(Ordering::SeqCst)
     }
 
-    // Looks whether this ends with what a client is told that has lapsed.
-    fn see(&self, said: &[u8]) {
-        if said.ends_with(LAPSED) {
-            self.has_lapsed.store(true, Ordering::SeqCst);
-        }
+    // It was told that it has missed too many changes.
+    fn lapse(&self) {
+        self.has_lapsed.store(true, Ordering::SeqCst);
     }
 }
 
@@ -69,6 +78,8 @@ pub(crate) fn signs_of(alloc: Global, bells: &[Sleeper]) -> Result<Vec<Sign>, Al
 pub(crate) struct Signed<'s, W> {
     output: W,
     sign: Option<&'s Sign>,
+    // What would end the line that tells so, where it was begun.
+    rest: Option<&'static [u8]>,
 }
 
 impl<'s, W: Sink> Signed<'s, W> {
@@ -77,7 +88,24 @@ impl<'s, W: Sink> Signed<'s, W> {
         ensures taken { ⟦<Signed<'s, W> as Sink>⟧.taken result ≡ W.taken output }
         ensures live { ⟦<Signed<'s, W> as Sink>⟧.failed result ≡ W.failed output }
     {
-        Signed { output, sign }
+        Signed {
+            output,
+            sign,
+            rest: None,
+        }
+    }
+
+    // Looks whether this ends what a client is told that has lapsed.
+    fn see(&mut self, said: &[u8])
+        ensures { self.new ≡ record self.old { rest = self.new.rest } }
+    {
+        let Some(sign) = self.sign else {
+            return;
+        };
+        if said.ends_with(LAPSED) || self.rest == Some(said) {
+            sign.lapse();
+        }
+        self.rest = rest_behind(said);
     }
 }
 
@@ -87,9 +115,7 @@ impl<'s, W: Sink> Sink for Signed<'s, W> {
     ghost failed = { λ s. W.failed s.output };
 
     fn offer(&mut self, bytes: &[u8]) -> Option<usize> {
-        if let Some(sign) = self.sign {
-            sign.see(bytes);
-        }
+        self.see(bytes);
         self.output.offer(bytes)
     }
 }

@@ -1,4 +1,4 @@
-use Rattle.std.proofs.Common.{refl, ◌≡◌, ◌+◌, ◌++◌, [], ◌∙◌, None, rules, inl, inr, sym}
+use Rattle.std.proofs.Common.{arith, refl, ◌≡◌, ◌+◌, ◌++◌, [], ◌∙◌, None, rules, inl, inr, sym}
 use Rattle.session_thread.specs.Life.{silent}
 use Rattle.session_thread.proofs.Living.{handed_on}
 use Rattle.session_thread.proofs.Spoken.{heard_more, more_carried, none_more, said_all, said_more, said_short, said_unheard, takes_more_now, unsent_now, was_all}
