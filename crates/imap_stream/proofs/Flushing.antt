@@ -1,6 +1,6 @@
 -- An outlet that was written to and flushed: its sink took what was said, or the first bytes of it.
-use Rattle.std.proofs.Common.{arith, ◌≡◌, ◌∙◌, ℕ, ◌<◌, ◌^◌, true, false, Bool, List, [], ◌++◌, length, take, refl, sym, ap, subst}
-use Rattle.std.specs.Prelude.{OnErr, OnOk, Result, Ok, Err, Option, Some, None, IfSome, is_err}
+use Rattle.std.proofs.Common.{arith, ◌≡◌, ◌∙◌, ℕ, ◌<◌, true, false, Bool, List, [], ◌++◌, length, take, refl, sym, ap, subst}
+use Rattle.std.specs.Prelude.{Result, Ok, Err, Option, Some, None, IfSome}
 use Rattle.std.specs.Option.{option_map_or}
 use Rattle.std.proofs.lemmas.List.{length-append}
 use Rattle.std.proofs.Math.Seq.{take-append_seam}

@@ -1,4 +1,3 @@
-use Rattle.std.specs.Vec.{vec_capacity}
 use Rattle.workers_sync.specs.declared.courier.Lost.TheVariants as lost
 use Rattle.imap_stream.specs.Visits.{within_bytes}
 use Rattle.session_thread.proofs.Living.{handed_on}
@@ -16,7 +15,7 @@ returns-clause-ok g c =
     let s = c.in_ok-answered.ensures.ok in (
       s.0,
       s.1,
-      heard c.args.piece.now s.0 c.args.store.now a.store t.store (g.O.Outlet.said c.args.out.now) a.out.items t.out.items c.args.connection.now a.connection t.connection s.2 c.in_ok-show_all.ensures.ok,
+      heard c.args.piece.now s.0 c.args.store.now a.store t.store (g.O.Outlet.said c.args.out.now) (g.O.Outlet.said a.out) (g.O.Outlet.said t.out) c.args.connection.now a.connection t.connection s.2 c.in_ok-show_all.ensures.ok,
     )
 
 pub returns-in_err-show_all-clause-err : goal.returns-in_err-show_all-clause-err
@@ -25,4 +24,4 @@ returns-in_err-show_all-clause-err g c =
     let t = c.show_all.new in
     let s = c.in_ok-answered.ensures.ok in
     handed_on c.from_residual-in_err-show_all.result lost.NoMemory _ c.from_residual-in_err-show_all.ensures.1
-    (heard_in_part (vec_capacity t.out) c.args.piece.now s.0 c.args.store.now a.store t.store (g.O.Outlet.said c.args.out.now) a.out.items t.out.items c.args.connection.now a.connection t.connection s.2 c.in_err-show_all.ensures.err)
+    (heard_in_part (g.O.Outlet.room t.out) c.args.piece.now s.0 c.args.store.now a.store t.store (g.O.Outlet.said c.args.out.now) (g.O.Outlet.said a.out) (g.O.Outlet.said t.out) c.args.connection.now a.connection t.connection s.2 c.in_err-show_all.ensures.err)

@@ -1,4 +1,4 @@
-use Rattle.std.proofs.Common.{subst, sym, Result}
+use Rattle.std.proofs.Common.{subst, Result}
 use Rattle.std.specs.Prelude.{OnOk}
 use Rattle.workers_sync.specs.declared.courier.Lost.{Lost}
 use Rattle.session_thread.specs.Life.{Departs}
