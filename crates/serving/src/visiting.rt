@@ -16,15 +16,31 @@ use workers_sync::Sleeper;
 /// What is said last to a client that missed too many changes (RFC 9051, 7.1.5).
 const LAPSED: &[u8] = b"* BYE Too many changes were missed\r\n";
 
-// What is still to come of that line behind this. A line is said in parts, and what waits may be sent between two of them.
-fn rest_behind(said: &[u8]) -> Option<&'static [u8]> {
+// How much of that line stands at the end of what was said. A line is said in parts, and what waits may be sent between two of them.
+#[derive(Clone, Copy)]
+enum Begun {
+    Not,
+    Bye,
+    Words,
+}
+
+fn begun_in(said: &[u8]) -> Begun {
     if said.ends_with(b"* BYE ") {
-        return Some(b"Too many changes were missed\r\n");
+        return Begun::Bye;
     }
     if said.ends_with(b"* BYE Too many changes were missed") {
-        return Some(b"\r\n");
+        return Begun::Words;
     }
-    None
+    Begun::Not
+}
+
+// Whether this ends the line, so much of which was said before.
+fn ends_line(begun: Begun, said: &[u8]) -> bool {
+    match begun {
+        Begun::Not => said.ends_with(LAPSED),
+        Begun::Bye => said == b"Too many changes were missed\r\n".as_slice(),
+        Begun::Words => said == b"\r\n".as_slice(),
+    }
 }
 
 /// What a berth shows of its client's session.
@@ -78,8 +94,7 @@ pub(crate) fn signs_of(alloc: Global, bells: &[Sleeper]) -> Result<Vec<Sign>, Al
 pub(crate) struct Signed<'s, W> {
     output: W,
     sign: Option<&'s Sign>,
-    // What would end the line that tells so, where it was begun.
-    rest: Option<&'static [u8]>,
+    begun: Begun,
 }
 
 impl<'s, W: Sink> Signed<'s, W> {
@@ -91,21 +106,21 @@ impl<'s, W: Sink> Signed<'s, W> {
         Signed {
             output,
             sign,
-            rest: None,
+            begun: Begun::Not,
         }
     }
 
     // Looks whether this ends what a client is told that has lapsed.
     fn see(&mut self, said: &[u8])
-        ensures { self.new ≡ record self.old { rest = self.new.rest } }
+        ensures { self.new ≡ record self.old { begun = self.new.begun } }
     {
         let Some(sign) = self.sign else {
             return;
         };
-        if said.ends_with(LAPSED) || self.rest == Some(said) {
+        if ends_line(self.begun, said) {
             sign.lapse();
         }
-        self.rest = rest_behind(said);
+        self.begun = begun_in(said);
     }
 }
 
