@@ -1,6 +1,8 @@
 //! What is said through outlets: a vector keeps all of it, and an outgoing one sends the first bytes of it, to a sink that takes few at a time and fails
 //! at any of them, from rows of several lengths.
 
+ghost use Rattle.std.specs.Prelude.{◌≡◌, IsSome};
+
 use line_io::{Buffer, Outgoing, Outlet, Sink};
 use std::alloc::{AllocError, Global};
 
@@ -19,13 +21,13 @@ const WHOLE: &[u8] = b"* 1 EXISTS\r\nxtwenty bytes at once\r\n* BYE\r\n";
 
 // Takes at most three bytes an offer, and fails once it has taken so many. Behind that it would take any, so that one sees whether it is offered more.
 #[derive(Drop)]
-struct Short<'a> {
-    taken: &'a mut Vec<u8>,
+struct Short {
+    taken: Vec<u8>,
     most: usize,
     has_failed: bool,
 }
 
-impl Sink for Short<'_> {
+impl Sink for Short {
     ghost failed = { λ s. s.has_failed };
 
     fn offer(&mut self, bytes: &[u8]) -> Option<usize> {
@@ -42,12 +44,12 @@ impl Sink for Short<'_> {
 
 // Takes whatever it is offered, and notes how many bytes that were.
 #[derive(Drop)]
-struct Noting<'a> {
-    offers: &'a mut Vec<usize>,
+struct Noting {
+    offers: Vec<usize>,
     has_failed: bool,
 }
 
-impl Sink for Noting<'_> {
+impl Sink for Noting {
     ghost failed = { λ s. s.has_failed };
 
     fn offer(&mut self, bytes: &[u8]) -> Option<usize> {
@@ -59,7 +61,9 @@ impl Sink for Noting<'_> {
     }
 }
 
-fn say<O: Outlet>(pieces: &[&[u8]], out: &mut O) -> Result<(), AllocError> {
+fn say<O: Outlet>(pieces: &[&[u8]], out: &mut O) -> Result<(), AllocError>
+    ensures { O.lot out.new ≡ O.lot out.old }
+{
     for piece in pieces {
         out.hold(piece.len())?;
         out.put(piece);
@@ -68,7 +72,9 @@ fn say<O: Outlet>(pieces: &[&[u8]], out: &mut O) -> Result<(), AllocError> {
 }
 
 // Says a line that is written into the outlet's vector.
-fn say_lent<O: Outlet>(line: &[u8], out: &mut O) -> Result<(), AllocError> {
+fn say_lent<O: Outlet>(line: &[u8], out: &mut O) -> Result<(), AllocError>
+    ensures { O.lot out.new ≡ O.lot out.old }
+{
     let mut part = out.lend();
     let written = part.extend_from_slice(line);
     out.take_back(part);
@@ -76,45 +82,76 @@ fn say_lent<O: Outlet>(line: &[u8], out: &mut O) -> Result<(), AllocError> {
     Ok(())
 }
 
-fn say_whole<O: Outlet>(out: &mut O) -> Result<(), AllocError> {
+fn say_whole<O: Outlet>(out: &mut O) -> Result<(), AllocError>
+    ensures { O.lot out.new ≡ O.lot out.old }
+{
     say(PIECES, out)?;
     say_lent(b"* BYE\r\n", out)
+}
+
+// Says these pieces, and flushes: whether all was sent.
+fn say_and_flush<W: Sink + Drop>(
+    pieces: &[&[u8]],
+    out: &mut Outgoing<W>,
+) -> Result<bool, AllocError>
+    requires { IsSome out.old.buffer }
+    ensures { IsSome out.new.buffer }
+{
+    say(pieces, out)?;
+    Ok(out.flush().is_ok())
+}
+
+// The same of all that is said.
+fn say_whole_and_flush<W: Sink + Drop>(out: &mut Outgoing<W>) -> Result<bool, AllocError>
+    requires { IsSome out.old.buffer }
+    ensures { IsSome out.new.buffer }
+{
+    say_whole(out)?;
+    Ok(out.flush().is_ok())
+}
+
+// Flushes again; where not all was sent, once more was said.
+fn flush_again<W: Sink + Drop>(told: bool, out: &mut Outgoing<W>) -> Result<bool, AllocError>
+    requires { IsSome out.old.buffer }
+{
+    if told {
+        return Ok(out.flush().is_ok());
+    }
+    say_whole_and_flush(out)
 }
 
 // Whether a sink that fails once it has taken `most` bytes has just these of what was said, and flushing tells whether they are all.
 fn is_cut(alloc: Global, length: usize, most: usize) -> Result<bool, AllocError> {
     let row = vec![in alloc; 0; length]?;
-    let mut taken = Vec::new(alloc);
     let sink = Short {
-        taken: &mut taken,
+        taken: Vec::new(alloc),
         most,
         has_failed: false,
     };
     let mut out = Outgoing::new(alloc, Buffer::new(sink, row));
-    say_whole(&mut out)?;
-    let told = out.flush().is_ok();
-    if !told {
-        say_whole(&mut out)?;
-    }
-    let same = out.flush().is_ok() == told;
-    drop(out);
+    let told = say_whole_and_flush(&mut out)?;
+    let same = flush_again(told, &mut out)? == told;
+    let Some(sink) = out.into_sink() else {
+        return Ok(false);
+    };
     let few = most.min(WHOLE.len());
-    Ok(same && told == (WHOLE.len() <= most) && taken.as_slice() == &WHOLE[..few])
+    Ok(same && told == (WHOLE.len() <= most) && sink.taken.as_slice() == &WHOLE[..few])
 }
 
 // Whether a buffer with a row of this length offers its sink these numbers of bytes, where pieces of 2, 2, 1, 10 and 0 bytes are said.
 fn offers(alloc: Global, length: usize, want: &[usize]) -> Result<bool, AllocError> {
     let row = vec![in alloc; 0; length]?;
-    let mut offers = Vec::new(alloc);
     let sink = Noting {
-        offers: &mut offers,
+        offers: Vec::new(alloc),
         has_failed: false,
     };
     let mut out = Outgoing::new(alloc, Buffer::new(sink, row));
-    say(&[b"ab", b"cd", b"e", b"0123456789", b""], &mut out)?;
-    let told = out.flush().is_ok();
-    drop(out);
-    Ok(told && offers.as_slice() == want)
+    let pieces: &[&[u8]] = &[b"ab", b"cd", b"e", b"0123456789", b""];
+    let told = say_and_flush(pieces, &mut out)?;
+    let Some(sink) = out.into_sink() else {
+        return Ok(false);
+    };
+    Ok(told && sink.offers.as_slice() == want)
 }
 
 #[test]
