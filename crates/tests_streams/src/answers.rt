@@ -138,7 +138,7 @@ fn asked_in<B: Naming, R: Wait>(rt: &R, alloc: Global, history: Opened) -> Resul
 
 #[test]
 fn an_answer_leaves_as_it_is_made(rt: HostRuntime) -> Result<(), AllocError> {
-    let (alloc, history) = (rt.alloc(), Opened::new());
-    assert!(rt; asked_in::<Brand, HostRuntime>(&rt, alloc, history)?);
+    let comes = asked_in::<Brand, HostRuntime>(&rt, rt.alloc(), Opened::new())?;
+    assert!(rt; comes);
     Ok(())
 }
