@@ -10,14 +10,21 @@ from talks import DELIVERED, Wrong, data_of, mail, session
 LAPPED = b"* BYE Too many changes were missed"
 
 
-def expect_answered(rows, answer, count, times):
-    """All messages were asked for so many times over, and answered: each, or, of an answer that wasn't read while some were removed, those that stood still."""
-    if any(text.count(b"BODY[] {") != times for text in rows):
+def is_answered(talk, count, times):
+    """All messages were asked for so many times over. Each is answered; or, of an answer that wasn't read while some were removed, those that stood still; or the
+    client is told within it that it missed too many changes, and that is no answer."""
+    rows = []
+    while not (text := talk.response()).startswith((b"q ", LAPPED)):
+        rows.append(text)
+    if any(row.count(b"BODY[] {") != times for row in rows):
         raise Wrong("a message was answered in part")
-    if answer == b"OK FETCH completed" and len(rows) == count:
-        return
-    if answer != b"NO [EXPUNGEISSUED] Some messages are gone" or len(rows) >= count:
-        raise Wrong(f"{len(rows)} messages of {count} were answered, and then {answer!r}")
+    if text == LAPPED:
+        return False
+    if text == b"q OK FETCH completed" and len(rows) == count:
+        return True
+    if text != b"q NO [EXPUNGEISSUED] Some messages are gone" or len(rows) >= count:
+        raise Wrong(f"{len(rows)} messages of {count} were answered, and then {text!r}")
+    return True
 
 
 class Racing:
@@ -73,8 +80,9 @@ class Racing:
         idling.say(question + b"i IDLE\r\n")
         idling.has_more(PATIENCE)
         lines = self.make_changes()
-        if times:
-            expect_answered(*idling.finish(b"q"), count, times)
+        if times and not is_answered(idling, count, times):
+            idling.expect_end()
+            return False
         idling.expect(b"+ idling")
         return self.told(idling, lines)
 
