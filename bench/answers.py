@@ -5,7 +5,7 @@
 
 Each program has a mailbox of 30,000 messages of 1 KB, or one of 300 messages of 100 KB, and one client, which asks for all flags, for all bodies, and for all
 bodies 500 times in one line. Then a client reads such an answer with 1 KB a second, beside four connections that bring mail to another user. In each round each
-program takes all of it once; printed are medians, and of memory the most. A line that no program of before takes to its end is left out by `--times 0`.
+program takes all of it once; printed are medians, and of memory the most. `--times 0` leaves the long line out.
 """
 
 import argparse
@@ -22,8 +22,8 @@ from servers import ROOM, compiled
 
 MAILBOXES = (("30,000 of 1 KB", 30000, 1024), ("300 of 100 KB", 300, 102400))
 CONNECTIONS = 4
-# So many messages of 1 KB are brought beside a slow reader.
-BESIDE = 60000
+# So many messages of 1 KB are brought beside a slow reader: three such loads, the first of them a tenth, have room in two mailboxes.
+BESIDE = 20000
 
 
 class Measured:
@@ -96,6 +96,8 @@ def rate(measured, part):
     """Copies a second to the other user, over four connections."""
     count = max(CONNECTIONS, int(BESIDE * part))
     numbers = load(measured.tools, measured.house, count, users=2, connections=CONNECTIONS)
+    if numbers["refused"]:
+        raise RuntimeError(f"{numbers['refused']:.0f} copies were refused")
     return numbers["rate"]
 
 
