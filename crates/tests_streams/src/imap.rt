@@ -12,7 +12,6 @@ use delivery_token::{Text, Verdict};
 use house_history::{Naming, Opened};
 use imap_session::{Admission, After, Folder, Profile};
 use imap_stream::{Berth, Visit, VisitFault};
-use line_io::Watched;
 use mailbox::Limits;
 use std::alloc::{AllocError, Global};
 use std::io::{self, Error, ErrorKind, Read};
@@ -322,8 +321,8 @@ fn a_session_leaves_where_its_output_fails(rt: HostRuntime) -> Result<(), AllocE
     Ok(())
 }
 
-// The thread that serves the client; then the watch is over.
-fn attend<'a, B: Naming, R: Wait>(
+// The client is served at the berth, to its end.
+fn attend_visit<'a, B: Naming, R: Wait>(
     rt: &R,
     alloc: Global,
     house: &TestHouse<B>,
@@ -331,7 +330,6 @@ fn attend<'a, B: Naming, R: Wait>(
     visit: Visit<'a, B, R, Tally, Wire<'a, R>>,
     marks: &Marks,
     nap: &Nap,
-    bell: &SessionBell,
 ) -> bool {
     let mut idler = Idler {
         reads: 0,
@@ -340,7 +338,7 @@ fn attend<'a, B: Naming, R: Wait>(
     };
     let mut buffer = [0; 64];
     let never = AtomicBool::new(false);
-    let is_done = berth
+    berth
         .attend(
             rt,
             alloc,
@@ -350,9 +348,24 @@ fn attend<'a, B: Naming, R: Wait>(
             &mut buffer,
             &never,
         )
-        .is_ok();
+        .is_ok()
+}
+
+// The thread that serves the client, from its greeting on; then the watch is over.
+fn attend<'a, B: Naming, R: Wait>(
+    rt: &'a R,
+    alloc: Global,
+    scene: &Scene<'a, B, R>,
+    bytes: &'a Mutex<Vec<u8>>,
+) -> bool {
+    let (house, marks, nap) = (scene.house, scene.marks, scene.nap);
+    let wire = Wire::new(rt, bytes, nap.sends, &marks.told);
+    let is_done = match open(rt, alloc, house, scene.tally, None, wire) {
+        Some(visit) => attend_visit(rt, alloc, house, &scene.berth, visit, marks, nap),
+        None => false,
+    };
     marks.over.store(true, Ordering::SeqCst);
-    bell.wake();
+    scene.bell.wake();
     is_done
 }
 
@@ -364,21 +377,14 @@ fn bring_one<B: Naming, R: Wait>(rt: &R, house: &TestHouse<B>, text: &Text) -> b
     }
 }
 
-// The thread that delivers so many messages while the client waits, and rings then.
-fn bring<B: Naming, R: Wait>(
-    rt: &R,
-    house: &TestHouse<B>,
-    text: &Text,
-    count: u8,
-    marks: &Marks,
-    bell: &SessionBell,
-) -> bool {
-    wait_until(&marks.waits);
+// The thread that delivers messages while the client waits, and rings then.
+fn bring<B: Naming, R: Wait>(rt: &R, scene: &Scene<'_, B, R>) -> bool {
+    wait_until(&scene.marks.waits);
     let mut are_stored = true;
-    for _ in 0..count {
-        are_stored &= bring_one(rt, house, text);
+    for _ in 0..scene.nap.messages {
+        are_stored &= bring_one(rt, scene.house, scene.text);
     }
-    bell.ring();
+    scene.bell.ring();
     are_stored
 }
 
@@ -395,36 +401,6 @@ struct Scene<'a, B: Naming, R: Wait> {
 }
 
 // The three threads of the berth: whether the client was served, and the messages brought.
-fn serve_idler<'a, B: Naming + Send + Sync, R: Threads + Wait + Sync>(
-    rt: &'a R,
-    alloc: Global,
-    scene: &Scene<'a, B, R>,
-    visit: Visit<'a, B, R, Tally, Wire<'a, R>>,
-    sleeper: Sleeper,
-) -> bool {
-    let Scene {
-        house,
-        text,
-        marks,
-        nap,
-        berth,
-        bell,
-        ..
-    } = scene;
-    let (_watched, (is_done, are_stored)) = join(
-        rt,
-        move || berth.keep_watch(rt, &sleeper, &marks.over, *marks),
-        move || {
-            join(
-                rt,
-                move || attend(rt, alloc, house, berth, visit, marks, nap, bell),
-                move || bring(rt, house, text, nap.messages, marks, bell),
-            )
-        },
-    );
-    is_done && are_stored
-}
-
 fn idle_in<'a, B: Naming + Send + Sync, R: Threads + Wait + Sync>(
     rt: &'a R,
     alloc: Global,
@@ -432,11 +408,19 @@ fn idle_in<'a, B: Naming + Send + Sync, R: Threads + Wait + Sync>(
     bytes: &'a Mutex<Vec<u8>>,
     sleeper: Sleeper,
 ) -> bool {
-    let wire = Wire::new(rt, bytes, scene.nap.sends, &scene.marks.told);
-    match open(rt, alloc, scene.house, scene.tally, None, wire) {
-        Some(visit) => serve_idler(rt, alloc, scene, visit, sleeper),
-        None => false,
-    }
+    let marks = scene.marks;
+    let (_watched, (is_done, are_stored)) = join(
+        rt,
+        move || scene.berth.keep_watch(rt, &sleeper, &marks.over, marks),
+        move || {
+            join(
+                rt,
+                move || attend(rt, alloc, scene, bytes),
+                move || bring(rt, scene),
+            )
+        },
+    );
+    is_done && are_stored
 }
 
 // Whether a client that idles so was served to its end, and its line was hushed where it said nothing.
@@ -651,41 +635,6 @@ fn first_other<B: Naming, R: Wait>(
 fn each_call_says_what_came_of_it(rt: HostRuntime) -> Result<(), AllocError> {
     let other = first_other::<Brand, HostRuntime>(&rt, rt.alloc(), Opened::new())?;
     assert_eq!(rt; other, None);
-    Ok(())
-}
-
-// A writer is a sink too, which tells its bytes.
-fn greeted<B: Naming, R: Wait>(
-    rt: &R,
-    alloc: Global,
-    history: Opened,
-    told: &mut Vec<u8>,
-) -> Result<bool, AllocError>
-    requires { history ≡ B.book }
-{
-    let house = a_mailbox::<B, R>(rt, alloc, history, false)?;
-    let tally = Tally::new();
-    let store = store_of(rt, &tally, 0, &house, &[]);
-    let visit = Visit::open(
-        rt,
-        alloc,
-        store,
-        folders(alloc)?,
-        known(None),
-        Watched::new(told),
-    );
-    Ok(visit.is_ok())
-}
-
-#[test]
-fn a_client_is_greeted(rt: HostRuntime) -> Result<(), AllocError> {
-    let mut told = Vec::new(rt.alloc());
-    let (alloc, history) = (rt.alloc(), Opened::new());
-    assert!(rt; greeted::<Brand, HostRuntime>(&rt, alloc, history, &mut told)?);
-    assert_eq!(rt;
-        told.as_slice(),
-        b"* PREAUTH IMAP4rev2 server ready\r\n".as_slice()
-    );
     Ok(())
 }
 
