@@ -12,9 +12,10 @@ use delivery_token::{Text, Verdict};
 use house_history::{Naming, Opened};
 use imap_session::{Admission, After, Folder, Profile};
 use imap_stream::{Berth, Visit, VisitFault};
+use line_io::Watched;
 use mailbox::Limits;
 use std::alloc::{AllocError, Global};
-use std::io::{self, Error, ErrorKind, Read};
+use std::io::{self, Error, ErrorKind, Read, Write};
 use std::marker::Brand;
 use std::sync::atomic::{AtomicBool, Ordering};
 use std::sync::{Arc, Mutex, Wait};
@@ -635,6 +636,56 @@ fn first_other<B: Naming, R: Wait>(
 fn each_call_says_what_came_of_it(rt: HostRuntime) -> Result<(), AllocError> {
     let other = first_other::<Brand, HostRuntime>(&rt, rt.alloc(), Opened::new())?;
     assert_eq!(rt; other, None);
+    Ok(())
+}
+
+// A writer, whose bytes stand under a lock.
+#[derive(Drop)]
+struct Page<'a, R: Wait> {
+    rt: &'a R,
+    bytes: &'a Mutex<Vec<u8>>,
+}
+
+impl<R: Wait> Write for Page<'_, R> {
+    fn write(&mut self, bytes: &[u8]) -> io::Result<usize> {
+        match self.bytes.lock(self.rt).extend_from_slice(bytes) {
+            Ok(()) => Ok(bytes.len()),
+            Err(_) => Err(Error::from(ErrorKind::OutOfMemory)),
+        }
+    }
+
+    fn flush(&mut self) -> io::Result<()> {
+        Ok(())
+    }
+}
+
+// A writer is a sink too, where it is watched.
+fn greeted<B: Naming, R: Wait>(rt: &R, alloc: Global, history: Opened) -> Result<bool, AllocError>
+    requires { history ≡ B.book }
+{
+    let house = a_mailbox::<B, R>(rt, alloc, history, false)?;
+    let told = Mutex::new(Vec::new(alloc));
+    let is_greeted = greets(rt, alloc, &house, &Tally::new(), &told)?;
+    Ok(is_greeted && is_greeting_and(&told.into_inner(), b""))
+}
+
+fn greets<'a, B: Naming, R: Wait>(
+    rt: &'a R,
+    alloc: Global,
+    house: &'a TestHouse<B>,
+    tally: &'a Tally,
+    bytes: &'a Mutex<Vec<u8>>,
+) -> Result<bool, AllocError> {
+    let store = store_of(rt, tally, 0, house, &[]);
+    let page = Watched::new(Page { rt, bytes });
+    let visit = Visit::open(rt, alloc, store, folders(alloc)?, known(None), page);
+    Ok(visit.is_ok())
+}
+
+#[test]
+fn a_client_is_greeted(rt: HostRuntime) -> Result<(), AllocError> {
+    let is_greeted = greeted::<Brand, HostRuntime>(&rt, rt.alloc(), Opened::new())?;
+    assert!(rt; is_greeted);
     Ok(())
 }
 
