@@ -1,5 +1,5 @@
 -- A message's position in a view, found by halving.
-use Rattle.std.proofs.Common.{◌≡◌, ◌≢◌, ℕ, zero, suc, ◌+◌, ◌<◌, ltb, true, false, ◌==◌, List, [], ◌∷◌, length, get_or, refl, inl, inr, arith, eq-eqb}
+use Rattle.std.proofs.Common.{◌≡◌, ◌≢◌, ℕ, zero, suc, ◌+◌, ◌-◌, ◌<◌, ltb, true, false, ◌==◌, List, [], ◌∷◌, length, get_or, refl, inl, inr, arith, eq-eqb}
 use Rattle.std.specs.List.Sorted.{IsNonDecreasing, IsPartitionPoint}
 use Rattle.std.proofs.lemmas.Bool.{ltb-true, ltb-false, cases_lt}
 use Rattle.std.proofs.lemmas.Bool.Decides.{eqb_tells}
@@ -38,3 +38,8 @@ module _ (uid : ℕ) (view : List ℕ) (k : ℕ) (point : IsPartitionPoint (λ u
         let above = up k i 0 high l in
         other (omega arith) (omega (arith, least, above, same))
   ])
+
+-- a UID that is greater than the one before it stands nowhere earlier
+pub first_behind_less : (uid : ℕ) (view : List ℕ) (k : ℕ) → IsNonDecreasing view → k < length view → get_or view k 0 ≡ uid → get_or view (k - 1) 0 < uid
+    → position uid view ≡ k + 1
+first_behind_less uid view k up l e less = position_first uid view k l e (λ i h same. let below = up i (k - 1) 0 (omega arith) (omega arith) in omega (arith, below, less, same))

@@ -1,7 +1,7 @@
 //! The messages of a view, which is the UIDs that a session was shown, in their order: each with its position there.
 //! Which of them a set names is told in `set`.
 
-ghost use Rattle.std.specs.Prelude.{◌≡◌, IfOk, map};
+ghost use Rattle.std.specs.Prelude.{◌≡◌, ◌+◌, ◌<◌, IfOk, length, map, true};
 ghost use Rattle.std.specs.List.Sorted.{IsNonDecreasing};
 ghost use Rattle.cursor_set.specs.Lines.{position};
 ghost use Rattle.imap_grammar.specs.Sets.{named_at};
@@ -29,7 +29,33 @@ fn position_by_halving(view: &[u32], uid: u32) -> usize
     }
 }
 
-/// The messages of these UIDs in a view, each with its position.
+// Whether the message stands at this index of a view, and no earlier.
+fn is_first_at(view: &[u32], index: usize, uid: u32) -> bool
+    requires { IsNonDecreasing view.now }
+    ensures there { result ≡ true → index < length view.now }
+    ensures first { result ≡ true → position uid view.now ≡ index + 1 }
+{
+    if view.get(index) != Some(&uid) {
+        return false;
+    }
+    if index == 0 {
+        return true;
+    }
+    view[index - 1] < uid
+}
+
+// The position of a message in a view. Where it stands at this index it need not be looked for.
+fn position_near(view: &[u32], index: usize, uid: u32) -> usize
+    requires { IsNonDecreasing view.now }
+    ensures { result ≡ position uid view.now }
+{
+    if is_first_at(view, index, uid) {
+        return index + 1;
+    }
+    position_by_halving(view, uid)
+}
+
+/// The messages of these UIDs in a view, each with its position. One that stands behind the one before it costs no search.
 pub(crate) fn with_positions(
     alloc: Global,
     uids: &[u32],
@@ -39,11 +65,14 @@ pub(crate) fn with_positions(
     ensures { IfOk result (λ named. named.items ≡ map (named_at view.now) uids.now) }
 {
     let mut named = Vec::with_capacity(alloc, uids.len())?;
+    let mut next = 0;
     for uid in uids {
+        let position = position_near(view, next, *uid);
         named.push_reserved(Named {
-            position: position_by_halving(view, *uid),
+            position,
             uid: *uid,
         });
+        next = position;
     }
     Ok(named)
 }
