@@ -4,8 +4,9 @@
     answers.py PROGRAM.. [--rounds 3] [--part 1]
 
 Each program has a mailbox of 30,000 messages of 1 KB, or one of 300 messages of 100 KB, and one client, which asks for all flags, for all bodies, and for all
-bodies 500 times in one line. Then a client reads such an answer with 1 KB a second, beside four connections that bring mail to another user. In each round each
-program takes all of it once; printed are medians, and of memory the most. `--times 0` leaves the long line out.
+bodies 500 times in one line. In each round each program takes all of it once; printed are medians, and of memory the most. `--times 0` leaves the long line out.
+Then four connections bring mail to nine users by turns, alone and beside a client of one of them that reads such an answer with 1 KB a second. The two loads are a
+pair, of which one or the other is first by turns, and printed is the median of the pairs' ratios.
 """
 
 import argparse
@@ -22,15 +23,18 @@ from servers import ROOM, compiled
 
 MAILBOXES = (("30,000 of 1 KB", 30000, 1024), ("300 of 100 KB", 300, 102400))
 CONNECTIONS = 4
-# So many messages of 1 KB are brought beside a slow reader: three such loads, the first of them a tenth, have room in two mailboxes.
-BESIDE = 20000
+# So many messages of 1 KB are a load beside a slow reader, and so many users get them by turns: two such loads have room in their mailboxes.
+BESIDE = 100000
+OTHERS = 8
+# So many pairs of loads in a round, each with a server of its own.
+PAIRS = 4
 
 
 class Measured:
     """A server, its tools, and a session that has selected its mailbox."""
 
-    def __init__(self, program, tools, count, size):
-        self.house = House(program, ["u0", "u1"], ROOM)
+    def __init__(self, program, tools, count, size, others=1):
+        self.house = House(program, [f"u{number}" for number in range(1 + others)], ROOM)
         self.tools = tools
         numbers = load(tools, self.house, count, users=1, size=size)
         if numbers["refused"]:
@@ -92,10 +96,9 @@ def answers(program, tools, part, times):
         measured.end()
 
 
-def rate(measured, part):
-    """Copies a second to the other user, over four connections."""
-    count = max(CONNECTIONS, int(BESIDE * part))
-    numbers = load(measured.tools, measured.house, count, users=2, connections=CONNECTIONS)
+def rate(measured, count):
+    """Copies a second over four connections."""
+    numbers = load(measured.tools, measured.house, count, users=1 + OTHERS, connections=CONNECTIONS)
     if numbers["refused"]:
         raise RuntimeError(f"{numbers['refused']:.0f} copies were refused")
     return numbers["rate"]
@@ -116,18 +119,30 @@ class Slow(threading.Thread):
             self.stream.recv(1024)
 
 
-def beside(program, tools, part):
-    """The rate of four connections alone, and beside a slow reader."""
-    measured = Measured(program, tools, 300, 102400)
-    rate(measured, part / 10)
-    alone = rate(measured, part)
+def rate_beside(measured, count):
+    """The same beside a client that reads slowly."""
     slow = Slow(measured, 100)
     time.sleep(1)
-    with_it = rate(measured, part)
+    found = rate(measured, count)
     slow.over.set()
     slow.join()
-    measured.end()
-    yield ("four connections", "beside a slow reader"), {"alone, copies/s": alone, "beside, copies/s": with_it, "ratio": with_it / alone}
+    return found
+
+
+def beside(program, tools, part):
+    """The rate of four connections alone, and beside a slow reader."""
+    count = max(CONNECTIONS, int(BESIDE * part))
+    for pair in range(PAIRS):
+        measured = Measured(program, tools, 300, 102400, OTHERS)
+        rate(measured, count // 10)
+        if pair % 2:
+            with_it = rate_beside(measured, count)
+            alone = rate(measured, count)
+        else:
+            alone = rate(measured, count)
+            with_it = rate_beside(measured, count)
+        measured.end()
+        yield ("four connections", "beside a slow reader"), {"alone, copies/s": alone, "beside, copies/s": with_it, "ratio": with_it / alone}
 
 
 def main():
