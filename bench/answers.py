@@ -5,7 +5,7 @@
 
 Each program has a mailbox of 30,000 messages of 1 KB, or one of 300 messages of 100 KB, and one client, which asks for all flags, for all bodies, and for all
 bodies 500 times in one line. In each round each program takes all of it once; printed are medians, and of memory the most. `--times 0` leaves the long line out.
-Then four connections bring mail to nine users by turns, alone and beside a client of one of them that reads such an answer with 1 KB a second. The two loads are a
+Then four connections bring mail to 64 users by turns, alone and beside a client of one of them that reads such an answer with 1 KB a second. The two loads are a
 pair, of which one or the other is first by turns, and printed is the median of the pairs' ratios.
 """
 
@@ -24,8 +24,10 @@ from servers import ROOM, compiled
 MAILBOXES = (("30,000 of 1 KB", 30000, 1024), ("300 of 100 KB", 300, 102400))
 CONNECTIONS = 4
 # So many messages of 1 KB are a load beside a slow reader, and so many users get them by turns: two such loads have room in their mailboxes.
-BESIDE = 100000
-OTHERS = 8
+BESIDE = 900000
+OTHERS = 63
+# So many seconds are waited before a load.
+SETTLED = 2
 # So many pairs of loads in a round, each with a server of its own.
 PAIRS = 4
 
@@ -97,7 +99,8 @@ def answers(program, tools, part, times):
 
 
 def rate(measured, count):
-    """Copies a second over four connections."""
+    """Copies a second over four connections, once the system has settled."""
+    time.sleep(SETTLED)
     numbers = load(measured.tools, measured.house, count, users=1 + OTHERS, connections=CONNECTIONS)
     if numbers["refused"]:
         raise RuntimeError(f"{numbers['refused']:.0f} copies were refused")
@@ -122,7 +125,6 @@ class Slow(threading.Thread):
 def rate_beside(measured, count):
     """The same beside a client that reads slowly."""
     slow = Slow(measured, 100)
-    time.sleep(1)
     found = rate(measured, count)
     slow.over.set()
     slow.join()
