@@ -8,3 +8,5 @@ pub mod Going
 pub mod Playing
 pub mod Answering
 pub mod Refuted
+pub mod WorldHolds
+pub mod WorldRefuted

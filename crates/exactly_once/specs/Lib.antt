@@ -1,3 +1,4 @@
 pub mod Promise
 pub mod Appended
 pub mod Found
+pub mod rows
