@@ -10,3 +10,6 @@ pub mod Answering
 pub mod Refuted
 pub mod WorldHolds
 pub mod WorldRefuted
+pub mod WorldAlone
+pub mod ToldRefuted
+pub mod OneRecord

@@ -22,15 +22,15 @@ use Rattle.world.proofs.Base.{rising_pair}
 use Rattle.exactly_once.specs.rows.Worlds.{alices, alices_lane, bobs, bye, bye_stored, by_number, first_replies, hi, hi_bob, hi_refused, hi_stands, hi_stored, nothing, now, second_replies, session_is_shown, small, the_session, yo, yo_stored}
 
 -- a number from two on is neither 0 nor 1
-not_first : (p : ℕ) → (0 == suc (suc p)) ≡ false
+pub not_first : (p : ℕ) → (0 == suc (suc p)) ≡ false
 not_first p = ne_eqb 0 (suc (suc p)) (λ e. omega (arith, e))
 
-not_second : (p : ℕ) → (1 == suc (suc p)) ≡ false
+pub not_second : (p : ℕ) → (1 == suc (suc p)) ≡ false
 not_second p = ne_eqb 1 (suc (suc p)) (λ e. omega (arith, e))
 
 -- ---- histories
 
-none_of_later : (p : ℕ) → accepted_of now (suc (suc p)) 0 ≡ []
+pub none_of_later : (p : ℕ) → accepted_of now (suc (suc p)) 0 ≡ []
 none_of_later p = rw (not_first p, not_second p) refl
 
 nothing_held : (p m s : ℕ) → stored_in (suc (suc m)) (held p (now.hand s)) ≡ []
@@ -58,7 +58,7 @@ in_order (suc (suc p)) zero = rw (none_of_later p) (rising_pair Below [] tt)
 in_order p (suc zero) = rising_pair Below [] tt
 in_order p (suc (suc m)) = rising_pair Below [] tt
 
-part_of_any : (xs : List Job) → IsPart [] xs
+pub part_of_any : (xs : List Job) → IsPart [] xs
 part_of_any [] = none
 part_of_any (x ∷ xs) = skips x (part_of_any xs)
 
@@ -74,13 +74,13 @@ taken p (suc (suc m)) = part_of_any _
 same_uid : (u : ℕ) → ◌≡◌ {A = Verdict} (Stored 7) (Stored u) → 7 ≡ u
 same_uid u e = cc
 
-not_stored : (f : Refusal) (u : ℕ) → ◌≡◌ {A = Verdict} (Refused f) (Stored u) → ⊥
+pub not_stored : (f : Refusal) (u : ℕ) → ◌≡◌ {A = Verdict} (Refused f) (Stored u) → ⊥
 not_stored f u e = cc
 
-not_in_none : (r : Noted) → Contains [] r → ⊥
+pub not_in_none : (r : Noted) → Contains [] r → ⊥
 not_in_none r c = omega (arith, c.1)
 
-answered : (p u : ℕ) (r : Noted) → Contains (now.heard p) r → r.verdict ≡ Stored u → StandsOnce (pairs (now.box r.mailbox).accepted) r.key u
+pub answered : (p u : ℕ) (r : Noted) → Contains (now.heard p) r → r.verdict ≡ Stored u → StandsOnce (pairs (now.box r.mailbox).accepted) r.key u
 answered zero u r (zero, l, is) e = absurd (not_stored _ u (ap (λ (x : Noted). x.verdict) is ∙ e))
 answered zero u r (suc zero, l, is) e =
     let uid : 7 ≡ u = same_uid u (ap (λ (x : Noted). x.verdict) is ∙ e) in
@@ -111,7 +111,7 @@ one_verdict (suc (suc p)) = rising_pair (λ (a : Noted) (b : Noted). a.key ≢ b
 
 -- ---- mailboxes
 
-abbrev Apart : Job × ℕ → Job × ℕ → Type 0
+abbrev pub Apart : Job × ℕ → Job × ℕ → Type 0
 Apart a b = a.0.key ≢ b.0.key
 
 no_key_twice : (m : ℕ) → AllPairs Apart (now.box m).accepted
@@ -154,69 +154,42 @@ held_back (suc (suc m)) l = absurd (omega (arith, l))
 
 -- ---- lanes
 
-quiet : {A : Type 0} (producers room : ℕ) → IsMerge {A = A} producers room nothing
-quiet {A = A} producers room = record { each = each; known = known; within = omega arith; legal = legal }
+-- a lane into which the first two producers put these, and of which every entry is one of them
+pub merge_of : {A : Type 0} (producers room : ℕ) (first second got waiting : List (Entry A)) → 2 ≤ producers → of 0 (got ++ waiting) ≡ first → of 1 (got ++ waiting) ≡ second
+    → ((p : ℕ) → of (suc (suc p)) (got ++ waiting) ≡ []) → EndsLast first → EndsLast second → length waiting ≤ room
+    → IsMerge producers room (record { sent = by_number first second []; got = got; waiting = waiting })
+merge_of {A = A} producers room first second got waiting two is_first is_second no_later first_legal second_legal few = record { each = each; known = known; within = few; legal = legal }
   where
-    each : (p : ℕ) → ◌≡◌ {A = List (Entry A)} [] (by_number [] [] [] p)
-    each zero = refl
-    each (suc zero) = refl
-    each (suc (suc p)) = refl
+    each : (p : ℕ) → of p (got ++ waiting) ≡ by_number first second [] p
+    each zero = is_first
+    each (suc zero) = is_second
+    each (suc (suc p)) = no_later p
 
-    known : (p : ℕ) → producers ≤ p → ◌≡◌ {A = List (Entry A)} (by_number [] [] [] p) []
-    known p l = sym (each p)
-
-    legal : (p : ℕ) → EndsLast {A = A} (by_number [] [] [] p)
-    legal zero = tt
-    legal (suc zero) = tt
-    legal (suc (suc p)) = tt
-
-alices_merge : IsMerge 3 4 alices_lane
-alices_merge = record { each = each; known = known; within = omega arith; legal = legal }
-  where
-    each : (p : ℕ) → of p alices_lane.got ≡ alices_lane.sent p
-    each zero = refl
-    each (suc zero) = refl
-    each (suc (suc p)) = rw (not_first p, not_second p) refl
-
-    known : (p : ℕ) → 3 ≤ p → alices_lane.sent p ≡ []
-    known zero l = absurd (omega (arith, l))
-    known (suc zero) l = absurd (omega (arith, l))
+    known : (p : ℕ) → producers ≤ p → by_number first second [] p ≡ []
+    known zero l = absurd (omega (arith, two, l))
+    known (suc zero) l = absurd (omega (arith, two, l))
     known (suc (suc p)) l = refl
 
-    legal : (p : ℕ) → EndsLast (alices_lane.sent p)
-    legal zero = tt
-    legal (suc zero) = tt
+    legal : (p : ℕ) → EndsLast (by_number first second [] p)
+    legal zero = first_legal
+    legal (suc zero) = second_legal
     legal (suc (suc p)) = tt
+
+pub quiet : {A : Type 0} (producers room : ℕ) → 2 ≤ producers → IsMerge {A = A} producers room nothing
+quiet producers room two = merge_of producers room [] [] [] [] two refl refl (λ p. refl) tt tt (omega arith)
+
+pub alices_merge : IsMerge 3 4 alices_lane
+alices_merge = merge_of 3 4 (Item 0 hi ∷ Item 0 bye ∷ []) (Item 1 yo ∷ []) alices_lane.got [] (omega arith) refl refl (λ p. rw (not_first p, not_second p) refl) tt tt (omega arith)
 
 lanes : (s : ℕ) → IsMerge 3 4 (now.lane s)
 lanes zero = alices_merge
-lanes (suc zero) = quiet 3 4
-lanes (suc (suc s)) = quiet 3 4
-
--- a lane of replies through which one verdict of shard 0 goes
-one_reply : (r : Noted) (got waiting : List (Entry Noted)) → got ++ waiting ≡ Item 0 r ∷ [] → length waiting ≤ reply_room
-    → IsMerge 2 reply_room (record { sent = by_number (Item 0 r ∷ []) [] []; got = got; waiting = waiting })
-one_reply r got waiting all few = record { each = λ p. rw all (each p); known = known; within = few; legal = legal }
-  where
-    each : (p : ℕ) → of p (Item 0 r ∷ []) ≡ by_number (Item 0 r ∷ []) [] [] p
-    each zero = refl
-    each (suc zero) = refl
-    each (suc (suc p)) = rw (not_first p) refl
-
-    known : (p : ℕ) → 2 ≤ p → by_number (Item 0 r ∷ []) [] [] p ≡ []
-    known zero l = absurd (omega (arith, l))
-    known (suc zero) l = absurd (omega (arith, l))
-    known (suc (suc p)) l = refl
-
-    legal : (p : ℕ) → EndsLast (by_number (Item 0 r ∷ []) [] [] p)
-    legal zero = tt
-    legal (suc zero) = tt
-    legal (suc (suc p)) = tt
+lanes (suc zero) = quiet 3 4 (omega arith)
+lanes (suc (suc s)) = quiet 3 4 (omega arith)
 
 reply_lanes : (p : ℕ) → IsMerge 2 reply_room (now.replies p)
-reply_lanes zero = one_reply hi_stored (Item 0 hi_stored ∷ []) [] refl (omega arith)
-reply_lanes (suc zero) = one_reply yo_stored [] (Item 0 yo_stored ∷ []) refl (omega arith)
-reply_lanes (suc (suc p)) = quiet 2 reply_room
+reply_lanes zero = merge_of 2 reply_room (Item 0 hi_stored ∷ []) [] (Item 0 hi_stored ∷ []) [] (omega arith) refl refl (λ p. rw (not_first p) refl) tt tt (omega arith)
+reply_lanes (suc zero) = merge_of 2 reply_room (Item 0 yo_stored ∷ []) [] [] (Item 0 yo_stored ∷ []) (omega arith) refl refl (λ p. rw (not_first p) refl) tt tt (omega arith)
+reply_lanes (suc (suc p)) = quiet 2 reply_room (omega arith)
 
 -- no seat has ended anywhere, so no lane is closed
 open_still : (s : ℕ) → IsClosed 3 (now.lane s) → ⊥
@@ -226,7 +199,7 @@ open_still (suc (suc s)) c = false≢true (c 0 (omega arith))
 
 -- ---- the session
 
-the_one : (s : Session) → ◌≡◌ {A = Option Session} (Some the_session) (Some s) → the_session ≡ s
+pub the_one : (s : Session) → ◌≡◌ {A = Option Session} (Some the_session) (Some s) → the_session ≡ s
 the_one s e = cc
 
 shown : (n : ℕ) (s : Session) → now.session n ≡ Some s → IsShown (now.box s.mailbox).log s

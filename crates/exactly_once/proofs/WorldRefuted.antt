@@ -45,16 +45,16 @@ with_session session = record now { session = by_number (Some session) None None
 -- ---- a copy stands once
 
 -- Alice finds the message twice.
-abbrev twice : Box
+abbrev pub twice : Box
 twice = record { log = Add 7 ∷ Add 8 ∷ Add 9 ∷ Add 10 ∷ []; base = 0; accepted = (hi, 7) ∷ (yo, 8) ∷ (bye, 9) ∷ (hi, 10) ∷ [] }
 
-stands_twice : StandsOnce (pairs twice.accepted) hi.key 7 → ⊥
+pub stands_twice : StandsOnce (pairs twice.accepted) hi.key 7 → ⊥
 stands_twice s =
     let first : 0 ≡ s.position = s.alone 0 (hi.key, 7) (omega arith) refl in
     let last : 3 ≡ s.position = s.alone 3 (hi.key, 7) (omega arith) refl in
     omega (arith, first, last)
 
-in_no_world : Headline small (with_alices twice) → ⊥
+pub in_no_world : Headline small (with_alices twice) → ⊥
 in_no_world h = h.no_key_twice 0 0 3 (hi, 7) (omega arith) (omega arith) refl
 
 -- twice under one UID
@@ -76,10 +76,10 @@ told_another_uid : Headline small (with_heard (hi_refused ∷ record hi_stored {
 told_another_uid h = under_another_uid (h.answered 0 8 (record hi_stored { verdict = Stored 8 }) (1, omega arith, refl) refl)
 
 -- Its sender was told that it is delivered, and Alice never finds it.
-stands_nowhere : StandsOnce [] hi.key 7 → ⊥
+pub stands_nowhere : StandsOnce [] hi.key 7 → ⊥
 stands_nowhere s = let within : s.position < 0 = s.within in omega (arith, within)
 
-is_lost : Headline small (with_alices bobs) → ⊥
+pub is_lost : Headline small (with_alices bobs) → ⊥
 is_lost h = stands_nowhere (h.answered 0 7 hi_stored (1, omega arith, refl) refl)
 
 -- Two messages have one UID: a client takes the one for the other.
