@@ -1,6 +1,6 @@
 -- One copy's way, by hand: a connection brings a message for Alice, which is put, taken, delivered and answered, and the connection is told. What each event
 -- led to and printed is written out, and the promise holds of it.
-use Rattle.std.proofs.Common.{◌≡◌, ◌≢◌, ℕ, zero, suc, ◌==◌, inl, inr, false, true, List, [], ◌∷◌, map, refl, arith, ap, ◌∙◌, sym, subst, All, AllPairs, Contains, Some}
+use Rattle.std.proofs.Common.{◌≡◌, ◌≢◌, ℕ, zero, suc, inl, inr, false, List, [], ◌∷◌, map, refl, arith, ap, ◌∙◌, sym, subst, All, AllPairs, Contains, Some}
 use Rattle.std.specs.Prelude.{◌<◌, codes, flat_map, slice_index_or}
 use Rattle.std.specs.Fmt.{digits}
 use Rattle.std.specs.Borrow.{Bor}
@@ -18,7 +18,7 @@ use Rattle.lmtp_machine.specs.declared.connection.What.{What}
 use Rattle.lmtp_machine.specs.declared.connection.What.TheVariants.{More, Quit, Submit}
 use Rattle.lmtp_machine.specs.declared.reply.Reply.TheVariants.{Delivered, Extensions, Greeting, RecipientOk, SenderOk, StartInput}
 use Rattle.lmtp_machine.specs.Conversation.{Leads, line, none}
-use Rattle.lmtp_machine.specs.Dialogue.{Answered, Line, Ready, Submission, Turn, Waiting}
+use Rattle.lmtp_machine.specs.Dialogue.{Line, Ready, Submission, Turn, Waiting}
 use Rattle.lmtp_machine.specs.Replies.{wire}
 use Rattle.shard_queue.specs.At.{set_at}
 use Rattle.shard_queue.specs.Lane.{put, took}
@@ -29,14 +29,14 @@ use Rattle.world.specs.World.{Box, IsWorld, Step, World, answers, delivered, del
 use Rattle.world.specs.Law.{StandsOnce, pairs}
 use Rattle.world.proofs.Always.{always}
 use Rattle.world.proofs.Base.{rising_pair}
-use Rattle.house_peers.specs.Caller.{Caller, IsAnswered, Works, greeted, meets, more_waits, setting_of, talks, with_unsaid, works}
+use Rattle.house_peers.specs.Caller.{Caller, IsAnswered, greeted, setting_of, talks, works}
 use Rattle.house_peers.specs.Caller.{answers as tells_verdicts, waits as awaits_verdicts}
-use Rattle.house.specs.Printing.{ConnectionGoes, prints_all, stays}
+use Rattle.house.specs.Printing.{prints_all, stays}
 use Rattle.house.specs.Scene.{Scene, connection_hears, connection_puts, empty_scene, opens, with_caller, with_world}
 use Rattle.house.specs.Setup.{terms_of}
 use Rattle.house.specs.declared.event.Event.{Event}
 use Rattle.house.specs.declared.event.Event.TheVariants.{Answer, Bytes, Deliver, Hear, Put, Take}
-use Rattle.exactly_once.specs.Promise.{Entry, ExactlyOnce, IsEntry, IsRecord, Other, Replies, Silence, TellsOnce, Verdict, text_of, verdicts_of}
+use Rattle.exactly_once.specs.Promise.{Entry, ExactlyOnce, IsEntry, IsRecord, Other, Replies, Silence, Verdict, text_of, verdicts_of}
 use Rattle.exactly_once.specs.rows.Worlds.{copy}
 use Rattle.exactly_once.specs.rows.Entries.{accepts, greets, the_house}
 
@@ -332,11 +332,21 @@ steps = world.Put 0 0 posted ∷ world.Take 0 ∷ world.Deliver 0 ∷ world.Answ
 
 comes : IsWorld the_house.config steps was_heard
 comes = (
-  was_put, it_joins,
-  (was_taken, takes (Item 0 posted) [] refl refl refl,
-  (was_delivered, it_is_stored,
-  (was_answered, answers stored refl (omega arith) refl,
-  (was_heard, hears_one 0 stored [] refl refl, refl)))),
+  was_put,
+  it_joins,
+  (
+    was_taken,
+    takes (Item 0 posted) [] refl refl refl,
+    (
+      was_delivered,
+      it_is_stored,
+      (
+        was_answered,
+        answers stored refl (omega arith) refl,
+        (was_heard, hears_one 0 stored [] refl refl, refl),
+      ),
+    ),
+  ),
 )
 
 printed_so : printed ≡ flat_map (λ (entry : Entry). text_of the_house entry.piece) entries

@@ -1,11 +1,9 @@
 -- What was told in the small house is told once; and what the promise refuses of what is told. Above each stands what somebody would have seen.
-use Rattle.std.proofs.Common.{◌≡◌, ◌≢◌, ℕ, zero, suc, ◌<◌, ◌==◌, inl, inr, false, List, [], ◌∷◌, ◌++◌, length, map, refl, sym, ap, ◌∙◌, subst, arith, All, AllPairs, Contains, Option, Some, None}
+use Rattle.std.proofs.Common.{◌≡◌, ◌≢◌, ℕ, zero, suc, ◌==◌, inl, inr, false, List, [], ◌∷◌, ◌++◌, length, map, refl, sym, ap, ◌∙◌, subst, arith, All, AllPairs, Contains, Some, None}
 use Rattle.std.specs.Prelude.{codes, flat_map}
 use Rattle.std.proofs.lemmas.Bool.{ne_eqb}
 use Rattle.delivery_token.specs.Keys.{Below}
-use Rattle.delivery_token.specs.declared.CopyKey.{CopyKey}
 use Rattle.delivery_token.specs.declared.Job.{Job}
-use Rattle.delivery_token.specs.declared.Refusal.{Refusal}
 use Rattle.delivery_token.specs.declared.Refusal.TheVariants.{NoMemory}
 use Rattle.delivery_token.specs.declared.Verdict.{Verdict as Judgement}
 use Rattle.delivery_token.specs.declared.Verdict.TheVariants.{Stored, Refused}
@@ -21,8 +19,8 @@ use Rattle.world.specs.World.{DeliverStep, World, deliver_full, deliver_no_memor
 use Rattle.world.specs.Law.{Headline}
 use Rattle.world.proofs.Base.{rising_pair}
 use Rattle.world.proofs.Verdicts.{below_itself}
-use Rattle.exactly_once.specs.Promise.{Entry, ExactlyOnce, HearsItsOwn, IsOwn, IsRecord, Lines, NoneTwice, Other, Piece, Replies, Said, Silence, TellsOnce, Verdict, text_of, verdicts_of}
-use Rattle.exactly_once.specs.rows.Worlds.{alices, bobs, by_number, bye, hi, hi_bob, hi_refused, hi_stored, now, yo_stored}
+use Rattle.exactly_once.specs.Promise.{Entry, ExactlyOnce, HearsItsOwn, IsOwn, IsRecord, Lines, NoneTwice, Replies, Said, Silence, TellsOnce, Verdict, text_of, verdicts_of}
+use Rattle.exactly_once.specs.rows.Worlds.{bobs, by_number, hi, hi_bob, hi_refused, hi_stored, now, yo_stored}
 use Rattle.exactly_once.specs.rows.Entries.{a_scene, printing, the_house, told}
 use Rattle.exactly_once.proofs.Going.{none_twice}
 use Rattle.exactly_once.proofs.WorldHolds.{answered}

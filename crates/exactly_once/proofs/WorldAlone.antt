@@ -1,6 +1,6 @@
 -- What the promise of a world alone lets pass, and the events don't: the small world with one thing wrong, for which each of its statements holds, and to which
 -- no events lead. `ExactlyOnce` says both (`world` and `came`).
-use Rattle.std.proofs.Common.{◌≡◌, ◌≢◌, ℕ, zero, suc, ◌+◌, ◌-◌, ◌%◌, ◌<◌, ◌≤◌, List, [], ◌∷◌, ◌++◌, length, map, refl, sym, ap, ◌∙◌, subst, arith, All, AllPairs, Contains, Some}
+use Rattle.std.proofs.Common.{◌≡◌, ◌≢◌, ℕ, zero, suc, ◌-◌, ◌%◌, ◌<◌, ◌≤◌, List, [], ◌∷◌, ◌++◌, length, map, refl, sym, ap, ◌∙◌, subst, arith, All, AllPairs, Contains, Some}
 use Rattle.std.specs.List.{range_with_len}
 use Rattle.std.proofs.lemmas.Bool.{false≢true}
 use Rattle.std.proofs.lemmas.Option.{none-some}
@@ -177,7 +177,7 @@ two_windows zero = omega arith
 two_windows (suc zero) = omega arith
 two_windows (suc (suc m)) = omega arith
 
-two_held_back : (m : ℕ) → 0 < (in_two.box m).base → 8 ≤ length (in_two.box m).log - (in_two.box m).base
+two_held_back : (m : ℕ) → 0 < (in_two.box m).base → 16 ≤ length (in_two.box m).log - (in_two.box m).base
 two_held_back zero l = absurd (omega (arith, l))
 two_held_back (suc zero) l = absurd (omega (arith, l))
 two_held_back (suc (suc m)) l = absurd (omega (arith, l))

@@ -19,7 +19,7 @@ use Rattle.shard_queue.specs.declared.lane.Entry.TheVariants.{Item}
 use Rattle.world.specs.World.{Session, reply_room}
 use Rattle.world.specs.Law.{Headline, IsPart, IsShown, StandsOnce, accepted_of, copies, due, held, keeps, keys, none, pairs, skips, stored, taken_copies}
 use Rattle.world.proofs.Base.{rising_pair}
-use Rattle.exactly_once.specs.rows.Worlds.{alices, alices_lane, bobs, bye, bye_stored, by_number, first_replies, hi, hi_bob, hi_refused, hi_stands, hi_stored, nothing, now, second_replies, session_is_shown, small, the_session, yo, yo_stored}
+use Rattle.exactly_once.specs.rows.Worlds.{alices, alices_lane, bye, by_number, hi, hi_bob, hi_refused, hi_stands, hi_stored, nothing, now, session_is_shown, small, the_session, yo, yo_stored}
 
 -- a number from two on is neither 0 nor 1
 pub not_first : (p : ℕ) → (0 == suc (suc p)) ≡ false
@@ -147,7 +147,7 @@ windows zero = omega arith
 windows (suc zero) = omega arith
 windows (suc (suc m)) = omega arith
 
-held_back : (m : ℕ) → 0 < (now.box m).base → 8 ≤ length (now.box m).log - (now.box m).base
+held_back : (m : ℕ) → 0 < (now.box m).base → 16 ≤ length (now.box m).log - (now.box m).base
 held_back zero l = absurd (omega (arith, l))
 held_back (suc zero) l = absurd (omega (arith, l))
 held_back (suc (suc m)) l = absurd (omega (arith, l))

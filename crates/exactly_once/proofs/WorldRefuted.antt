@@ -5,7 +5,6 @@ use Rattle.std.proofs.lemmas.Bool.{true≢false}
 use Rattle.change_ring.specs.Log.{added, no_flags}
 use Rattle.change_ring.specs.declared.change.Change.{Change}
 use Rattle.change_ring.specs.declared.change.Change.TheVariants.{Add, Gone, Flags as SetFlags}
-use Rattle.change_ring.specs.declared.change.Flags.{Flags}
 use Rattle.delivery_token.specs.Keys.{Below}
 use Rattle.delivery_token.specs.Text.{undated}
 use Rattle.delivery_token.specs.declared.CopyKey.{CopyKey}
@@ -40,7 +39,6 @@ with_lane lane = record now { lane = by_number lane nothing nothing }
 
 abbrev pub with_session : Session → World
 with_session session = record now { session = by_number (Some session) None None }
-
 
 -- ---- a copy stands once
 
@@ -150,7 +148,7 @@ flag_of_none h = not_among (h.logs 0).there.1.1.1.0
 
 -- A change was dropped while the window had room: a client that had not seen it is put out.
 dropped_early : Headline small (with_alices (record alices { base = 1 })) → ⊥
-dropped_early h = let held : 8 ≤ 2 = h.held_back 0 (omega arith) in omega (arith, held)
+dropped_early h = let held : 16 ≤ 2 = h.held_back 0 (omega arith) in omega (arith, held)
 
 -- ---- verdicts
 

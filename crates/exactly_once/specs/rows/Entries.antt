@@ -23,6 +23,9 @@ greets e = cc
 pub accepts : RecipientOk ≢ Delivered
 accepts e = cc
 
+pub runs_out : OutOfMemory ≢ Delivered
+runs_out e = cc
+
 -- Both connections were greeted. The first sent its message for Alice and Bob, and was told of each. A session said a line.
 abbrev pub told : List Entry
 told =
@@ -69,3 +72,11 @@ verdicts_printed = refl
 lines_printed : text_of the_house (Lines 1 (codes "* 1 EXISTS" ∷ codes "a OK NOOP completed" ∷ [])) ≡ codes "I1 * 1 EXISTS\nI1 a OK NOOP completed\n"
 unfolding digits
 lines_printed = refl
+
+-- A refusal is printed alike, whether the record has it as a verdict or as another reply. So of refusals `TellsOnce` counts those alone that a record has as
+-- verdicts; which lines there are is said by `IsRecord`.
+printed_alike : text_of the_house (Replies 0 (Verdict hi_refused ∷ [])) ≡ text_of the_house (Replies 0 (Other OutOfMemory runs_out ∷ []))
+printed_alike = refl
+
+not_counted : verdicts_of 0 (printing (Replies 0 (Verdict hi_stored ∷ Other OutOfMemory runs_out ∷ [])) ∷ []) ≡ hi_stored ∷ []
+not_counted = refl

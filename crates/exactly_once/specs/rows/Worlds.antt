@@ -1,8 +1,7 @@
 -- A small house by hand, and what each word of the promise says of it: two connections, two mailboxes in two shards, a session, four copies.
 use Rattle.std.specs.Prelude.{◌≡◌, ℕ, zero, suc, ◌<◌, codes, List, [], ◌∷◌, Some, None, slice_index_or}
 use Rattle.std.proofs.Common.{refl, ap, arith}
-use Rattle.change_ring.specs.Log.{added, no_flags, view_at}
-use Rattle.change_ring.specs.declared.change.Change.{Change}
+use Rattle.change_ring.specs.Log.{no_flags, view_at}
 use Rattle.change_ring.specs.declared.change.Change.TheVariants.{Add}
 use Rattle.delivery_token.specs.Text.{undated}
 use Rattle.delivery_token.specs.declared.CopyKey.{CopyKey}
@@ -10,17 +9,19 @@ use Rattle.delivery_token.specs.declared.Job.{Job}
 use Rattle.delivery_token.specs.declared.Refusal.TheVariants.{NoMemory}
 use Rattle.delivery_token.specs.declared.Verdict.TheVariants.{Stored, Refused}
 use Rattle.delivery_token.specs.declared.log.Noted.{Noted}
-use Rattle.shard_queue.specs.Lane.{Lane, of}
+use Rattle.shard_queue.specs.Lane.{Lane}
 use Rattle.shard_queue.specs.declared.lane.Entry.TheVariants.{Item}
 use Rattle.world.specs.declared.hand.Hand.TheVariants.{Empty, Done}
-use Rattle.world.specs.World.{Box, Config, Event, Session, World, Put, Take, Deliver, Answer, Hear, Enter, Feed, IsWorld, next_uid, put_joins, put_no_memory, takes, delivers, answers, hears_one, enters, mails, reply_to}
-use Rattle.world.specs.Law.{IsPart, IsShown, StandsOnce, accepted_of, between, copies, due, keeps, keys, none, pairs, skips, stored, taken_copies}
+use Rattle.world.specs.First.{one_house}
+use Rattle.world.specs.World.{Box, Config, Event, Session, World, Put, Take, Deliver, Answer, Hear, Enter, Feed}
+use Rattle.world.specs.Law.{IsPart, IsShown, StandsOnce, accepted_of, between, due, keeps, keys, none, pairs, skips, stored, taken_copies}
 
 -- ---- who there is
 
--- Seats 0 and 1 are those of the two connections, seat 2 is that of the session. Mailbox 0 is Alice's, in shard 0, mailbox 1 is Bob's, in shard 1.
+-- Seats 0 and 1 are those of the two connections, seat 2 is that of the session. Mailbox 0 is Alice's, in shard 0, mailbox 1 is Bob's, in shard 1. Each lane has
+-- room for four entries, each mailbox for eight messages, and its first UID is 7. A window keeps sixteen changes.
 abbrev pub small : Config
-small = record { seats = 3; shards = 2; mailboxes = 2; sessions = 1; depth = 4; messages = 8; ring = 8; ring_max = 8; first_uid = 7; uidvalidity = 1 }
+small = record one_house { seats = 3; shards = 2; mailboxes = 2; depth = 4; first_uid = 7 }
 
 -- one thing at 0, another at 1, and a third at each later number
 abbrev pub by_number : {A : Type 0} → A → A → A → ℕ → A
