@@ -55,7 +55,7 @@ stands_twice s =
 pub in_no_world : Headline small (with_alices twice) → ⊥
 in_no_world h = h.no_key_twice 0 0 3 (hi, 7) (omega arith) (omega arith) refl
 
--- twice under one UID
+-- She finds it twice, under one UID.
 under_one_uid : StandsOnce ((hi.key, 7) ∷ (hi.key, 7) ∷ []) hi.key 7 → ⊥
 under_one_uid s =
     let first : 0 ≡ s.position = s.alone 0 (hi.key, 7) (omega arith) refl in
@@ -84,7 +84,7 @@ is_lost h = stands_nowhere (h.answered 0 7 hi_stored (1, omega arith, refl) refl
 uid_again : Headline small (with_alices (accepting ((hi, 7) ∷ (yo, 7) ∷ (bye, 8) ∷ []))) → ⊥
 uid_again h = let uid : 7 ≡ 8 = ap (λ (l : List ℕ). slice_index l 1) (h.uids 0) in omega (arith, uid)
 
--- A UID was left out.
+-- A UID was left out, which no message ever had.
 uid_skipped : Headline small (with_alices (accepting ((hi, 7) ∷ (yo, 9) ∷ (bye, 10) ∷ []))) → ⊥
 uid_skipped h = let uid : 9 ≡ 8 = ap (λ (l : List ℕ). slice_index l 1) (h.uids 0) in omega (arith, uid)
 
@@ -162,7 +162,7 @@ verdict_lost h = let many : 2 ≡ 1 = ap length (h.history 0 0) in omega (arith,
 
 -- ---- lanes and their close
 
--- What the first connection sent last was taken, and is gone from the lane's books.
+-- What the first connection sent last is gone: it wasn't taken, and it doesn't wait.
 lost_in_the_lane : Headline small (with_lane (record alices_lane { got = Item 0 hi ∷ Item 1 yo ∷ [] })) → ⊥
 lost_in_the_lane h = let many : 1 ≡ 2 = ap length ((h.lanes 0).each 0) in omega (arith, many)
 
@@ -182,17 +182,17 @@ overtaken h = let first : 1 ≡ 0 = ap message_of ((h.lanes 0).each 0) in omega 
 not_none : (e : Entry Job) (es : List (Entry Job)) → e ∷ es ≡ [] → ⊥
 not_none e es same = omega (arith, ap length same)
 
--- A copy is taken from Alice's shard after its close, so by a server that told her that all is in.
+-- A copy is taken from Alice's shard after its close: whoever stopped there, since nothing more would come, lost it.
 taken_after_the_close : (w : World) → (w.lane 0).got ≡ Item 0 hi ∷ End 0 ∷ End 1 ∷ End 2 ∷ Item 0 bye ∷ [] → Headline small w → ⊥
 taken_after_the_close w got h =
     let sent = ap (λ (g : List (Entry Job)). of 0 (g ++ (w.lane 0).waiting)) (sym got) ∙ (h.lanes 0).each 0 in
     not_none (Item 0 bye) (of 0 (w.lane 0).waiting) (subst EndsLast (sym sent) ((h.lanes 0).legal 0))
 
--- One still waits there.
+-- One still waits there, and nobody will take it.
 waits_after_the_close : (w : World) → IsClosed 3 (w.lane 0) → (w.lane 0).waiting ≡ Item 0 bye ∷ [] → Headline small w → ⊥
 waits_after_the_close w closed waits h = not_none (Item 0 bye) [] (sym waits ∙ (h.closed 0 closed).0)
 
--- One comes later, and is taken.
+-- One comes there later, and is taken.
 comes_after_the_close : (w v : World) (later : List Event) → IsClosed 3 (w.lane 0) → Steps small w later v → (v.lane 0).got ≡ (w.lane 0).got ++ Item 0 bye ∷ [] → Headline small w → ⊥
 comes_after_the_close w v later closed steps got h =
     let same = ap (λ (l : Lane Job). length l.got) ((h.closed 0 closed).1 later v steps) in
