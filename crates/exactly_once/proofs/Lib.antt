@@ -9,6 +9,7 @@ pub mod Playing
 pub mod Answering
 pub mod Refuted
 pub mod WorldHolds
+pub mod WorldLeads
 pub mod WorldRefuted
 pub mod WorldAlone
 pub mod ToldRefuted
