@@ -22,6 +22,8 @@ from measures import load
 from servers import ROOM, compiled
 
 MAILBOXES = (("30,000 of 1 KB", 30000, 1024), ("300 of 100 KB", 300, 102400))
+# So often each of the shorter commands is given in a round: by the first one a session finds the mailbox as the load left it.
+CALLS = 5
 CONNECTIONS = 4
 # So many messages of 1 KB are a load beside a slow reader, and so many users get them by turns: two such loads have room in their mailboxes.
 BESIDE = 900000
@@ -94,7 +96,8 @@ def answers(program, tools, part, times):
         if times:
             asked[f"all bodies {times} times"] = bodies(times)
         for what, command in asked.items():
-            yield (name, what), measured.beyond(command)
+            for _ in range(1 if what.endswith("times") else CALLS):
+                yield (name, what), measured.beyond(command)
         measured.end()
 
 
