@@ -2,15 +2,18 @@
 """What a reader has to believe: the definitions that the clauses of a public function cite, and those that these cite, and so on.
 
     tests/believed.py                       each file that has some, how many, and how many lines they take with their comments
-    tests/believed.py --page docs/PROMISE.md    the same check that the gate makes: the page lists these files, each with its lines, and no other of specs/
+    tests/believed.py --parts               the same in the parts in which the page lists them: the headline, which is over any dialogues; what of LMTP and of IMAP
+                                            comes to it; and what the other promises need besides. A definition counts in the first part that cites it
+    tests/believed.py --page docs/PROMISE.md    the same check that the gate makes: the page lists these files in these parts, each with its lines, and no other
+                                            of specs/, and the heads of its sections tell their sums
     tests/believed.py CRATE::FUNCTION ..    those of other functions
     tests/believed.py --apart               whether what public clauses say stands apart, as the gate checks too: each definition of specs/ is cited by a
                                             clause that another crate can see, those of specs/inner/ by none, and specs/rows/ has tables of worked examples,
                                             which no clause cites
 
 It goes by names: a definition counts where its name stands in the text of one that counts (or in a clause), and is its file's own or is
-imported there. A constructor or a field counts with its type. Types of the code are counted, and not opened; what the kit's libraries define is
-passed over.
+imported there. A constructor or a field counts with its type, what stands in a module with parameters as what stands outside one, and the traits that
+a function asks of its types with its clauses. Types of the code are counted, and not opened; what the kit's libraries define is passed over.
 """
 
 import os
@@ -22,15 +25,40 @@ TOP = os.path.dirname(os.path.dirname(os.path.abspath(__file__)))
 # Who carries the promise: the law over every list of events, a run of a script, a run of threads.
 ROOTS = ["exactly_once::exactly_once_delivery", "script::drive", "running_house::run_house"]
 
+# The parts of the page, each with how the heads of its sections begin and the functions whose clauses cite it. The last one has all other sections.
+PARTS = [
+    ("The headline", ["exactly_once::exactly_once_over_any"]),
+    ("LMTP", ["exactly_once::connections_may_speak_lmtp"]),
+    ("IMAP", ["exactly_once::sessions_may_speak_imap"]),
+    ("", ROOTS),
+]
+
 # What the tables of worked examples begin with stands with the other words of its file.
 WITH_ITS_FILE = {("crates/laws_client/specs/Client.antt", "fresh")}
+
+# What bodies alone say stands within a module that has parameters, beside the public words that share these.
+WITHIN_ITS_MODULE = {("crates/shard_queue/specs/Closing.antt", "HasAllEnds"), ("crates/lane_work/specs/Streaming.antt", "SaysLast")}
 
 # Words of a notation, which are no definitions.
 NOTATION = {"infixr", "infixl", "use"}
 
 WORD = re.compile(r"[^\s(){},;.]+(?:\.[^\s(){},;.]+)*")
 DECLARED = re.compile(r"^(?:abbrev |unfoldable )?(?:pub )?(?:(data|record) )?(\S+)")
-IMPORT = re.compile(r"\s*(?:ghost )?use (Rattle[\w.]*)(?:\.\{(.*)\})?(?: as (\S+?))?;?\s*$")
+IMPORT = re.compile(r"\s*(?:ghost |pub )?use (Rattle[\w.]*)(?:\.\{(.*)\})?(?: as (\S+?))?;?\s*$")
+
+
+def at_the_margin(lines):
+    """The lines of a file, those within a module that has parameters at the margin too, each with whether it is one of those."""
+    inside = False
+    for line in lines:
+        if re.match(r"module _ .* where$", line):
+            inside = True
+            yield "", inside
+        elif inside and line.startswith("  "):
+            yield line[2:], inside
+        else:
+            inside = inside and not line
+            yield line, inside
 
 
 class Source:
@@ -43,6 +71,7 @@ class Source:
         self.owner = {}
         self.imported = {}
         self.modules = {}
+        self.within = set()
 
     def read_import(self, line):
         found = IMPORT.match(line)
@@ -58,18 +87,20 @@ class Source:
 
     def read_definitions(self, lines):
         current, kind, comment = None, None, 0
-        for line in lines:
+        for line, inside in at_the_margin(lines):
             if not line.strip():
                 current, comment = None, 0
             elif line.startswith("--"):
                 comment += 1
-            elif line.startswith("use "):
+            elif re.match(r"(pub )?use ", line):
                 self.read_import(line)
                 comment = 0
             elif re.match(r"(abbrev|unfoldable|pub|data|record) ", line):
                 kind, current = DECLARED.match(line).groups()
                 self.text[current] = line
                 self.lines[current] = 1 + comment
+                if inside:
+                    self.within.add(current)
                 comment = 0
             elif current is not None:
                 self.text[current] += "\n" + line
@@ -135,6 +166,15 @@ class Closure:
             if all(re.search(rf"(^|[\s(]){re.escape(sign)}($|[\s)])", text) for sign in signs):
                 self.use(source, name)
 
+    def is_cited(self, source, name):
+        """Whether a definition was reached. A word that is short for one of a module with parameters is as good as that."""
+        short_for = re.search(rf"\n{re.escape(name)}[^=\n]* = (\w+)\.(\S+)[^\n]*$", source.text[name])
+        if short_for and (module := source.modules.get(short_for.group(1))):
+            other = self.source_of(module)
+            if other is not None and short_for.group(2) in other.within:
+                return short_for.group(2) in self.reached.get(other.path, ())
+        return name in self.reached.get(source.path, ())
+
     def clauses_of(self, root):
         crate, function = root.split("::")
         folder = os.path.join(TOP, "crates", crate, "src")
@@ -147,6 +187,9 @@ class Closure:
                 for line in text.split("\n"):
                     source.read_import(line)
                 self.scan(source, found.group(0))
+                for name in re.findall(r": (\w+)", found.group(0).split("(")[0]):
+                    for asked in re.findall(rf"^pub trait {name}\b.*?^\}}", text, re.S | re.M):
+                        self.scan(source, asked)
                 return
         sys.exit(f"believed: no public function {root}")
 
@@ -211,58 +254,116 @@ def apart():
             if path.endswith("/Lib.antt") or path.islower():
                 continue
             source = closure.source_of("Rattle." + path[len("crates/"):-len(".antt")].replace("/", "."))
-            # A module with parameters of its own is not opened here, and stands where its file does.
-            with open(os.path.join(TOP, path), encoding="utf-8") as lines:
-                if source is None or re.search(r"^module ", lines.read(), re.M):
-                    continue
+            if source is None:
+                continue
             sides[side] += len(source.text)
             for name in source.text:
-                if name in NOTATION or (path, name) in WITH_ITS_FILE:
+                if name in NOTATION or (path, name) in WITH_ITS_FILE | WITHIN_ITS_MODULE:
                     continue
-                is_cited = name in closure.reached.get(path, ())
+                is_cited = closure.is_cited(source, name)
                 # A worked example need not be cited, and what is cited is none.
                 if is_cited != (side == "specs") and (is_cited or side != "rows"):
                     wrong.append(f"{path}: {name} is cited by {'a' if is_cited else 'no'} public clause")
     return wrong, sides
 
 
+def closure_of(roots):
+    """The definitions that the clauses of these functions cite."""
+    closure = Closure()
+    for root in roots:
+        closure.clauses_of(root)
+    closure.follow()
+    return closure
+
+
+def sizes_beyond(closure, before):
+    """The files of a closure, each with the lines of its definitions that aren't among these, where there are any."""
+    sizes = {path: sum(closure.sources[path].lines[n] for n in names - before.get(path, set())) for path, names in closure.reached.items()}
+    return {path: lines for path, lines in sizes.items() if lines}
+
+
+def parts():
+    """Each part with the files that come in it, and the lines of these."""
+    before = {}
+    for head, roots in PARTS:
+        closure = closure_of(roots)
+        yield head, sizes_beyond(closure, before)
+        for path, names in closure.reached.items():
+            before.setdefault(path, set()).update(names)
+
+
 def listed_in(page):
-    """The files of specs/ that a page lists, each with the lines that it tells of it; None where it only names the file."""
+    """The sections of a page that list files of specs/: the head of each, the lines that it tells, and the files with the lines that it tells of them, None
+    where it tells none."""
     with open(page, encoding="utf-8") as text:
-        found = re.findall(r"`(crates/\w+/specs/\w+\.antt)`(?: \((\d+)\))?", text.read())
-    return {path: int(lines) if lines else None for path, lines in found}
+        sections = re.split(r"^##+ ", text.read(), flags=re.M)
+    for section in sections:
+        head = section.split("\n")[0]
+        found = re.findall(r"`(crates/\w+/specs/\w+\.antt)`(?: \((\d+)\))?", section)
+        if found:
+            told = re.search(r"\(([\d,]+) lines\)$", head)
+            yield head, told and int(told.group(1).replace(",", "")), {path: int(lines) if lines else None for path, lines in found}
+
+
+def part_of(head):
+    """Which part a section of the page belongs to."""
+    return next(number for number, (begins, _) in enumerate(PARTS) if head.startswith(begins))
+
+
+def wrong_on(page):
+    """What a page tells otherwise than it is."""
+    listed = [{} for _ in PARTS]
+    for head, told, files in listed_in(page):
+        listed[part_of(head)].update(files)
+        if told is not None and told != sum(filter(None, files.values())):
+            yield f"tells {told} lines at `{head}`, which has {sum(filter(None, files.values()))}"
+    found = list(parts())
+    with open(page, encoding="utf-8") as text:
+        told = re.search(r"reads ([\d,]+) lines in (\d+) files", text.read())
+    first = f"{sum(found[0][1].values()):,}", str(len(found[0][1]))
+    if not told or told.groups() != first:
+        yield f"doesn't tell that the headline is {first[0]} lines in {first[1]} files"
+    for (head, sizes), files in zip(found, listed):
+        where = f"in its part `{head}`" if head else "in its last part"
+        yield from (f"doesn't list {path} {where}" for path in sizes.keys() - files.keys())
+        yield from (f"lists {path} {where}, which nothing cites there" for path in files.keys() - sizes.keys())
+        yield from (f"tells {files[path]} lines of {path} {where}, which has {n}" for path, n in sizes.items() if files.get(path) not in (None, n))
+
+
+def tell_apart():
+    wrong, sides = apart()
+    for line in wrong:
+        print(f"believed: {line}")
+    print(f"{sides['specs']} definitions of public clauses, {sides['inner']} of bodies and proofs, {sides['rows']} of worked examples")
+    return 1 if wrong else 0
+
+
+def tell_parts():
+    for head, sizes in parts():
+        for path in sorted(sizes):
+            print(f"{path}: {sizes[path]} lines")
+        print(f"{head or 'The others'}: {len(sizes)} files, {sum(sizes.values())} lines")
+    return 0
 
 
 def main(words):
-    page = None
     if words == ["--apart"]:
-        wrong, sides = apart()
+        return tell_apart()
+    if words == ["--parts"]:
+        return tell_parts()
+    if len(words) == 2 and words[0] == "--page":
+        wrong = sorted(wrong_on(words[1]))
         for line in wrong:
-            print(f"believed: {line}")
-        print(f"{sides['specs']} definitions of public clauses, {sides['inner']} of bodies and proofs, {sides['rows']} of worked examples")
+            print(f"believed: {words[1]} {line}")
         return 1 if wrong else 0
-    if words[:1] == ["--page"]:
-        page, words = words[1], words[2:]
     if any("::" not in root for root in words):
         print(__doc__, file=sys.stderr)
         return 2
-    closure = Closure()
-    for root in words or ROOTS:
-        closure.clauses_of(root)
-    closure.follow()
-    sizes = {p: sum(closure.sources[p].lines[n] for n in names) for p, names in closure.reached.items()}
-    if page is None:
-        for path in sorted(sizes):
-            print(f"{path}: {sizes[path]} lines, {len(closure.reached[path])} of {len(closure.sources[path].text)} definitions")
+    closure = closure_of(words or ROOTS)
+    sizes = sizes_beyond(closure, {})
+    for path in sorted(sizes):
+        print(f"{path}: {sizes[path]} lines, {len(closure.reached[path])} of {len(closure.sources[path].text)} definitions")
     print(f"{len(sizes)} files, {sum(sizes.values())} lines of definitions, {len(closure.types)} types of the code")
-    if page is not None:
-        listed = listed_in(page)
-        wrong = [f"doesn't list {path}" for path in sizes.keys() - listed.keys()]
-        wrong += [f"lists {path}, which nothing cites" for path in listed.keys() - sizes.keys()]
-        wrong += [f"tells {listed[path]} lines of {path}, which has {n}" for path, n in sizes.items() if path in listed and listed[path] not in (None, n)]
-        for line in sorted(wrong):
-            print(f"believed: {page} {line}")
-        return 1 if wrong else 0
     return 0
 
 

@@ -3,8 +3,9 @@
 
     tests/command_lines.py PROGRAM
 
-Words that are refused, settings that are wrong, help and version; names that are set; a server on free ports whose input is at its end at once; and how many
-peers one serves at a time. That each number reaches its own setting the worked cases show.
+Words that are refused, settings that are wrong, help and version; names that are set; a server on free ports whose input is at its end at once; how many peers
+one serves at a time; which texts are limits on memory, and which messages a server takes under one. That each number reaches its own setting the worked cases
+show.
 """
 
 import os
@@ -44,7 +45,46 @@ REFUSED = (
     "serve --json alice",
     "serve --lmtp-port 65536 alice",
     (b"script", b"\xff"),
+    "script --memory 1M alice",
+    "serve --memory alice",
+    "serve --memory 1M --memory 1M alice",
 )
+
+# Texts that are no sizes, or sizes of 2 ^ 64 bytes and more: of 1K there are 2 ^ 54 in these, of 1M 2 ^ 44, of 1G 2 ^ 34.
+NO_SIZES = (
+    "",
+    "K",
+    "G",
+    "M1",
+    "+5",
+    "-5",
+    "+5K",
+    "5k",
+    "5m",
+    "5g",
+    "5T",
+    "5B",
+    "5KB",
+    "5KiB",
+    "5KK",
+    "5 K",
+    " 5",
+    "5 ",
+    "5.5M",
+    "1_000",
+    "0x10",
+    "5\u0661",
+    "five",
+    "18446744073709551616",
+    "18014398509481984K",
+    "17592186044416M",
+    "17179869184G",
+    "18446744073709551616G",
+    "99999999999999999999999999999",
+)
+
+# Sizes: none is no limit, and there the greatest of each unit are.
+SIZES = ("0", "0K", "00G", "1", "007", "4096", "64K", "800M", "2G", "18446744073709551615", "18014398509481983K", "17592186044415M", "17179869183G")
 
 # Settings that are wrong: status 3, nothing on the output, and their first fault. Words and options come in any order; what follows `--` is a mailbox, and
 # so is a word of no bytes. Where several faults are there, the first is told: TooMany, BadName, Twice, Ring, Ports.
@@ -89,6 +129,20 @@ CHOSEN_LINES = re.compile(r"LMTP 127\.0\.0\.1:([1-9]\d*)\nIMAP 127\.0\.0\.1:([1-
 CROWDS = (
     ("--workers=1 --sessions=2", 3, (1, 2)),
     ("--workers=2 --sessions=1", 3, (2, 1)),
+)
+
+# Limits on the bytes of texts, and which of three messages are taken: of 1,440, 2,880 and 360 bytes, and less than 100 for what stands before each.
+MESSAGES = (20, 40, 5)
+MESSAGE_LINE = b"x" * 70 + b"\r\n"
+LIMITS = (
+    ("", (True, True, True)),
+    ("--memory=0", (True, True, True)),
+    ("--memory=0G", (True, True, True)),
+    ("--memory=1G", (True, True, True)),
+    ("--memory=3M", (True, True, True)),
+    ("--memory=2K", (True, False, True)),
+    ("--memory=1600", (True, False, False)),
+    ("--memory=2", (False, False, False)),
 )
 
 failures = []
@@ -159,6 +213,43 @@ def serves_crowd(program, options, count, wanted):
         failures.append(f"{words!r}: status {status}, and of {count} peers {found} were greeted, not {wanted}")
 
 
+def refuses_size(program, size):
+    """A limit that is no size is refused, and the text says of which option, and which."""
+    words = ["serve", "--lmtp-port=0", "--imap-port=0", f"--memory={size}", "alice"]
+    ended = run(program, words)
+    says = f"invalid value '{size}' for '--memory': " in ended.stderr and "K, M or G" in ended.stderr
+    check(words, (ended.returncode, ended.stdout) == (2, "") and says, ended)
+
+
+def asked(stream, line):
+    """The last line of the reply to this one, or of the greeting where there is none."""
+    if line:
+        stream.write(line + b"\r\n")
+    reply = stream.readline()
+    while reply[3:4] == b"-":
+        reply = stream.readline()
+    return reply.rstrip()
+
+
+def keeps_limit(program, limit, wanted):
+    words = f"serve --lmtp-port=0 --imap-port=0 --uidvalidity=9 {limit} alice"
+    with subprocess.Popen([program, *words.split()], stdin=subprocess.PIPE, stdout=subprocess.PIPE, text=True) as server:
+        port = int(server.stdout.readline().rsplit(":", 1)[1])
+        with socket.create_connection(("127.0.0.1", port), timeout=20) as mail, mail.makefile("rwb", buffering=0) as stream:
+            asked(stream, b"")
+            asked(stream, b"LHLO c.example")
+            replies = []
+            for lines in MESSAGES:
+                for line in (b"MAIL FROM:<s@a.example>", b"RCPT TO:<alice@example.org>", b"DATA"):
+                    asked(stream, line)
+                replies.append(asked(stream, MESSAGE_LINE * lines + b"."))
+        server.stdin.close()
+        status = server.wait(timeout=20)
+    expected = [b"250 2.1.5 Delivered" if takes else b"451 4.3.0 Out of memory" for takes in wanted]
+    if (replies, status) != (expected, 0):
+        failures.append(f"{words!r}: status {status}, and replies {replies}")
+
+
 def newest_version():
     """The version that CHANGELOG.md tells of first, behind what no version has yet."""
     page = os.path.join(os.path.dirname(os.path.dirname(os.path.abspath(__file__))), "CHANGELOG.md")
@@ -187,12 +278,18 @@ def main():
         "example.org where it is not given",
         "neither 25 nor a user's; 0 for a free one: 0 to 65535, and 2424 where it is not given",
         "0 for free ones: 0 to 65472, and 14300 where it is not given",
+        "--memory <memory>",
+        "0 for no limit, and 0 where it is not given",
     )
     check("serve --help", (ended.returncode, ended.stderr) == (0, "") and all(help in ended.stdout for help in helps), ended)
     ended = run(program, "--version")
     check("--version", (ended.returncode, ended.stderr) == (0, "") and ended.stdout.startswith(f"post_house {newest_version()}, proved with logic "), ended)
     stops_at_once(program, "--depth=4", WARNING)
     stops_at_once(program, "--uidvalidity=9", "")
+    for size in SIZES:
+        stops_at_once(program, f"--uidvalidity=9 --memory={size}", "")
+    for size in NO_SIZES:
+        refuses_size(program, size)
     for gives in CHOSEN:
         chooses(program, *gives)
     ended = run(program, NAMES, NAMES_INPUT)
@@ -200,9 +297,11 @@ def main():
     check(NAMES, ended.returncode == 0 and tuple(replies) == NAMES_REPLIES, ended)
     for options, count, wanted in CROWDS:
         serves_crowd(program, options, count, wanted)
+    for limit, wanted in LIMITS:
+        keeps_limit(program, limit, wanted)
     for failure in failures:
         print(failure)
-    total = len(REFUSED) + len(WRONG) + len(RIGHT) + 5 + len(CHOSEN) + len(CROWDS)
+    total = len(REFUSED) + len(WRONG) + len(RIGHT) + 5 + len(SIZES) + len(NO_SIZES) + len(CHOSEN) + len(CROWDS) + len(LIMITS)
     print(f"{total - len(failures)} of {total} command lines")
     sys.exit(1 if failures else 0)
 

@@ -18,15 +18,15 @@ TOP = os.path.dirname(os.path.dirname(os.path.abspath(__file__)))
 
 # Each figure, in the order in which they are printed, and its limit.
 LIMITS = {
-    "crates": 46,
+    "crates": 47,
     "longest chain of crates": 11,
     "product crates under 150 lines of code": 5,
     "product functions with 8 arguments or more": 17,
     "most arguments of a product function": 9,
-    "per mille of clauses that begin with a line over 100 columns": 0,
+    "per mille of clauses that begin with a line over 100 columns": 1,
     "lines of proofs": 103000,
     "lines of docs/PROVING.md": 300,
-    "lines of code, definitions and proofs": 199000,
+    "lines of code, definitions and proofs": 201000,
     "files that name an option (ring_max)": 50,
     "files that name a setting of serve (lmtp_port)": 35,
     "files that name a refusal of a copy (MailboxFull)": 39,

@@ -1,5 +1,5 @@
 #!/usr/bin/env python3
-"""A server whose memory is refused, and whose peers vanish, dawdle, never read or fall behind: what fails on one connection ends that connection alone.
+"""A server whose memory is refused, and whose peers vanish, dawdle, never read, bring too much or fall behind: what fails on one connection ends that connection alone.
 
     tests/hostile_serving.py PROGRAM [--part NAME] [--quick]
 
@@ -14,6 +14,8 @@ Parts; `--quick` tries every seventh case of each, or fewer.
   is free, memory doesn't grow, and the end of the input ends the server.
 - `answers`: clients that ask for a thousand times what stands, in one line, and never read, or a byte a second: they hold their own sessions, and memory for no
   more than a few rows; mail goes on. Whoever reads has all of it.
+- `fillers`: relays that bring more than `--memory` lets stand, as fast as they can, beside a client that takes out what they brought. Small mail is taken and read meanwhile, what was
+  answered `250` is read once, and the server's memory stays within what `docs/OPERATING.md` ("Memory") says.
 - `lapped`: a session that idles and doesn't read while more changes come than its mailbox keeps: it is told them in order, or that it missed too many.
 - `patience`, only where it is named, for it takes five minutes: a mail connection that says nothing is let go, and whoever waited is served; a session isn't.
 
@@ -30,13 +32,22 @@ import time
 from hostile.answers import answer_much
 from hostile.checks import Tally
 from hostile.cuts import cut_all
+from hostile.fillers import fill_up
 from hostile.lapped import fall_behind
 from hostile.memory import refuse_memory
 from hostile.resets import reset_all
 from hostile.slow import be_patient, be_slow
 from serving_house import end_by_exit
 
-PARTS = {"memory": refuse_memory, "resets": reset_all, "cuts": cut_all, "slow": be_slow, "answers": answer_much, "lapped": fall_behind}
+PARTS = {
+    "memory": refuse_memory,
+    "resets": reset_all,
+    "cuts": cut_all,
+    "slow": be_slow,
+    "answers": answer_much,
+    "fillers": fill_up,
+    "lapped": fall_behind,
+}
 BY_NAME = {**PARTS, "patience": be_patient}
 
 

@@ -106,10 +106,10 @@ class House:
         """A connection to the port of the user of this number."""
         return connect(self.imap_ports[number])
 
-    def resident(self):
-        """What it has resident, in KB."""
+    def resident(self, row="VmRSS"):
+        """What it has resident, in KB; by the row `VmHWM` the most that it ever had."""
         with open(f"/proc/{self.pid}/status", encoding="ascii") as lines:
-            return next(int(line.split()[1]) for line in lines if line.startswith("VmRSS:"))
+            return next(int(line.split()[1]) for line in lines if line.startswith(f"{row}:"))
 
     def close_input(self):
         """Ends the program's input, which stops it."""

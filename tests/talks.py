@@ -17,6 +17,7 @@ GREETING = b"220 mx.example.org LMTP ready"
 HELLO = [b"250-mx.example.org", b"250-PIPELINING", b"250-ENHANCEDSTATUSCODES", b"250 8BITMIME"]
 SENDER_OK, RECIPIENT_OK, START_INPUT = b"250 2.1.0 Sender OK", b"250 2.1.5 Recipient OK", b"354 Start mail input"
 DELIVERED = b"250 2.1.5 Delivered"
+OUT_OF_MEMORY, NO_MEMORY = b"451 4.3.0 Out of memory", b"NO Out of memory"
 PREAUTH = b"* PREAUTH IMAP4rev2 server ready"
 FETCH_ALL = b"UID FETCH 1:* (BODY.PEEK[])"
 FLAGS = rb"(\Answered \Flagged \Deleted \Seen \Draft)"
@@ -146,6 +147,17 @@ def envelope(users):
 def data_of(name, lines=1):
     """A message's data: its name, and so many lines."""
     return b"Subject: %s\r\n\r\n" % name.encode() + b"".join(b"line %d of it\r\n" % number for number in range(lines))
+
+
+def sized_data(name, size):
+    """The data of a message of which so many bytes stand. Each of its lines says which one of which message it is."""
+    data, line = data_of(name, 0), b" of " + name.encode().rjust(60, b"-") + b"\r\n"
+    count = max(0, (size - len(standing(data))) // (len(line) + 9) - 1)
+    data += b"".join(b"%09d" % number + line for number in range(count))
+    data += b"x" * (size - len(standing(data)) - 2) + b"\r\n"
+    if len(standing(data)) != size:
+        raise Wrong(f"a message can't have {size} bytes")
+    return data
 
 
 def standing(data):

@@ -10,7 +10,7 @@ import tempfile
 
 from hostile.checks import STRIDE, end
 from serving_house import DoesNotServe, House
-from talks import DELIVERED, FETCH_ALL, RECIPIENT_OK, SENDER_OK, START_INPUT
+from talks import DELIVERED, FETCH_ALL, NO_MEMORY, OUT_OF_MEMORY, RECIPIENT_OK, SENDER_OK, START_INPUT
 from talks import Over, Wrong, data_of, envelope, mail, name_of, opening, read_messages, session, standing
 
 # Each of so many allocations is refused in turn, behind them one of seven, up to this one.
@@ -19,8 +19,6 @@ EACH_REFUSED, MOST_REFUSED = 400, 2000
 ENOUGH = 10
 # A server that can't start ends within so many seconds; and one that lost a connection for want of memory is looked at for so long, since there are many.
 ENDS_WITHIN, LOOKED_AT = 6, 1
-
-NO_MEMORY, NO_MEMORY_LINE = b"NO Out of memory", b"451 4.3.0 Out of memory"
 
 
 class Kept:
@@ -95,13 +93,13 @@ class Pair:
         self.mail.say(envelope(["alice"] * recipients) + data + b".\r\n")
         self.mail.expect(SENDER_OK, *[RECIPIENT_OK] * recipients, START_INPUT)
         lines = [self.mail.line() for _ in range(recipients)]
-        if set(lines) - {DELIVERED, NO_MEMORY_LINE}:
+        if set(lines) - {DELIVERED, OUT_OF_MEMORY}:
             raise Wrong(f"a message was answered {lines!r}")
         for _ in range(lines.count(DELIVERED)):
             self.kept.add(data)
         # Memory that is refused for a message is refused for all of its copies.
-        if NO_MEMORY_LINE in lines:
-            self.losses.append(f"of a message to {recipients} {lines.count(NO_MEMORY_LINE)} copies, answered 451")
+        if OUT_OF_MEMORY in lines:
+            self.losses.append(f"of a message to {recipients} {lines.count(OUT_OF_MEMORY)} copies, answered 451")
 
     def part(self):
         """The mail connection's end."""

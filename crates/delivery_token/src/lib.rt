@@ -7,9 +7,12 @@ mod laws;
 mod log;
 mod verdicts;
 
-ghost use Rattle.std.specs.Prelude.{◌≡◌, ◌↔◌, true, IfOk, IsTrue};
+ghost use Rattle.std.specs.Prelude.{◌≡◌, ◌↔◌, true, length, IfOk, IsTrue};
+ghost use Rattle.std.specs.Arc.{arc_value};
+ghost use Rattle.budget.specs.Charging.{IsCharged};
 ghost use Rattle.delivery_token.specs.Keys.{Precedes};
 
+use budget::{Budget, Charge};
 use change_ring::Flags;
 pub use laws::what_was_heard_is_kept;
 pub use log::{Noted, WorkerLog};
@@ -43,11 +46,13 @@ pub fn precedes(a: &CopyKey, b: &CopyKey) -> bool
     a.seat == b.seat && a < b
 }
 
-// The bytes of a message and the date that came with it.
+// The bytes of a message, each of which is charged for as long as the text stands, and the date that came with it.
 #[derive(Drop)]
 struct Letter {
     bytes: Vec<u8>,
     date: Option<Stamp>,
+    charge: Charge,
+    ghost charged: { charge.bytes ≡ length bytes.items },
 }
 
 /// The bytes of a message, and the date that its APPEND brought: all copies of it share them.
@@ -78,15 +83,25 @@ impl Text {
         Text::with_date(bytes, None)
     }
 
-    /// The text that has these bytes, which are not copied, and the date that came with it, where one did.
+    /// The text that has these bytes, which are not copied, and the date that came with it, where one did. They are charged to nobody.
     ///
     /// Errors: `AllocError` where memory is refused for what its copies share.
     pub fn with_date(bytes: Vec<u8>, date: Option<Stamp>) -> Result<Text, AllocError>
         ensures { IfOk result (λ t. t ≡ record { bytes = bytes.items; date = date }) }
     {
+        Text::charged(&Budget::unlimited(), bytes, date)
+    }
+
+    /// The same, charged to this budget once, however many copies share it, until the last of them is let go.
+    ///
+    /// Errors: `AllocError` where that would pass the budget's limit, or memory is refused for what its copies share.
+    pub fn charged(budget: &Budget, bytes: Vec<u8>, date: Option<Stamp>) -> Result<Text, AllocError>
+        ensures { IfOk result (λ t. t ≡ record { bytes = bytes.items; date = date }) }
+    {
         let alloc = *bytes.allocator();
+        let letter = letter_of(budget, bytes, date)?;
         Ok(Text {
-            letter: Arc::new(alloc, Letter { bytes, date })?,
+            letter: Arc::new(alloc, letter)?,
         })
     }
 
@@ -117,9 +132,31 @@ impl Text {
         ensures { IfOk result (λ t. t ≡ self.now) }
     {
         Ok(Text {
-            letter: Arc::try_clone(&self.letter)?,
+            letter: once_more(&self.letter)?,
         })
     }
+}
+
+// The bytes, charged to this budget. An error where that would pass its limit, or memory is refused.
+fn letter_of(budget: &Budget, bytes: Vec<u8>, date: Option<Stamp>) -> Result<Letter, AllocError>
+    ensures text { IfOk result (λ l. (l.bytes.items ≡ bytes.items) × (l.date ≡ date)) }
+    ensures charged { IfOk result (λ l. IsCharged budget.now (length bytes.items) l.charge) }
+{
+    match budget.charge(bytes.len() as u64) {
+        Ok(charge) => Ok(Letter {
+            bytes,
+            date,
+            charge,
+        }),
+        Err(_) => Err(AllocError),
+    }
+}
+
+// The same letter, with the charge that it has: the seat that holds it is no second one.
+fn once_more(letter: &Arc<Letter>) -> Result<Arc<Letter>, AllocError>
+    ensures { IfOk result (λ l. arc_value l ≡ arc_value letter.now) }
+{
+    Arc::try_clone(letter)
 }
 
 /// One recipient's copy of a message, on its way to a mailbox, with the flags that it is to have

@@ -1,18 +1,13 @@
--- What a seat has heard stays heard, whatever happens; and what a session's calls come to in the world is some of its events.
-use Rattle.std.proofs.Common.{◌≡◌, ℕ, List, [], ◌∷◌, ◌++◌, Contains, Some, refl, sym, subst}
+-- What a seat has heard stays heard, whatever happens; and events of a world, one after another.
+use Rattle.std.proofs.Common.{◌≡◌, ℕ, List, [], ◌∷◌, ◌++◌, Contains, refl, sym, subst}
 use Rattle.std.proofs.lemmas.List.Elements.{Contains-append_left}
 use Rattle.shard_queue.proofs.AtLaws.{at_cases}
 use Rattle.delivery_token.specs.declared.log.Noted.{Noted}
-use Rattle.mailbox.specs.Events.{in_set}
-use Rattle.mailbox.specs.declared.clients.MailFault.{MailFault}
-use Rattle.mailbox.specs.declared.clients.MailFault.TheVariants.{Stranger, Lapped, Spent, NoMemory}
 use Rattle.world.specs.World as world
-use Rattle.world.specs.World.{Config, World, Event, Put, PutEnd, Take, Deliver, Answer, Hear, Enter, Status, Read, Store, Expunge, Feed, Leave, Discard, Step, Steps, put_joins, put_full, put_no_memory, put_shut, hears_one, discards_them}
+use Rattle.world.specs.World.{Config, World, Event, Put, PutEnd, Take, Deliver, Answer, Hear, Enter, Status, Read, Store, Expunge, Feed, Leave, Discard, Step, Steps, put_joins, put_full, put_no_memory, put_shut, hears_one}
 use Rattle.world.proofs.Heard.{heard_stays}
 use Rattle.world.proofs.Always.{steps_join}
-use Rattle.imap_session.specs.Exchange as calls
-use Rattle.imap_session.specs.Exchange.{Call, Look, Read as ReadCall, Count, Alter, Expunge as ExpungeCall, Feed as FeedCall, Leave as LeaveCall, Discard as DiscardCall, Enter as EnterCall, Entered, Looked, Found, Counted, Altered, Expunged, Fed, Left, Discarded, Refused, Starved}
-use Rattle.house.specs.Meets.{Meets, IsRefused, IsTurnedAway}
+pub use Rattle.house.specs.Peers.{Reached}
 
 -- ---- what was heard
 
@@ -40,10 +35,6 @@ heard_step k w (Feed i limit) v p n step c = subst (λ (rs : List Noted). Contai
 heard_step k w (Leave i removing) v p n step c = subst (λ (rs : List Noted). Contains rs n) (sym (heard_stays k w (Leave i removing) v p tt step)) c
 heard_step k w (Discard m goes) v p n step c = subst (λ (rs : List Noted). Contains rs n) (sym (heard_stays k w (Discard m goes) v p tt step)) c
 
--- some events lead from one world to the other
-abbrev pub Reached : Config → World → World → Type 0
-Reached k w v = (events : List Event) × Steps k w events v
-
 pub heard_stays_heard : (k : Config) (w : World) (es : List Event) (v : World) (p : ℕ) (n : Noted) → Steps k w es v → Contains (w.heard p) n → Contains (v.heard p) n
 heard_stays_heard k w [] v p n e c = rw e c
 heard_stays_heard k w (x ∷ es) v p n (u, one, others) c = heard_stays_heard k u es v p n others (heard_step k w x u p n one c)
@@ -58,118 +49,3 @@ moves k w v e step = (e ∷ [], (v, step, refl))
 
 pub reached_then : (k : Config) (w u v : World) → Reached k w u → Reached k u v → Reached k w v
 reached_then k w u v (es, a) (fs, b) = (es ++ fs, steps_join k w es u fs v a b)
-
--- ---- a session's calls
-
-was_refused : (k : Config) (n : ℕ) (w : World) (fault : MailFault) (why : Type 0) (v : World) → IsRefused n w fault why v → Reached k w v
-was_refused k n w Stranger why v m = stays k w v m.0
-was_refused k n w Lapped why v m = stays k w v m.0
-was_refused k n w Spent why v m = stays k w v m.0
-was_refused k n w NoMemory why v m = stays k w v m.0
-
-turned_away : (k : Config) (n m : ℕ) (w : World) (fault : MailFault) (v : World) → IsTurnedAway k n m w fault v → Reached k w v
-turned_away k n m w Stranger v t = stays k w v t.1
-turned_away k n m w Lapped v t = absurd t
-turned_away k n m w Spent v t = stays k w v t.1
-turned_away k n m w NoMemory v t = stays k w v t.1
-
-pub meets_reached : (k : Config) (n : ℕ) (w : World) (call : Call) (answer : calls.Answer) (v : World) → Meets k n w call answer v → Reached k w v
-meets_reached k n w (EnterCall i) (Entered opening) v m = moves k w v (world.Enter n i) m.0
-meets_reached k n w (EnterCall i) (Looked view) v m = absurd m
-meets_reached k n w (EnterCall i) (Found row) v m = absurd m
-meets_reached k n w (EnterCall i) (Counted status) v m = absurd m
-meets_reached k n w (EnterCall i) (Altered flags) v m = absurd m
-meets_reached k n w (EnterCall i) (Expunged view changes gone) v m = absurd m
-meets_reached k n w (EnterCall i) (Fed view changes) v m = absurd m
-meets_reached k n w (EnterCall i) (Left gone) v m = absurd m
-meets_reached k n w (EnterCall i) Discarded v m = absurd m
-meets_reached k n w (EnterCall i) (Starved j) v m = absurd m
-meets_reached k n w (EnterCall i) (Refused fault) v m = turned_away k n i w fault v m
-meets_reached k n w (Look by_uid set) (Entered opening) v m = absurd m
-meets_reached k n w (Look by_uid set) (Looked view) v m = stays k w v m.0
-meets_reached k n w (Look by_uid set) (Found row) v m = absurd m
-meets_reached k n w (Look by_uid set) (Counted status) v m = absurd m
-meets_reached k n w (Look by_uid set) (Altered flags) v m = absurd m
-meets_reached k n w (Look by_uid set) (Expunged view changes gone) v m = absurd m
-meets_reached k n w (Look by_uid set) (Fed view changes) v m = absurd m
-meets_reached k n w (Look by_uid set) (Left gone) v m = absurd m
-meets_reached k n w (Look by_uid set) Discarded v m = absurd m
-meets_reached k n w (Look by_uid set) (Starved j) v m = absurd m
-meets_reached k n w (Look by_uid set) (Refused fault) v m = was_refused k n w fault _ v m
-meets_reached k n w (ReadCall uid mark) (Entered opening) v m = absurd m
-meets_reached k n w (ReadCall uid mark) (Looked view) v m = absurd m
-meets_reached k n w (ReadCall uid mark) (Found row) v m = moves k w v (world.Read n uid mark) m.0
-meets_reached k n w (ReadCall uid mark) (Counted status) v m = absurd m
-meets_reached k n w (ReadCall uid mark) (Altered flags) v m = absurd m
-meets_reached k n w (ReadCall uid mark) (Expunged view changes gone) v m = absurd m
-meets_reached k n w (ReadCall uid mark) (Fed view changes) v m = absurd m
-meets_reached k n w (ReadCall uid mark) (Left gone) v m = absurd m
-meets_reached k n w (ReadCall uid mark) Discarded v m = absurd m
-meets_reached k n w (ReadCall uid mark) (Starved j) v m = absurd m
-meets_reached k n w (ReadCall uid mark) (Refused fault) v m = was_refused k n w fault _ v m
-meets_reached k n w (Count i) (Entered opening) v m = absurd m
-meets_reached k n w (Count i) (Looked view) v m = absurd m
-meets_reached k n w (Count i) (Found row) v m = absurd m
-meets_reached k n w (Count i) (Counted status) v m = stays k w v m.0
-meets_reached k n w (Count i) (Altered flags) v m = absurd m
-meets_reached k n w (Count i) (Expunged view changes gone) v m = absurd m
-meets_reached k n w (Count i) (Fed view changes) v m = absurd m
-meets_reached k n w (Count i) (Left gone) v m = absurd m
-meets_reached k n w (Count i) Discarded v m = absurd m
-meets_reached k n w (Count i) (Starved j) v m = absurd m
-meets_reached k n w (Count i) (Refused fault) v m = stays k w v m.0
-meets_reached k n w (Alter uid op) (Entered opening) v m = absurd m
-meets_reached k n w (Alter uid op) (Looked view) v m = absurd m
-meets_reached k n w (Alter uid op) (Found row) v m = absurd m
-meets_reached k n w (Alter uid op) (Counted status) v m = absurd m
-meets_reached k n w (Alter uid op) (Altered flags) v m = moves k w v (world.Store n uid op) m.0
-meets_reached k n w (Alter uid op) (Expunged view changes gone) v m = absurd m
-meets_reached k n w (Alter uid op) (Fed view changes) v m = absurd m
-meets_reached k n w (Alter uid op) (Left gone) v m = absurd m
-meets_reached k n w (Alter uid op) Discarded v m = absurd m
-meets_reached k n w (Alter uid op) (Starved j) v m = absurd m
-meets_reached k n w (Alter uid op) (Refused fault) v m = was_refused k n w fault _ v m
-meets_reached k n w (ExpungeCall uids) (Entered opening) v m = absurd m
-meets_reached k n w (ExpungeCall uids) (Looked view) v m = absurd m
-meets_reached k n w (ExpungeCall uids) (Found row) v m = absurd m
-meets_reached k n w (ExpungeCall uids) (Counted status) v m = absurd m
-meets_reached k n w (ExpungeCall uids) (Altered flags) v m = absurd m
-meets_reached k n w (ExpungeCall uids) (Expunged view changes gone) v m = moves k w v (world.Expunge n (in_set uids)) m.0
-meets_reached k n w (ExpungeCall uids) (Fed view changes) v m = absurd m
-meets_reached k n w (ExpungeCall uids) (Left gone) v m = absurd m
-meets_reached k n w (ExpungeCall uids) Discarded v m = absurd m
-meets_reached k n w (ExpungeCall uids) (Starved j) v m = absurd m
-meets_reached k n w (ExpungeCall uids) (Refused fault) v m = was_refused k n w fault _ v m
-meets_reached k n w (FeedCall limit) (Entered opening) v m = absurd m
-meets_reached k n w (FeedCall limit) (Looked view) v m = absurd m
-meets_reached k n w (FeedCall limit) (Found row) v m = absurd m
-meets_reached k n w (FeedCall limit) (Counted status) v m = absurd m
-meets_reached k n w (FeedCall limit) (Altered flags) v m = absurd m
-meets_reached k n w (FeedCall limit) (Expunged view changes gone) v m = absurd m
-meets_reached k n w (FeedCall limit) (Fed view changes) v m = moves k w v (world.Feed n limit) m.0
-meets_reached k n w (FeedCall limit) (Left gone) v m = absurd m
-meets_reached k n w (FeedCall limit) Discarded v m = absurd m
-meets_reached k n w (FeedCall limit) (Starved j) v m = absurd m
-meets_reached k n w (FeedCall limit) (Refused fault) v m = was_refused k n w fault _ v m
-meets_reached k n w (LeaveCall remove) (Entered opening) v m = absurd m
-meets_reached k n w (LeaveCall remove) (Looked view) v m = absurd m
-meets_reached k n w (LeaveCall remove) (Found row) v m = absurd m
-meets_reached k n w (LeaveCall remove) (Counted status) v m = absurd m
-meets_reached k n w (LeaveCall remove) (Altered flags) v m = absurd m
-meets_reached k n w (LeaveCall remove) (Expunged view changes gone) v m = absurd m
-meets_reached k n w (LeaveCall remove) (Fed view changes) v m = absurd m
-meets_reached k n w (LeaveCall remove) (Left gone) v m = moves k w v (world.Leave n remove) m.0.0
-meets_reached k n w (LeaveCall remove) Discarded v m = absurd m
-meets_reached k n w (LeaveCall remove) (Starved j) v m = absurd m
-meets_reached k n w (LeaveCall remove) (Refused fault) v m = was_refused k n w fault _ v m
-meets_reached k n w (DiscardCall i uids) (Entered opening) v m = absurd m
-meets_reached k n w (DiscardCall i uids) (Looked view) v m = absurd m
-meets_reached k n w (DiscardCall i uids) (Found row) v m = absurd m
-meets_reached k n w (DiscardCall i uids) (Counted status) v m = absurd m
-meets_reached k n w (DiscardCall i uids) (Altered flags) v m = absurd m
-meets_reached k n w (DiscardCall i uids) (Expunged view changes gone) v m = absurd m
-meets_reached k n w (DiscardCall i uids) (Fed view changes) v m = absurd m
-meets_reached k n w (DiscardCall i uids) (Left gone) v m = absurd m
-meets_reached k n w (DiscardCall i uids) Discarded v m = moves k w v (world.Discard i (in_set (Some uids))) (discards_them m.mailbox m.there m.logs m.made)
-meets_reached k n w (DiscardCall i uids) (Starved j) v m = absurd m
-meets_reached k n w (DiscardCall i uids) (Refused fault) v m = stays k w v m.0

@@ -1,9 +1,14 @@
 pub mod Quiet
 pub mod Told
+pub mod Lines
 pub mod Saying
 pub mod Copying
 pub mod Whole
 pub mod Grown
+pub mod Calls
+pub mod AnyGoing
+pub mod Lmtp
+pub mod Imap
 pub mod Going
 pub mod Playing
 pub mod Answering

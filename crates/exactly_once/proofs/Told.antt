@@ -5,8 +5,8 @@ use Rattle.delivery_token.specs.declared.CopyKey.{CopyKey}
 use Rattle.delivery_token.specs.declared.Verdict.{Verdict}
 use Rattle.delivery_token.specs.declared.log.Noted.{Noted}
 use Rattle.lmtp_machine.specs.Dialogue.{Setting, Submission, keys_from}
-use Rattle.lmtp_machine.specs.Kept.{AreMessages}
-use Rattle.house_peers.specs.Caller.{keys_of}
+use Rattle.house_peers.specs.Speech.{AreNumbered}
+use Rattle.house_peers.specs.AnyCaller.{keys_of}
 use Rattle.delivery_token.specs.Heard.{HeardFor}
 use Rattle.world.proofs.Base.{Every, Rising, every_append, every_weaker}
 use Rattle.world.proofs.Always.{every_front}
@@ -100,27 +100,27 @@ from_rising setting message i (m ∷ ms) = (
   from_rising setting message (i + 1) ms,
 )
 
-never_falls : (setting : Setting) (mailboxes : ℕ) (first : ℕ) (pending : List Submission) (number : ℕ) → AreMessages setting mailboxes first pending number → first ≤ number
+never_falls : (setting : Setting) (mailboxes : ℕ) (first : ℕ) (pending : List Submission) (number : ℕ) → AreNumbered setting first pending number → first ≤ number
 never_falls setting mailboxes first [] number h = omega (arith, h)
 never_falls setting mailboxes first (s ∷ ss) number h = let l = never_falls setting mailboxes (first + 1) ss number h.1 in omega (arith, l)
 
-pub pending_within : (setting : Setting) (mailboxes : ℕ) (first : ℕ) (pending : List Submission) (number : ℕ) → AreMessages setting mailboxes first pending number
+pub pending_within : (setting : Setting) (mailboxes : ℕ) (first : ℕ) (pending : List Submission) (number : ℕ) → AreNumbered setting first pending number
     → Every (IsWithin setting first number) (keys_of pending)
 pending_within setting mailboxes first [] number h = tt
 pending_within setting mailboxes first (s ∷ ss) number h =
     let more = never_falls setting mailboxes (first + 1) ss number h.1 in
-    let here : Every (IsWithin setting first number) s.keys = subst (Every (IsWithin setting first number)) (sym h.0.keys)
+    let here : Every (IsWithin setting first number) s.keys = subst (Every (IsWithin setting first number)) (sym h.0)
     (every_weaker _ (IsWithin setting first number) (λ key x. (x.0, x.1, let e = x.2 in omega (arith, e), let e = x.2 in omega (arith, e, more)))
     (keys_from setting first 0 s.mailboxes) (from_first setting first 0 s.mailboxes)) in
     every_append (IsWithin setting first number) s.keys (keys_of ss) here
     (every_weaker (IsWithin setting (first + 1) number) (IsWithin setting first number) (λ key x. (x.0, x.1, let l = x.2 in omega (arith, l), x.3)) (keys_of ss)
     (pending_within setting mailboxes (first + 1) ss number h.1))
 
-pub pending_rising : (setting : Setting) (mailboxes : ℕ) (first : ℕ) (pending : List Submission) (number : ℕ) → AreMessages setting mailboxes first pending number → Rising Below (keys_of pending)
+pub pending_rising : (setting : Setting) (mailboxes : ℕ) (first : ℕ) (pending : List Submission) (number : ℕ) → AreNumbered setting first pending number → Rising Below (keys_of pending)
 pending_rising setting mailboxes first [] number h = tt
 pending_rising setting mailboxes first (s ∷ ss) number h =
-    rising_append Below s.keys (keys_of ss) (subst (Rising Below) (sym h.0.keys) (from_rising setting first 0 s.mailboxes)) (pending_rising setting mailboxes (first + 1) ss number h.1)
-    (subst (Every (λ a. Every (Below a) (keys_of ss))) (sym h.0.keys)
+    rising_append Below s.keys (keys_of ss) (subst (Rising Below) (sym h.0) (from_rising setting first 0 s.mailboxes)) (pending_rising setting mailboxes (first + 1) ss number h.1)
+    (subst (Every (λ a. Every (Below a) (keys_of ss))) (sym h.0)
     (every_weaker _ (λ a. Every (Below a) (keys_of ss))
     (λ a x. every_weaker (IsWithin setting (first + 1) number) (Below a) (λ b y. inr (x.1 ∙ sym y.1, inl (let e = x.2 in let l = y.2 in omega (arith, e, l)))) (keys_of ss)
     (pending_within setting mailboxes (first + 1) ss number h.1))
@@ -150,7 +150,7 @@ heard_for heard (key ∷ keys) (v ∷ vs) h =
 
 -- the verdicts on the messages that were awaited are told after all others
 pub told_more : (seat serial : ℕ) (heard : List Noted) (setting : Setting) (mailboxes : ℕ) (first number : ℕ) (pending : List Submission) (vs : List Verdict) (told : List Noted)
-    → setting.seat ≡ seat → setting.serial ≡ serial → AreMessages setting mailboxes first pending number → (h : Heard heard (keys_of pending) vs) → AreTold seat heard serial first told
+    → setting.seat ≡ seat → setting.serial ≡ serial → AreNumbered setting first pending number → (h : Heard heard (keys_of pending) vs) → AreTold seat heard serial first told
     → AreTold seat heard serial number (told ++ h.notes)
 told_more seat serial heard setting mailboxes first number pending vs told at_seat of_serial messages h t =
     let within : Every (λ n. IsWithin setting first number n.key) h.notes = every_of_map (IsWithin setting first number) (λ n. n.key) h.notes
@@ -171,7 +171,7 @@ told_more seat serial heard setting mailboxes first number pending vs told at_se
     below a b (inr x) e l = inr (x.0 ∙ sym e, inl (let y = x.1 in omega (arith, y, l)))
 
 -- they are on the connection's own copies
-pub of_connection : (heard : List Noted) (setting : Setting) (mailboxes : ℕ) (first number : ℕ) (pending : List Submission) (vs : List Verdict) → AreMessages setting mailboxes first pending number
+pub of_connection : (heard : List Noted) (setting : Setting) (mailboxes : ℕ) (first number : ℕ) (pending : List Submission) (vs : List Verdict) → AreNumbered setting first pending number
     → (h : Heard heard (keys_of pending) vs) → Every (λ n. n.key.serial ≡ setting.serial) h.notes
 of_connection heard setting mailboxes first number pending vs messages h =
     every_of_map (λ key. key.serial ≡ setting.serial) (λ n. n.key) h.notes

@@ -1,5 +1,5 @@
 -- What a session says is whole lines, whatever its store answers.
-use Rattle.std.proofs.Common.{◌≡◌, ◌⊎◌, inl, inr, ℕ, zero, suc, ◌+◌, Bool, true, false, List, [], ◌∷◌, ◌++◌, map, length, refl, sym, ap, ◌∙◌, subst, append_assoc, append-nil, Option, Some, None, Result, Ok, Err}
+use Rattle.std.proofs.Common.{◌≡◌, inl, inr, ℕ, zero, suc, ◌+◌, Bool, true, false, List, [], ◌∷◌, ◌++◌, map, length, refl, sym, subst, append_assoc, Option, Some, None, Result, Ok, Err}
 use Rattle.std.specs.Prelude.{codes, decimal, flat_map, if◌then◌else◌, nat_le, nat_lt, ◌==◌}
 use Rattle.std.specs.List.{list_any}
 use Rattle.std.specs.Option.{option_map}
@@ -8,8 +8,7 @@ use Rattle.change_ring.specs.declared.change.Change.TheVariants.{Add, Gone, Flag
 use Rattle.change_ring.specs.declared.change.Flags.{Flags}
 use Rattle.change_ring.specs.Log.{shown}
 use Rattle.cursor_set.specs.Lines.{lines, line, position, flag_words, spaced}
-use Rattle.line_io.specs.Wire.{IsCut, crlf, wire_lines, wire_rest}
-use Rattle.line_io.specs.inner.WireLaws.{cut_end, cut_more, cut_none, reading_cut}
+use Rattle.line_io.specs.Wire.{crlf}
 use Rattle.mailbox.specs.declared.clients.MailFault.{MailFault}
 use Rattle.mailbox.specs.declared.clients.MailFault.TheVariants.{Stranger, Lapped, Spent, NoMemory}
 use Rattle.mailbox.specs.declared.clients.Opening.{Opening}
@@ -56,27 +55,17 @@ use Rattle.imap_session.proofs.Parts.{IsPart, asks_part, challenge_part, comes_p
 use Rattle.imap_answers.specs.declared.list.Listing.{Listing}
 use Rattle.imap_answers.specs.declared.list.Listing.TheVariants.{All, Subscribed}
 use Rattle.imap_grammar.specs.declared.command.CopyMessages.{CopyMessages}
+use Rattle.house.specs.Peers.{AreLines}
 use Rattle.exactly_once.proofs.Copying.{TakesBack, back_so, copies_so, stored_so}
+pub use Rattle.exactly_once.proofs.Lines.{cut_of, whole_append}
 
 -- nothing, or lines of which the last one has ended
 abbrev pub IsWhole : List ℕ → Type 0
-IsWhole bytes = (bytes ≡ []) ⊎ ((front : List ℕ) × (bytes ≡ front ++ crlf))
-
-pub whole_append : (a b : List ℕ) → IsWhole a → IsWhole b → IsWhole (a ++ b)
-whole_append a b p (inl e) = subst (λ (x : List ℕ). IsWhole (a ++ x)) (sym e) (subst IsWhole (sym (append-nil a)) p)
-whole_append a b p (inr (front, e)) = inr (a ++ front, ap (λ (x : List ℕ). a ++ x) e ∙ sym (append_assoc a front crlf))
+IsWhole = AreLines
 
 -- what ends in the last word of a line
 pub ends : (front words : List ℕ) → IsWhole (front ++ (words ++ crlf))
 ends front words = inr (front ++ words, sym (append_assoc front words crlf))
-
--- these are lines
-pub cut_of : (bytes : List ℕ) → IsWhole bytes → (lines : List (List ℕ)) × IsCut bytes lines []
-cut_of bytes (inl e) = ([], subst (λ (x : List ℕ). IsCut x [] []) (sym e) cut_none)
-cut_of bytes (inr (front, e)) =
-    let more = cut_more front (wire_lines front) (wire_rest front) 13 (reading_cut front) (λ lf cr. let x : 13 ≡ 10 = lf in cc) in
-    let cut = cut_end (front ++ 13 ∷ []) (wire_lines front) (wire_rest front ++ 13 ∷ []) (wire_rest front) more refl in
-    (wire_lines front ++ wire_rest front ∷ [], subst (λ (x : List ℕ). IsCut x (wire_lines front ++ wire_rest front ∷ []) []) (append_assoc front (13 ∷ []) (10 ∷ []) ∙ sym e) cut)
 
 -- ---- what is said
 
@@ -562,7 +551,7 @@ verdict_whole : (sent : Option ex.Sent) (now : Standing) (verdict : Verdict) (an
 verdict_whole None now verdict answers = tt
 verdict_whole (Some sent) now verdict answers = played_whole sent.tag (commands_of.without_sent now) (commands_of.on_verdict now.mailing now.selected sent.origin sent.append.mailbox verdict) answers (in_verdict now.mailing now.selected sent.origin sent.append.mailbox verdict)
 
-verdict_answered : {S : Type 0} (step : S → Call → Answer → S → Type 0) (now : Standing) (verdict : Verdict) (old new : S) (said : List ℕ) (how : After) (next : Standing) → AnswersVerdict step now verdict old new [] said how next → IsWhole said
+pub verdict_answered : {S : Type 0} (step : S → Call → Answer → S → Type 0) (now : Standing) (verdict : Verdict) (old new : S) (said : List ℕ) (how : After) (next : Standing) → AnswersVerdict step now verdict old new [] said how next → IsWhole said
 verdict_answered step now verdict old new said how next a = subst IsWhole (sym a.wrote) (some_whole _ _ (verdict_whole now.mailing.sent now verdict a.answers) a.played)
 
 -- ---- what a session at its seat says

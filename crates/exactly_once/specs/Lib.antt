@@ -1,3 +1,4 @@
+pub mod AnyPromise
 pub mod Promise
 pub mod Appended
 pub mod Found

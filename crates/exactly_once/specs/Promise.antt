@@ -1,151 +1,78 @@
--- What a house promises whatever happened in it: of all that was printed so far, and of the mailboxes.
-use Rattle.std.specs.Prelude.{◌≡◌, ◌≢◌, ℕ, ◌+◌, ◌<◌, ◌==◌, if◌then◌else◌, ◌⊎◌, false, true, List, [], ◌∷◌, ◌++◌, flat_map, filter_map, map, All, AllPairs, Contains, Option, Some, None}
-use Rattle.delivery_token.specs.Keys.{Below}
-use Rattle.delivery_token.specs.declared.Verdict.TheVariants.{Stored}
+-- What a house promises whatever happened in it, where its connections speak LMTP and its sessions IMAP; and what events come to that are tried.
+use Rattle.std.specs.Prelude.{◌≡◌, ℕ, ◌⊎◌, true, List, [], ◌∷◌, ◌++◌, Option}
 use Rattle.delivery_token.specs.declared.log.Noted.{Noted}
 use Rattle.lmtp_machine.specs.declared.reply.Reply.{Reply}
-use Rattle.lmtp_machine.specs.declared.reply.Reply.TheVariants.{Delivered}
-use Rattle.lmtp_machine.specs.Dialogue.{verdict_reply}
-use Rattle.lmtp_machine.specs.Replies.{wire}
-use Rattle.line_io.specs.Wire.{IsCut, joined}
-use Rattle.imap_session.specs.Commands.{greeting}
-use Rattle.world.specs.World.{World, Event, IsWorld}
-use Rattle.world.specs.Law.{Headline, StandsOnce, pairs}
+use Rattle.world.specs.World.{World}
 use Rattle.house_peers.specs.Caller.{Caller}
-use Rattle.house.specs.Setup.{Setup, admitted_in, session_seat}
-use Rattle.house.specs.Printing.{marked_connection, marked_session}
-use Rattle.house.specs.Scene.{EnterPlay, HasNothing, IdlePlay, Plays, SayPlay, Scene, SessionHears, SessionPuts, SessionTalks, empty_scene, place_of, seat_of}
+use Rattle.house.specs.LmtpAndImap.{lmtp_and_imap}
+use Rattle.house.specs.Setup.{Setup}
+use Rattle.house.specs.Scene.{HasNothing, Plays, Scene}
 use Rattle.house.specs.Steps.{IsBusy, IsNobody}
 use Rattle.house.specs.declared.event.Event as house
-use Rattle.house.specs.declared.event.Event.TheVariants.{Bytes, Put, Hear, Enter, Say, Idle}
 use Rattle.house.specs.Settling.{BreaksOff}
 use Rattle.house.specs.Stands.{StandsFor}
 use Rattle.house.specs.House.{House}
+use Rattle.exactly_once.specs.AnyPromise as any
+pub use Rattle.exactly_once.specs.AnyPromise.{Verdict, Other, Replies, Lines, Silence}
 
 -- ---- the record of a house
 
--- what a connection says: the verdict on a copy, or another reply, which isn't `Delivered`
-pub data Said : Type 0 where
-  Verdict : Noted → Said
-  Other : (reply : Reply) → reply ≢ Delivered → Said
+abbrev pub Said : Type 0
+Said = any.Said lmtp_and_imap
 
 abbrev pub reply_of : Said → Reply
-reply_of (Verdict noted) = verdict_reply noted.verdict
-reply_of (Other reply other) = reply
+reply_of = any.reply_of lmtp_and_imap
 
 abbrev pub verdict_in : Said → Option Noted
-verdict_in (Verdict noted) = Some noted
-verdict_in (Other reply other) = None
+verdict_in = any.verdict_in lmtp_and_imap
 
--- what an event prints: what the connection at a seat says, the lines of a session, or nothing
-pub data Piece : Type 0 where
-  Replies : (seat : ℕ) → List Said → Piece
-  Lines : (session : ℕ) → List (List ℕ) → Piece
-  Silence : Piece
+abbrev pub Piece : Type 0
+Piece = any.Piece lmtp_and_imap
 
 abbrev pub text_of : Setup → Piece → List ℕ
-text_of k (Replies seat said) = marked_connection (seat + 1) (wire k.host (map reply_of said))
-text_of k (Lines session lines) = marked_session session (joined lines)
-text_of k Silence = []
+text_of = any.text_of lmtp_and_imap
 
--- the serial of the connection that stands at a seat, or of the one that is opened there next
 abbrev pub serial_of : (next : ℕ) → Option Caller → ℕ
-serial_of next None = next
-serial_of next (Some caller) = caller.serial
+serial_of = any.serial_of lmtp_and_imap
 
--- the connection at this seat is told its own verdicts alone, on copies that it sent itself
 abbrev pub HearsItsOwn : Scene → ℕ → List Said → Type 0
-HearsItsOwn s seat said = All (λ noted. noted.key.serial ≡ serial_of (s.next seat) (s.caller seat)) (filter_map verdict_in said)
+HearsItsOwn = any.HearsItsOwn lmtp_and_imap
 
--- Session n put the copy of a message that its client appended, or heard a verdict, and these are its whole lines: what was still to be printed of it and what
--- it said since. So what it says to a verdict is of one that its own seat has heard.
-pub record PutsLines (k : Setup) (s : Scene) (number n : ℕ) (lines : List (List ℕ)) (t : Scene) : Type 0 where
-  pub place : ℕ
-  pub own : n ≡ place + 1
-  pub seat : seat_of number ≡ session_seat k place
-  pub puts : SessionPuts k false s place t (text_of k (Lines n lines))
-  pub talks : SessionTalks k false place (puts.moved.heard (session_seat k place)) puts.moved (record { session = puts.visitor.session; serial = puts.visitor.serial; gone = puts.visitor.gone; to_put = puts.others }) puts.later puts.left (text_of k (Lines n lines))
-  pub cut : IsCut (puts.visitor.session.unsaid ++ talks.speaks.said) lines []
+abbrev pub PutsLines : (k : Setup) (s : Scene) (number n : ℕ) (lines : List (List ℕ)) (t : Scene) → Type 0
+PutsLines = any.PutsLines lmtp_and_imap
 
-pub record HearsLines (k : Setup) (s : Scene) (number n : ℕ) (lines : List (List ℕ)) (t : Scene) : Type 0 where
-  pub place : ℕ
-  pub own : n ≡ place + 1
-  pub seat : seat_of number ≡ session_seat k place
-  pub hears : SessionHears k false s place t (text_of k (Lines n lines))
-  pub talks : SessionTalks k false place (hears.moved.heard (session_seat k place)) hears.moved hears.visitor hears.later hears.left (text_of k (Lines n lines))
-  pub cut : IsCut (hears.visitor.session.unsaid ++ talks.speaks.said) lines []
+abbrev pub HearsLines : (k : Setup) (s : Scene) (number n : ℕ) (lines : List (List ℕ)) (t : Scene) → Type 0
+HearsLines = any.HearsLines lmtp_and_imap
 
--- The piece is the event's own: its connection says it, or its session, and then the whole lines are what was still to be printed of it and what it said since.
 abbrev pub IsOwn : Setup → Scene → house.Event → Scene → Piece → Type 0
-IsOwn k s event t Silence = Unit {0}
-IsOwn k s (Bytes connection bytes) t (Replies seat said) = (seat ≡ seat_of connection) × HearsItsOwn s seat said
-IsOwn k s (Put number) t (Replies seat said) = (seat ≡ seat_of number) × (seat < k.connections) × HearsItsOwn s seat said
-IsOwn k s (Hear number) t (Replies seat said) = (seat ≡ seat_of number) × (seat < k.connections) × HearsItsOwn s seat said
-IsOwn k s (Put number) t (Lines session lines) = PutsLines k s number session lines t
-IsOwn k s (Hear number) t (Lines session lines) = HearsLines k s number session lines t
-IsOwn k s (Enter session user) t (Lines number lines) =
-    (number ≡ place_of session + 1) × (p : EnterPlay k false s (place_of session) user.now t (text_of k (Lines number lines))) × IsCut (greeting (admitted_in k user.now).profile ++ p.goes.speaks.said) lines []
-IsOwn k s (Say session bytes) t (Lines number lines) =
-    (number ≡ place_of session + 1) × (p : SayPlay k false s (place_of session) bytes.now t (text_of k (Lines number lines))) × IsCut (p.visitor.session.unsaid ++ p.goes.speaks.said) lines []
-IsOwn k s (Idle session) t (Lines number lines) =
-    (number ≡ place_of session + 1) × (p : IdlePlay k false s (place_of session) t (text_of k (Lines number lines))) × IsCut (p.visitor.session.unsaid ++ p.goes.idles.said) lines []
-IsOwn k s event t piece = ⊥
+IsOwn = any.IsOwn lmtp_and_imap
 
--- an entry of the record: what happened, what it led to, and what was printed
-pub record Entry : Type 0 where
-  pub event : house.Event
-  pub after : Scene
-  pub piece : Piece
+abbrev pub Entry : Type 0
+Entry = any.Entry lmtp_and_imap
 
--- From this scene the event may lead there and print just that. Memory may have been wanting.
-pub record IsEntry (k : Setup) (before : Scene) (entry : Entry) : Type 0 where
-  pub plays : Plays k false before entry.event entry.after (text_of k entry.piece)
-  pub own : IsOwn k before entry.event entry.after entry.piece
+abbrev pub IsEntry : (k : Setup) (before : Scene) (entry : Entry) → Type 0
+IsEntry = any.IsEntry lmtp_and_imap
 
--- The entries lead from the one scene to the other, one after another.
 abbrev pub IsRecord : Setup → List Entry → Scene → Scene → Type 0
-IsRecord k [] s t = t ≡ s
-IsRecord k (entry ∷ entries) s t = IsEntry k s entry × IsRecord k entries entry.after t
+IsRecord = any.IsRecord lmtp_and_imap
 
 -- ---- exactly once
 
--- the verdicts in a piece that are told at seat p
 abbrev pub told_in : ℕ → Piece → List Noted
-told_in p (Replies seat said) = if p == seat then filter_map verdict_in said else []
-told_in p (Lines session lines) = []
-told_in p Silence = []
+told_in = any.told_in lmtp_and_imap
 
--- all verdicts that were told at seat p, in the order in which they were printed
 abbrev pub verdicts_of : ℕ → List Entry → List Noted
-verdicts_of p entries = flat_map (λ entry. told_in p entry.piece) entries
+verdicts_of = any.verdicts_of lmtp_and_imap
 
--- the entries tell of each copy at most once, and as delivered only what is kept
-pub record TellsOnce (w : World) (entries : List Entry) : Type 0 where
-  -- at its own seat alone, and as that seat has heard it
-  pub at_own_seat : (p : ℕ) → All (λ noted. noted.key.seat ≡ p) (verdicts_of p entries)
-  pub as_heard : (p : ℕ) → All (Contains (w.heard p)) (verdicts_of p entries)
-  -- the copies of each seat in the order in which they were sent, none twice
-  pub in_order : (p : ℕ) → AllPairs (λ a b. Below a.key b.key) (verdicts_of p entries)
-  -- and each whose `Delivered` line was printed stands in its mailbox's history exactly once, under one UID
-  pub delivered : (p uid : ℕ) (noted : Noted) → Contains (verdicts_of p entries) noted → noted.verdict ≡ Stored uid → StandsOnce (pairs (w.box noted.mailbox).accepted) noted.key uid
+abbrev pub TellsOnce : (w : World) (entries : List Entry) → Type 0
+TellsOnce = any.TellsOnce lmtp_and_imap
 
--- no two of the verdicts that were told are about one copy
-pub record NoneTwice (entries : List Entry) : Type 0 where
-  pub at_a_seat : (p : ℕ) → AllPairs (λ a b. a.key ≢ b.key) (verdicts_of p entries)
-  pub at_two : (p q : ℕ) (a b : Noted) → p ≢ q → Contains (verdicts_of p entries) a → Contains (verdicts_of q entries) b → a.key ≢ b.key
+abbrev pub NoneTwice : (entries : List Entry) → Type 0
+NoneTwice = any.NoneTwice lmtp_and_imap
 
--- Exactly-once delivery, of the events of a new house, of what they led to, and of all that they printed.
-pub record ExactlyOnce (k : Setup) (events : List house.Event) (after : Scene) (printed : List ℕ) : Type 0 where
-  -- what was printed, event by event
-  pub entries : List Entry
-  pub happened : map (λ entry. entry.event) entries ≡ events
-  pub leads : IsRecord k entries (empty_scene k) after
-  pub whole : printed ≡ flat_map (λ entry. text_of k entry.piece) entries
-  -- the world came from the empty one by these steps, so each promise of every world holds of it
-  pub steps : List Event
-  pub came : IsWorld k.config steps after.world
-  pub world : Headline k.config after.world
-  pub told : TellsOnce after.world entries
+-- exactly-once delivery, of the events of a new house, of what they led to, and of all that they printed
+abbrev pub ExactlyOnce : (k : Setup) (events : List house.Event) (after : Scene) (printed : List ℕ) → Type 0
+ExactlyOnce = any.ExactlyOnce lmtp_and_imap
 
 -- ---- events that are tried
 

@@ -14,7 +14,8 @@ use Rattle.lmtp_machine.specs.declared.connection.What.{What}
 use Rattle.lmtp_machine.specs.Dialogue.{Answered}
 use Rattle.house_peers.specs.HouseConnection.{HouseConnection}
 use Rattle.house.specs.House.{House}
-use Rattle.house_peers.specs.Caller.{Caller, GoesOn, Proceeds, Terms, Works, answers, fades, lingers, meets, stalls, talks, waits, with_unsaid, works}
+use Rattle.house_peers.specs.Caller.{Caller, GoesOn, Proceeds, Terms, Works, answers, fades, lingers, stalls, talks, waits, with_unsaid, works}
+use Rattle.house_peers.specs.inner.Meeting.{meets}
 use Rattle.house.specs.Printing.{ConnectionGoes, Leaves, goes, stays}
 use Rattle.house.specs.Setup.{Setup, terms_of}
 use Rattle.house.specs.Scene.{Scene}

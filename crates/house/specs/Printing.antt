@@ -1,80 +1,33 @@
--- What connections and sessions say, as the house prints it: each line with a mark that tells who said it.
-use Rattle.std.specs.Prelude.{◌≡◌, ℕ, ◌+◌, Bool, true, List, [], ◌++◌, Option, Some, None}
+-- What connections that speak LMTP and sessions that speak IMAP say, as the house prints it.
+use Rattle.std.specs.Prelude.{ℕ, Bool, List, Option}
 use Rattle.delivery_token.specs.declared.log.Noted.{Noted}
-use Rattle.line_io.specs.Marks.{marked}
 use Rattle.lmtp_machine.specs.declared.connection.What.{What}
-use Rattle.lmtp_machine.specs.declared.connection.What.TheVariants.{Quit}
 use Rattle.imap_session.specs.Exchange.{Call, Answer}
-use Rattle.imap_session.specs.Store.{IdleTurns}
-use Rattle.house_peers.specs.Caller.{Caller, Proceeds, Terms, with_unsaid}
-use Rattle.house_peers.specs.Visitor.{HasAnswered, Visitor}
-use Rattle.house_peers.specs.SeatedVisitor.{GoesOn, SeatedVisitor}
+use Rattle.house_peers.specs.Caller.{Caller, Terms}
+use Rattle.house_peers.specs.Visitor.{Visitor}
+use Rattle.house_peers.specs.SeatedVisitor.{SeatedVisitor}
+use Rattle.house.specs.AnyPrinting as any
+use Rattle.house_peers.specs.Lmtp.{lmtp}
+use Rattle.house_peers.specs.Imap.{imap}
+pub use Rattle.house.specs.AnyPrinting.{of_connection, of_session, marked_connection, marked_session, Prints, prints_all, prints_none, goes, stays}
 
--- an L marks what connections say, an I what sessions say
-abbrev pub of_connection : ℕ
-of_connection = 76
+abbrev pub Leaves : (whole : Bool) (what : What) (after : Caller) (o : Option Caller) → Type 0
+Leaves = any.Leaves lmtp
 
-abbrev pub of_session : ℕ
-of_session = 73
+abbrev pub ConnectionGoes : (k : Terms) (whole : Bool) (seat : ℕ) (heard : List Noted) (b : Caller) (o : Option Caller) (printed : List ℕ) → Type 0
+ConnectionGoes = any.ConnectionGoes lmtp
 
--- each line that connection n says, and each that session n says, with its mark
-abbrev pub marked_connection : ℕ → List ℕ → List ℕ
-marked_connection n said = marked of_connection n said
+abbrev pub Speaks : {S : Type 0} (step : S → Call → Answer → S → Type 0) (whole : Bool) (seat n : ℕ) (heard : List Noted) (before : SeatedVisitor) (old new : S) (after : SeatedVisitor) (printed : List ℕ) → Type 0
+Speaks step whole seat n heard before old new after printed = any.Speaks imap step whole seat n heard before old new after printed
 
-abbrev pub marked_session : ℕ → List ℕ → List ℕ
-marked_session n said = marked of_session n said
+abbrev pub Idles : {S : Type 0} (step : S → Call → Answer → S → Type 0) (n : ℕ) (before : Visitor) (old new : S) (after : Visitor) (count : ℕ) (printed : List ℕ) → Type 0
+Idles step n before old new after count printed = any.Idles imap step n before old new after count printed
 
--- What was to be printed is printed, all of it or nothing; what is still to be printed then is nothing, or all of it.
-pub data Prints (mark n : ℕ) (unsaid still printed : List ℕ) : Type 0 where
-  prints_all : still ≡ [] → printed ≡ marked mark n unsaid → Prints mark n unsaid still printed
-  -- a growth was refused, or nothing was tried
-  prints_none : still ≡ unsaid → printed ≡ [] → Prints mark n unsaid still printed
+abbrev pub IsWhole : (v : Visitor) → Type 0
+IsWhole = any.IsWhole imap
 
--- ---- connections
-
--- Who stands at the seat after a turn: one whose dialogue ended and who has said all is gone, and what waited is dropped. One whose peer is gone
--- stays for its verdicts alone, and another that has ended stays only where memory was wanting.
-pub data Leaves (whole : Bool) (what : What) (after : Caller) (o : Option Caller) : Type 0 where
-  goes : what ≡ Quit → after.talk.unsaid ≡ [] → o ≡ None → Leaves whole what after o
-  stays : (what ≡ Quit → whole ≡ true → ⊥) → (what ≡ Quit → after.gone ≡ true → ⊥) → o ≡ Some after → Leaves whole what after o
-
--- The connection at a seat does what it can now, and what it says is printed. `whole` says that memory wasn't wanting.
-pub record ConnectionGoes (k : Terms) (whole : Bool) (seat : ℕ) (heard : List Noted) (b : Caller) (o : Option Caller) (printed : List ℕ) : Type 0 where
-  pub what : What
-  pub after : Caller
-  pub proceeds : Proceeds k whole seat heard b what after
-  pub still : List ℕ
-  pub prints : Prints of_connection (seat + 1) after.talk.unsaid still printed
-  pub all : whole ≡ true → still ≡ []
-  pub leaves : Leaves whole what (with_unsaid still after) o
-
--- ---- sessions
-
--- its session stands so
 abbrev pub with_session : Visitor → SeatedVisitor → SeatedVisitor
-with_session session v = record { session = session; serial = v.serial; gone = v.gone; to_put = v.to_put }
+with_session = any.with_session imap
 
--- so much of what it said is still to be printed
 abbrev pub still_unsaid : List ℕ → SeatedVisitor → SeatedVisitor
-still_unsaid unsaid v = with_session (record { standing = v.session.standing; waits = v.session.waits; unsaid = unsaid }) v
-
--- The session at a seat, whose client is there, went on over a store as far as it could, by what its seat has heard, and this was printed.
-pub record Speaks {S : Type 0} (step : S → Call → Answer → S → Type 0) (whole : Bool) (seat n : ℕ) (heard : List Noted) (before : SeatedVisitor) (old new : S) (after : SeatedVisitor) (printed : List ℕ) : Type 0 where
-  pub spoken : SeatedVisitor
-  pub said : List ℕ
-  pub goes : GoesOn step whole seat heard before old new spoken said
-  pub still : List ℕ
-  pub prints : Prints of_session n (before.session.unsaid ++ said) still printed
-  pub is : after ≡ still_unsaid still spoken
-
--- its session had a turn while it idles, which showed so many changes, and this was printed
-pub record Idles {S : Type 0} (step : S → Call → Answer → S → Type 0) (n : ℕ) (before : Visitor) (old new : S) (after : Visitor) (count : ℕ) (printed : List ℕ) : Type 0 where
-  pub said : List ℕ
-  pub turned : IdleTurns step before.standing old new [] said count after.standing
-  pub waits : after.waits ≡ before.waits
-  pub prints : Prints of_session n (before.unsaid ++ said) after.unsaid printed
-
--- all that was said is printed, and nothing waits that may be answered
-pub record IsWhole (v : Visitor) : Type 0 where
-  pub said : v.unsaid ≡ []
-  pub answered : HasAnswered v
+still_unsaid = any.still_unsaid imap

@@ -5,6 +5,8 @@ use Rattle.std.specs.List.{range_with_len}
 use Rattle.house.specs.declared.event.Event.{Event}
 use Rattle.house.specs.declared.event.Event.TheVariants.{Put, Take, Deliver, Answer, Hear, End, Idle}
 use Rattle.house.specs.Setup.{Setup}
+use Rattle.house.specs.AnyScene as any
+use Rattle.house.specs.LmtpAndImap.{lmtp_and_imap}
 use Rattle.house.specs.Scene.{HasNothing, Plays, Scene, is_shut_in}
 
 -- the event happens, or it has nothing to do
@@ -113,7 +115,6 @@ pub data SettlingBreaksOff (k : Setup) (held : ℕ → Bool) (s t : Scene) (prin
 
 -- ---- any events
 
--- Some events happened, one after another, and each may have been cut short for want of memory.
+-- some events happened, one after another, and each may have been cut short for want of memory
 abbrev pub Happened : Setup → List Event → Scene → Scene → List ℕ → Type 0
-Happened k [] s t printed = (t ≡ s) × (printed ≡ [])
-Happened k (e ∷ es) s t printed = (m : Scene) × (one : List ℕ) × (two : List ℕ) × Plays k false s e m one × Happened k es m t two × (printed ≡ one ++ two)
+Happened = any.Happened lmtp_and_imap

@@ -24,6 +24,7 @@ ghost use Rattle.house.specs.declared.event.Event.TheVariants as events;
 use crate::core_store::CoreStore;
 use crate::event::{Event, HouseFault};
 use crate::printing::proceed;
+use budget::Budget;
 use delivery_core::{DeliveryCore, Fault, HearFault};
 use delivery_token::{NextCopy, Noted, Refusal, Verdict};
 use envelope::Directory;
@@ -271,6 +272,7 @@ impl House {
         let limits = Limits {
             host: &self.host,
             max_message: self.max_message,
+            budget: &Budget::unlimited(),
         };
         let caller = opened(
             *self.host.allocator(),

@@ -24,6 +24,7 @@ use crate::core_store::CoreStore;
 use crate::event::HouseFault;
 use crate::house::{House, index_of, put_copy};
 use crate::printing::go_on;
+use budget::Budget;
 use delivery_core::{DeliveryCore, HearFault};
 use delivery_token::{Noted, Refusal, Verdict};
 use house_peers::SeatedSession;
@@ -244,7 +245,8 @@ impl House {
         let alloc = *self.host.allocator();
         let folders = folders_of(alloc, &self.directory, user)?;
         let max_message = Some(self.max_message as u32);
-        let admission = admission_of(alloc, self.compatible, max_message, user)?;
+        let budget = Budget::unlimited();
+        let admission = admission_of(alloc, self.compatible, max_message, user, budget)?;
         let visitor = admitted(alloc, seat, serial, folders, admission)?;
         self.entered[place] = serial + 1;
         let here = &mut self.visitors[place];

@@ -2,12 +2,14 @@
 //! refused nothing has to be undone. What can't be let go stands in `stock`.
 
 ghost use Rattle.std.specs.Prelude.{◌≡◌, ◌<◌, ◌≤◌, IfOk, [], length, map, vec_len};
+ghost use Rattle.budget.specs.Limits.{limit_of};
 ghost use Rattle.mailbox.specs.Stands.{Stands};
 ghost use Rattle.house_floor.specs.inner.Making.{AreFittings, ArePapers};
 
 use crate::bells::{Bells, hang_bells};
 use crate::floor::Guest;
 use crate::opening::Sizes;
+use budget::Budget;
 use crossbeam_utils::sync::{Parker, Unparker};
 use delivery_token::{Job, WorkerLog};
 use envelope::Directory;
@@ -51,6 +53,8 @@ pub(crate) struct Interior<B: Naming> {
     pub(crate) closings: Vec<Vec<Closing>>,
     /// How the house's history began.
     pub(crate) front: Front<B>,
+    /// What the texts of messages are charged to.
+    pub(crate) budget: Budget,
 }
 
 /// All of a house that may be let go.
@@ -134,6 +138,16 @@ fn copied(alloc: Global, closings: &[Vec<Closing>]) -> Result<Vec<Vec<Closing>>,
     Ok(copies)
 }
 
+// What the texts of messages are charged to, which may have so many bytes together.
+fn budget_of(alloc: Global, limit: Option<u64>) -> Result<Budget, AllocError>
+    ensures { IfOk result (λ b. limit_of b ≡ limit) }
+{
+    match limit {
+        Some(limit) => Budget::new(alloc, limit),
+        None => Ok(Budget::unlimited()),
+    }
+}
+
 /// All of a house that may be let go, for a house with this directory and of these sizes, whose history begins
 /// so. An error where memory is refused.
 pub(crate) fn make_fittings<B: Naming>(
@@ -166,6 +180,7 @@ pub(crate) fn make_fittings<B: Naming>(
         sessions,
         closings,
         front: front.again(),
+        budget: budget_of(alloc, sizes.memory)?,
     };
     Ok(Fittings {
         interior,

@@ -45,6 +45,7 @@ fn lay_floor<B: Naming>(
         directory,
         host: interior.host,
         max_message: sizes.max_message,
+        budget: interior.budget,
         lanes,
         closings: interior.closings,
     };

@@ -28,6 +28,8 @@ pub struct Sizes<'a> {
     pub host: &'a [u8],
     /// The most bytes of a message's data.
     pub max_message: usize,
+    /// The most bytes that the texts of messages may have together. None: there is no limit.
+    pub memory: Option<u64>,
     /// So many producers, workers and behind them sessions, up to 255.
     pub producers: u8,
     /// So many entries have room in a shard's lane, 1 at least.

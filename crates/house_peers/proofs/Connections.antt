@@ -20,7 +20,8 @@ use Rattle.lmtp_machine.proofs.Calls.{nothing_taken}
 use Rattle.lmtp_machine.proofs.Follow.{still_listens}
 use Rattle.lmtp_machine.proofs.Kept.{taken_keeps, event_keeps}
 use Rattle.house_peers.specs.HouseConnection.{HouseConnection}
-use Rattle.house_peers.specs.Caller.{Caller, IsAnswered, Terms, answers, copies_of, fades, greeted, keys_of, lingers, meets, setting_of, talks, unread, waits, with_unsaid, works}
+use Rattle.house_peers.specs.Caller.{Caller, IsAnswered, Terms, answers, copies_of, fades, greeted, keys_of, lingers, setting_of, talks, unread, waits, with_unsaid, works}
+use Rattle.house_peers.specs.inner.Meeting.{meets}
 use Rattle.house_peers.specs.Taking.{AreKnown, with_all_said, with_nobody_there}
 use Rattle.house_peers.specs.inner.Taking.{TakenBy}
 use Rattle.delivery_token.specs.Keys.{AtLeast}

@@ -1,117 +1,35 @@
--- A connection of the house at its seat, and what it does by itself with the bytes that came and the verdicts that were heard.
-use Rattle.std.specs.Prelude.{◌≡◌, ℕ, ◌<◌, Bool, true, false, List, [], ◌∷◌, ◌++◌, length}
-use Rattle.change_ring.specs.Log.{no_flags}
-use Rattle.delivery_token.specs.declared.CopyKey.{CopyKey}
-use Rattle.delivery_token.specs.declared.Job.{Job}
+-- A connection of the house at its seat that speaks LMTP.
+use Rattle.std.specs.Prelude.{ℕ, Bool, List}
 use Rattle.delivery_token.specs.declared.Verdict.{Verdict}
 use Rattle.delivery_token.specs.declared.log.Noted.{Noted}
-use Rattle.envelope.specs.Directory.{Directory}
 use Rattle.lmtp_machine.specs.declared.connection.What.{What}
-use Rattle.lmtp_machine.specs.declared.connection.What.TheVariants.{More, Submit, Quit}
-use Rattle.lmtp_machine.specs.Replies.{wire}
-use Rattle.lmtp_machine.specs.Dialogue as dialogue
-use Rattle.lmtp_machine.specs.Dialogue.{Setting, Submission, on_event}
-use Rattle.lmtp_machine.specs.Conversation.{led_by, opened}
-use Rattle.delivery_token.specs.Copies.{copies}
-use Rattle.delivery_token.specs.Heard.{AreAnswered}
-use Rattle.house_peers.specs.Talk.{Talk, WorksOff}
+use Rattle.house_peers.specs.AnyCaller as any
+use Rattle.house_peers.specs.Lmtp.{lmtp}
+pub use Rattle.house_peers.specs.AnyCaller.{Terms, setting_of, copies_of, keys_of, works, waits, answers, stalls, talks, lingers, fades}
 
--- on which terms connections are served: by this directory, with the marks that it has now, with this host's name, and up to so many bytes a message
-pub record Terms : Type 0 where
-  pub directory : Directory
-  pub host : List ℕ
-  pub max_message : ℕ
+abbrev pub Caller : Type 0
+Caller = any.Caller lmtp
 
--- a connection at a seat: its serial, its talk, and the copies of the message at hand that are still to be put. Its peer may be gone:
--- then nothing more comes, nothing more is said, and it only waits for its verdicts.
-pub record Caller : Type 0 where
-  pub serial : ℕ
-  pub gone : Bool
-  pub talk : Talk
-  pub to_put : List Job
-
-abbrev pub setting_of : Terms → ℕ → ℕ → Setting
-setting_of k seat serial = record { seat = seat; serial = serial; max_message = k.max_message }
-
--- the copies of the messages at hand, of which there is one at most, and their keys. What LMTP brings has no flags
-abbrev pub copies_of : List Submission → List Job
-copies_of [] = []
-copies_of (s ∷ ss) = copies s.keys s.mailboxes s.text no_flags ++ copies_of ss
-
-abbrev pub keys_of : List Submission → List CopyKey
-keys_of [] = []
-keys_of (s ∷ ss) = s.keys ++ keys_of ss
-
--- every copy of the message at hand was put, and for each a verdict was heard
 abbrev pub IsAnswered : List Noted → Caller → List Verdict → Type 0
-IsAnswered heard b verdicts = AreAnswered heard b.to_put (keys_of b.talk.pending) verdicts
+IsAnswered = any.IsAnswered lmtp
 
--- It takes what waits, as far as that goes: what it says stands behind what it had still to say. `whole` says that memory wasn't wanting.
-pub record Works (k : Terms) (whole : Bool) (seat : ℕ) (b : Caller) (what : What) (after : Caller) : Type 0 where
-  pub turn : dialogue.Turn
-  pub talk : Talk
-  pub works : WorksOff (setting_of k seat b.serial) k.directory b.talk turn what talk
-  pub said : talk.unsaid ≡ b.talk.unsaid ++ wire k.host turn.replies
-  pub all : whole ≡ true → what ≡ More → talk.waits ≡ []
-  pub is : after ≡ record { serial = b.serial; gone = b.gone; talk = talk; to_put = copies_of turn.submissions }
-
--- something that isn't a line happens to the dialogue, before more is worked off
-abbrev pub meets : Terms → ℕ → Caller → dialogue.Event → Caller
-meets k seat b event =
-    let setting = setting_of k seat b.serial in
-    record {
-      serial = b.serial;
-      gone = b.gone;
-      to_put = [];
-      talk = record {
-        at = led_by setting k.directory b.talk.at event;
-        waits = b.talk.waits;
-        unsaid = b.talk.unsaid ++ wire k.host (on_event setting k.directory b.talk.at.standing event).replies;
-        pending = [];
-      };
-    }
+abbrev pub Works : (k : Terms) (whole : Bool) (seat : ℕ) (b : Caller) (what : What) (after : Caller) → Type 0
+Works = any.Works lmtp
 
 abbrev pub more_waits : Caller → List ℕ → Caller
-more_waits b piece = record {
-  serial = b.serial;
-  gone = b.gone;
-  to_put = b.to_put;
-  talk = record { at = b.talk.at; waits = b.talk.waits ++ piece; unsaid = b.talk.unsaid; pending = b.talk.pending };
-}
+more_waits = any.more_waits lmtp
 
--- a new connection at a seat, which is greeted
 abbrev pub greeted : Terms → ℕ → ℕ → Caller
-greeted k seat serial = meets k seat (record { serial = serial; gone = false; to_put = []; talk = record { at = opened; waits = []; unsaid = []; pending = [] } }) dialogue.Opened
+greeted = any.greeted lmtp
 
--- so much of what it said is still to be printed
 abbrev pub with_unsaid : List ℕ → Caller → Caller
-with_unsaid unsaid b = record {
-  serial = b.serial;
-  gone = b.gone;
-  to_put = b.to_put;
-  talk = record { at = b.talk.at; waits = b.talk.waits; unsaid = unsaid; pending = b.talk.pending };
-}
+with_unsaid = any.with_unsaid lmtp
 
--- It goes on as far as it can, by what its seat has heard: where verdicts are awaited it waits for the last one, and says them all; then it
--- takes what waits.
-pub data GoesOn (k : Terms) (whole : Bool) (seat : ℕ) (heard : List Noted) (b : Caller) (what : What) (after : Caller) : Type 0 where
-  works : b.talk.pending ≡ [] → Works k whole seat b what after → GoesOn k whole seat heard b what after
-  waits : 0 < length b.talk.pending → ((vs : List Verdict) → IsAnswered heard b vs → ⊥) → what ≡ Submit → after ≡ b → GoesOn k whole seat heard b what after
-  answers : (vs : List Verdict) → 0 < length b.talk.pending → IsAnswered heard b vs → Works k whole seat (meets k seat b (dialogue.Answered vs)) what after → GoesOn k whole seat heard b what after
-  -- memory was refused before anything was said
-  stalls : whole ≡ false → what ≡ More → after ≡ b → GoesOn k whole seat heard b what after
+abbrev pub GoesOn : (k : Terms) (whole : Bool) (seat : ℕ) (heard : List Noted) (b : Caller) (what : What) (after : Caller) → Type 0
+GoesOn = any.GoesOn lmtp
 
--- It does what it can now: it goes on; or, where its peer is gone, it has nothing to say, and is done as soon as every copy was put and each verdict is heard.
-pub data Proceeds (k : Terms) (whole : Bool) (seat : ℕ) (heard : List Noted) (b : Caller) (what : What) (after : Caller) : Type 0 where
-  talks : b.gone ≡ false → GoesOn k whole seat heard b what after → Proceeds k whole seat heard b what after
-  lingers : b.gone ≡ true → b.talk.unsaid ≡ [] → ((vs : List Verdict) → IsAnswered heard b vs → ⊥) → what ≡ Submit → after ≡ b → Proceeds k whole seat heard b what after
-  fades : (vs : List Verdict) → b.gone ≡ true → b.talk.unsaid ≡ [] → IsAnswered heard b vs → what ≡ Quit → after ≡ b → Proceeds k whole seat heard b what after
+abbrev pub Proceeds : (k : Terms) (whole : Bool) (seat : ℕ) (heard : List Noted) (b : Caller) (what : What) (after : Caller) → Type 0
+Proceeds = any.Proceeds lmtp
 
--- the peer is gone: what waited and what was still to be printed is dropped
 abbrev pub unread : Caller → Caller
-unread b = record {
-  serial = b.serial;
-  gone = true;
-  to_put = b.to_put;
-  talk = record { at = b.talk.at; waits = []; unsaid = []; pending = b.talk.pending };
-}
+unread = any.unread lmtp

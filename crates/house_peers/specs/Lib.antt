@@ -1,3 +1,9 @@
+pub mod Speech
+pub mod Guest
+pub mod AnyCaller
+pub mod AnyVisitor
+pub mod Lmtp
+pub mod Imap
 pub mod Talk
 pub mod HouseConnection
 pub mod Caller

@@ -1,81 +1,49 @@
--- A session at its seat, and what it does by itself with the bytes that came and the verdict that was heard: the messages that its client appends go through a lane as copies.
-use Rattle.std.specs.Prelude.{◌≡◌, ◌⊎◌, ℕ, Bool, true, false, List, [], ◌∷◌, ◌++◌, Option, Some, None}
-use Rattle.std.specs.Option.{is_some}
+-- A session at its seat that speaks IMAP.
+use Rattle.std.specs.Prelude.{◌≡◌, ℕ, Bool, true, false, List, [], Option}
 use Rattle.delivery_token.specs.declared.CopyKey.{CopyKey}
 use Rattle.delivery_token.specs.declared.Job.{Job}
 use Rattle.delivery_token.specs.declared.Verdict.{Verdict}
 use Rattle.delivery_token.specs.declared.log.Noted.{Noted}
-use Rattle.delivery_token.specs.Copies.{copies}
-use Rattle.delivery_token.specs.Heard.{AreAnswered}
-use Rattle.imap_session.specs.declared.standing.After.{After}
 use Rattle.imap_session.specs.Exchange.{Admission, Call, Answer, Folder, Sent, Standing}
-use Rattle.imap_session.specs.Store.{AnswersVerdict}
-use Rattle.house_peers.specs.Visitor.{Answers, Visitor, greeted}
+use Rattle.house_peers.specs.AnyVisitor as any
+use Rattle.house_peers.specs.Imap.{imap}
+pub use Rattle.house_peers.specs.AnyVisitor.{works, answers, waits, rests, stalls}
 
--- The session; the serial of its keys; whether its client is gone, in which case nothing more comes, nothing more is said, and it only waits for its verdict;
--- and the copy of the message that it submitted, where that is still to be put.
-pub record SeatedVisitor : Type 0 where
-  pub session : Visitor
-  pub serial : ℕ
-  pub gone : Bool
-  pub to_put : List Job
-
--- ---- the message that was submitted: one copy, for one mailbox
+abbrev pub SeatedVisitor : Type 0
+SeatedVisitor = any.SeatedVisitor imap
 
 abbrev pub keys_of : (seat serial : ℕ) → Option Sent → List CopyKey
-keys_of seat serial None = []
-keys_of seat serial (Some sent) = record { seat = seat; serial = serial; message = sent.append.message; recipient = 0 } ∷ []
+keys_of = any.keys_of imap
 
 abbrev pub copies_of : (seat serial : ℕ) → Option Sent → List Job
-copies_of seat serial None = []
-copies_of seat serial (Some sent) = copies (keys_of seat serial (Some sent)) (sent.append.mailbox ∷ []) sent.append.text sent.append.flags
+copies_of = any.copies_of imap
 
--- it awaits the verdict on a message
 abbrev pub sent_by : SeatedVisitor → Option Sent
-sent_by v = v.session.standing.mailing.sent
+sent_by = any.sent_by imap
 
--- its copy was put, and this verdict on it was heard
 abbrev pub IsAnswered : (seat : ℕ) → List Noted → SeatedVisitor → Verdict → Type 0
-IsAnswered seat heard v verdict = AreAnswered heard v.to_put (keys_of seat v.serial (sent_by v)) (verdict ∷ [])
+IsAnswered = any.IsAnswered imap
 
--- it awaits the verdict on a message, and its seat hasn't heard that
-pub record Awaits (seat : ℕ) (heard : List Noted) (v : SeatedVisitor) : Type 0 where
-  pub submitted : is_some (sent_by v) ≡ true
-  pub unheard : (verdict : Verdict) → IsAnswered seat heard v verdict → ⊥
+abbrev pub Awaits : (seat : ℕ) (heard : List Noted) (v : SeatedVisitor) → Type 0
+Awaits = any.Awaits imap
 
--- it awaits none, or its seat has heard that
 abbrev pub IsSettled : (seat : ℕ) → List Noted → SeatedVisitor → Type 0
-IsSettled seat heard v = (sent_by v ≡ None) ⊎ ((verdict : Verdict) × IsAnswered seat heard v verdict)
-
--- ---- what it does
+IsSettled = any.IsSettled imap
 
 abbrev pub seated_greeted : (serial : ℕ) → Admission → List Folder → SeatedVisitor
-seated_greeted serial admission folders = record { session = greeted admission folders; serial = serial; gone = false; to_put = [] }
+seated_greeted serial admission folders = any.seated_greeted imap serial (admission, folders)
 
--- It answers what waits over a store, as far as that goes, and says this. Where that ends with a message, the copy of it is to be put.
-pub record Works {S : Type 0} (step : S → Call → Answer → S → Type 0) (seat : ℕ) (v : SeatedVisitor) (old new : S) (after : SeatedVisitor) (said : List ℕ) : Type 0 where
-  pub answers : Answers step v.session old new after.session said
-  pub is : after ≡ record { session = after.session; serial = v.serial; gone = v.gone; to_put = copies_of seat v.serial (sent_by after) }
+abbrev pub Works : {S : Type 0} (step : S → Call → Answer → S → Type 0) (seat : ℕ) (v : SeatedVisitor) (old new : S) (after : SeatedVisitor) (said : List ℕ) → Type 0
+Works step seat v old new after said = any.Works imap step seat v old new after said
 
--- the verdict was answered, and the session stands so
 abbrev pub told : SeatedVisitor → Standing → SeatedVisitor
-told v next = record { session = record { standing = next; waits = v.session.waits; unsaid = v.session.unsaid }; serial = v.serial; gone = v.gone; to_put = [] }
+told = any.told imap
 
--- It goes on over a store as far as it can, by what its seat has heard: where a verdict is awaited it waits for that, and answers it; then it answers what waits.
--- Where its session has ended nothing is answered.
-pub data GoesOn {S : Type 0} (step : S → Call → Answer → S → Type 0) (whole : Bool) (seat : ℕ) (heard : List Noted) (v : SeatedVisitor) (old new : S) (after : SeatedVisitor) (said : List ℕ) : Type 0 where
-  works : sent_by v ≡ None → Works step seat v old new after said → GoesOn step whole seat heard v old new after said
-  answers : (verdict : Verdict) (mid : S) (first second : List ℕ) (how : After) (next : Standing) → v.session.standing.ended ≡ false → IsAnswered seat heard v verdict → AnswersVerdict step v.session.standing verdict old mid [] first how next
-      → Works step seat (told v next) mid new after second → said ≡ first ++ second → GoesOn step whole seat heard v old new after said
-  waits : Awaits seat heard v → new ≡ old → after ≡ v → said ≡ [] → GoesOn step whole seat heard v old new after said
-  -- its session has ended
-  rests : v.session.standing.ended ≡ true → new ≡ old → after ≡ v → said ≡ [] → GoesOn step whole seat heard v old new after said
-  -- memory was refused before anything was said
-  stalls : whole ≡ false → new ≡ old → after ≡ v → said ≡ [] → GoesOn step whole seat heard v old new after said
+abbrev pub GoesOn : {S : Type 0} (step : S → Call → Answer → S → Type 0) (whole : Bool) (seat : ℕ) (heard : List Noted) (v : SeatedVisitor) (old new : S) (after : SeatedVisitor) (said : List ℕ) → Type 0
+GoesOn step whole seat heard v old new after said = any.GoesOn imap step whole seat heard v old new after said
 
--- its client is gone: what waited and what was still to be printed is dropped
 abbrev pub unread : SeatedVisitor → SeatedVisitor
-unread v = record { session = record { standing = v.session.standing; waits = []; unsaid = [] }; serial = v.serial; gone = true; to_put = v.to_put }
+unread = any.unread imap
 
 -- It does what it can now. Where its client is gone that is nothing: it is done as soon as no verdict is awaited, or the one that is was heard.
 pub data Proceeds {S : Type 0} (step : S → Call → Answer → S → Type 0) (whole : Bool) (seat : ℕ) (heard : List Noted) (v : SeatedVisitor) (old new : S) (after : SeatedVisitor) (said : List ℕ) : Type 0 where

@@ -1,31 +1,23 @@
--- A session that visits a house: what came for it, and what it answers over its mailboxes.
-use Rattle.std.specs.Prelude.{◌≡◌, ◌<◌, ℕ, List, [], ◌++◌, flat_map, true}
-use Rattle.line_io.specs.Wire.{IsUncut}
-use Rattle.imap_session.specs.declared.standing.After.{After}
-use Rattle.imap_session.specs.Exchange.{Admission, Call, Answer, Folder, Standing, begun_with, may_send}
-use Rattle.imap_session.specs.Commands.{due_of, greeting}
-use Rattle.imap_session.specs.Dialogue.{Converses, Sends, may_follow, spelled}
+-- A session that visits a house and speaks IMAP: what came for it, and what it answers over its mailboxes.
+use Rattle.std.specs.Prelude.{ℕ, List}
+use Rattle.imap_session.specs.Exchange.{Admission, Call, Answer, Folder}
+use Rattle.house_peers.specs.AnyVisitor as any
+use Rattle.house_peers.specs.Imap.{AnswersBytes, imap}
 
--- where its session stands; the bytes that came and aren't answered yet; and what was said and isn't printed yet
-pub record Visitor : Type 0 where
-  pub standing : Standing
-  pub waits : List ℕ
-  pub unsaid : List ℕ
+abbrev pub Visitor : Type 0
+Visitor = any.Visitor imap
 
--- One that was just let in, with these mailboxes, and which comes in so. Its greeting is still to be printed.
+-- one that was just let in, with these mailboxes, and comes in so
 abbrev pub greeted : Admission → List Folder → Visitor
-greeted admission folders = record { standing = begun_with admission folders; waits = []; unsaid = greeting admission.profile }
+greeted admission folders = any.greeted imap (admission, folders)
 
 abbrev pub more_waits : Visitor → List ℕ → Visitor
-more_waits v piece = record { standing = v.standing; waits = v.waits ++ piece; unsaid = v.unsaid }
+more_waits = any.session_more_waits imap
 
 -- some of what waited was answered over a store, in its order, and this was said
-pub record Answers {S : Type 0} (step : S → Call → Answer → S → Type 0) (before : Visitor) (old new : S) (after : Visitor) (said : List ℕ) : Type 0 where
-  pub sent : List Sends
-  pub how : After
-  pub waited : before.waits ≡ flat_map spelled sent ++ after.waits
-  pub converses : Converses step before.standing sent old new said how after.standing
+abbrev pub Answers : {S : Type 0} (step : S → Call → Answer → S → Type 0) (before : Visitor) (old new : S) (after : Visitor) (said : List ℕ) → Type 0
+Answers step before old new after said = AnswersBytes step before.standing before.waits old new after.standing after.waits said
 
--- Nothing waits that may be answered: no line, and no byte where bytes of a literal are due. A session that has ended, or awaits a verdict, answers nothing.
+-- nothing waits that may be answered
 abbrev pub HasAnswered : Visitor → Type 0
-HasAnswered v = may_follow (may_send v.standing) ≡ true → IsUncut v.waits × (0 < due_of v.standing.mailing.begun → v.waits ≡ [])
+HasAnswered v = imap.HasAnswered v.standing v.waits

@@ -1,4 +1,5 @@
 pub mod ConnectionStands
 pub mod ConnectionSteps
 pub mod Few
+pub mod Meeting
 pub mod Taking

@@ -221,6 +221,8 @@ impl Session {
     }
 
     // Takes the line of an APPEND.
+    // Its frame stands apart: the stack of a thread that waits for its client is as deep as what it once answered.
+    #[inline(never)]
     pub(crate) fn begin_append<O: Outlet>(
         &mut self,
         alloc: Global,
@@ -312,7 +314,7 @@ impl Session {
         match judge(text, mailbox, size, most, message, ends) {
             Err(text) => Err((tag, text)),
             Ok((mailbox, text)) => {
-                let Ok(text) = Text::with_date(text, date) else {
+                let Ok(text) = Text::charged(&self.mailing.budget, text, date) else {
                     return Err((tag, ResponseText::OutOfMemory));
                 };
                 self.mailing.number = message + 1;

@@ -70,6 +70,8 @@ impl Session {
     }
 
     // Answers a line that is no command as it stands.
+    // Its frame stands apart: the stack of a thread that waits for its client is as deep as what it once answered.
+    #[inline(never)]
     fn answer_fault<O: Outlet>(
         &mut self,
         alloc: Global,

@@ -349,6 +349,8 @@ impl Session {
     }
 
     // Takes the line of a COPY or MOVE.
+    // Its frame stands apart: the stack of a thread that waits for its client is as deep as what it once answered.
+    #[inline(never)]
     pub(crate) fn begin_copy<S: Store, O: Outlet>(
         &mut self,
         alloc: Global,

@@ -156,6 +156,8 @@ impl Session {
     }
 
     // Asks for the response to AUTHENTICATE, by an empty challenge.
+    // Its frame stands apart: the stack of a thread that waits for its client is as deep as what it once answered.
+    #[inline(never)]
     pub(crate) fn await_response<O: Outlet>(
         &mut self,
         alloc: Global,

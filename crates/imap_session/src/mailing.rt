@@ -18,6 +18,7 @@ use crate::tag::Tag;
 use crate::texts::ResponseText;
 use crate::turn::FIRST;
 use crate::unfinished::MOST_LINE;
+use budget::Budget;
 use change_ring::{Flags, NO_FLAGS};
 use mail_date::Stamp;
 use std::alloc::{AllocError, Global};
@@ -127,6 +128,8 @@ pub(crate) struct Mailing {
     pub(crate) number: u32,
     pub(crate) begun: Option<PendingLiteral>,
     pub(crate) sent: Option<Sent>,
+    // What their texts are charged to.
+    pub(crate) budget: Budget,
 }
 
 impl Model for Mailing {

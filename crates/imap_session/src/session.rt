@@ -69,6 +69,7 @@ impl Session {
             max_message,
             profile,
             login,
+            budget,
         } = admission;
         Session {
             folders,
@@ -82,6 +83,7 @@ impl Session {
                 number: 0,
                 begun: None,
                 sent: None,
+                budget,
             },
         }
     }
@@ -443,6 +445,8 @@ impl Session {
     }
 
     // Answers the rest of a line behind a literal.
+    // Its frame stands apart: the stack of a thread that waits for its client is as deep as what it once answered.
+    #[inline(never)]
     fn rest_line<S: Store, O: Outlet>(
         &mut self,
         alloc: Global,

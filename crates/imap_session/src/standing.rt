@@ -2,6 +2,7 @@
 //! What it answers is told in specs/Commands.antt.
 
 use crate::user::UserName;
+use budget::Budget;
 use change_ring::Flags;
 use delivery_token::Text;
 use std::alloc::AllocError;
@@ -53,6 +54,8 @@ pub struct Admission {
     pub profile: Profile,
     /// As whom the client is to log in before all else. None: it is known already.
     pub login: Option<UserName>,
+    /// What the texts of the messages are charged to that its client appends.
+    pub budget: Budget,
 }
 
 impl Model for Admission {

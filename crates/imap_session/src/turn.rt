@@ -150,6 +150,8 @@ pub(crate) fn put_first_line<O: Outlet>(
 }
 
 // Carries out a command other than IDLE, APPEND, COPY and MOVE but for its first line and its last, and answers what that says.
+// Its frame stands apart: the stack of a thread that waits for its client is as deep as what it once answered.
+#[inline(never)]
 pub(crate) fn carry_out<S: Store, O: Outlet>(
     alloc: Global,
     profile: Profile,

@@ -6,6 +6,7 @@ ghost use Rattle.imap_session.specs.Folders.{folders_from, folders_of, has_user,
 
 use crate::standing::{Admission, Folder, Profile};
 use crate::user::UserName;
+use budget::Budget;
 use envelope::Directory;
 use std::alloc::{AllocError, Global};
 
@@ -60,6 +61,7 @@ pub fn admission_of(
     compatible: bool,
     max_message: Option<u32>,
     user: &[u8],
+    budget: Budget,
 ) -> Result<Admission, AllocError>
     ensures is { IfOk result (λ admission.
         admission ≡ admission_of compatible max_message user.now) }
@@ -70,12 +72,14 @@ pub fn admission_of(
             max_message,
             profile: Profile::Standard,
             login: None,
+            budget,
         });
     }
     Ok(Admission {
         max_message,
         profile: Profile::Compatible,
         login: Some(UserName::new(alloc, user)?),
+        budget,
     })
 }
 

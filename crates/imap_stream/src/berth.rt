@@ -21,6 +21,12 @@ use workers_sync::{Courier, Gate, Sleeper};
 /// several are shown by one look and one send.
 const REST: u64 = 200;
 
+/// So many bytes of a client that sends much are read at once.
+const MUCH: usize = 4_096;
+
+/// So many of one that idles, or sends short commands: each berth has a buffer of that size, also while its client is silent.
+const FEW: usize = 256;
+
 /// What ends the read of the thread that serves a berth's client.
 pub trait Hush {
     /// The client at hand is heard no more: a read that waits for it finds the end. What was said to it
@@ -45,6 +51,20 @@ fn ends_by_a_look<B: Naming, R: Wait, G: Gate, W: Sink + Drop>(
     visit.is_over()
 }
 
+// Fits the buffer to a client of which a read brought so many bytes, and which may send this next. Where memory is refused it stays as it is. Between
+// the line that announces a literal and the literal it stays too, so that who appends one message after another isn't read in small pieces.
+fn fit(count: usize, after: After, buffer: &mut Vec<u8>) {
+    if count == buffer.len() && count < MUCH {
+        let _ = buffer.resize(MUCH, 0);
+        return;
+    }
+    let is_due = matches!(after, After::Literal(_));
+    if buffer.len() > FEW && count <= FEW && !is_due {
+        buffer.truncate(FEW);
+        let _ = buffer.shrink_to_fit();
+    }
+}
+
 /// Where one client at a time is served. Its visit stands under a lock, which is held while it is heard
 /// and while what it said is sent, and not while its bytes are awaited.
 #[derive(Drop)]
@@ -67,38 +87,45 @@ impl<'a, B: Naming, R: Wait, G: Gate, W: Sink + Drop> Berth<'a, B, R, G, W> {
         }
     }
 
-    /// Reads what a client sends and answers it, until it goes or reading fails, its session ends, its
+    /// The berth has this client from now on: its watch may look at it.
+    ///
+    /// Errors: the visit is given back where the berth has a client, and nothing was done.
+    pub fn admit(&self, rt: &R, visit: Visit<'a, B, R, G, W>) -> Result<(), Visit<'a, B, R, G, W>>
+        ensures { IfErr result (λ back. back ≡ visit.entry) }
+    {
+        let mut held = self.visit.lock(rt);
+        if held.is_some() {
+            return Err(visit);
+        }
+        *held = Some(visit);
+        Ok(())
+    }
+
+    /// Reads what the berth's client sends and answers it, until it goes or reading fails, its session ends, its
     /// output fails, memory is refused, no verdict comes on a message that it submitted, or `stop` is
     /// set: then it is dismissed. The messages that it submits are given to `courier`, whose verdicts are
     /// awaited while the visit is held. At the end its session leaves its mailbox, and the berth has no
     /// client. `stop` is looked at before each read and behind it, so who sets it has to end a read that
-    /// waits, as by shutting the stream down. `buffer` is what a read may fill, and is not empty.
+    /// waits, as by shutting the stream down.
     ///
-    /// Errors: the visit is given back where the berth has a client, and nothing was done.
+    /// `buffer` is what a read may fill, and is not empty. It grows to 4,096 bytes where a read filled it, unless memory is refused, and
+    /// is 256 again once its client idles, or sent less than that and no literal is due.
     pub fn attend<I: Read, C: Courier>(
         &self,
         rt: &R,
         alloc: Global,
-        visit: Visit<'a, B, R, G, W>,
         courier: &mut C,
         input: &mut I,
-        buffer: &mut [u8],
+        buffer: &mut Vec<u8>,
         stop: &AtomicBool,
-    ) -> Result<(), Visit<'a, B, R, G, W>>
-        // The courier may carry a message.
+    )
+        // The courier may carry a message; it may after, and is what it may have become by carrying.
         requires ready { C.ready courier.old }
-
-        // An error gives the visit back as it was, and the courier carried nothing.
-        ensures back { IfErr result (λ back. (back ≡ visit.entry) × (courier.new ≡ courier.old)) }
-
-        // The courier may carry a message still, and is what it may have become by carrying.
         ensures ready { C.ready courier.new }
         ensures kept { (first : C) → C.kept first courier.old → C.kept first courier.new }
     {
-        self.admit(rt, visit)?;
         self.serve(rt, alloc, courier, input, buffer, stop);
         self.vacate(rt);
-        Ok(())
     }
 
     /// Sleeps until the bell is rung, and shows the client what there is, where there is one and its
@@ -121,18 +148,6 @@ impl<'a, B: Naming, R: Wait, G: Gate, W: Sink + Drop> Berth<'a, B, R, G, W> {
         unreachable!()
     }
 
-    // Gives the visit back where the berth has a client.
-    fn admit(&self, rt: &R, visit: Visit<'a, B, R, G, W>) -> Result<(), Visit<'a, B, R, G, W>>
-        ensures { IfErr result (λ back. back ≡ visit.entry) }
-    {
-        let mut held = self.visit.lock(rt);
-        if held.is_some() {
-            return Err(visit);
-        }
-        *held = Some(visit);
-        Ok(())
-    }
-
     // Reads and hears the client until it is stopped, its line is at its end, or it may send no more.
     fn serve<I: Read, C: Courier>(
         &self,
@@ -140,7 +155,7 @@ impl<'a, B: Naming, R: Wait, G: Gate, W: Sink + Drop> Berth<'a, B, R, G, W> {
         alloc: Global,
         courier: &mut C,
         input: &mut I,
-        buffer: &mut [u8],
+        buffer: &mut Vec<u8>,
         stop: &AtomicBool,
     )
         requires ready { C.ready courier.old }
@@ -164,20 +179,24 @@ impl<'a, B: Naming, R: Wait, G: Gate, W: Sink + Drop> Berth<'a, B, R, G, W> {
         alloc: Global,
         courier: &mut C,
         input: &mut I,
-        buffer: &mut [u8],
+        buffer: &mut Vec<u8>,
         stop: &AtomicBool,
     ) -> bool
         requires ready { C.ready courier.old }
         ensures ready { C.ready courier.new }
         ensures kept { (first : C) → C.kept first courier.old → C.kept first courier.new }
     {
-        let read = input.read(buffer);
+        let read = input.read(buffer.as_mut_slice());
         if self.is_stopped(rt, stop) {
             return false;
         }
         match read {
             Ok(0) => false,
-            Ok(count) => self.hear(rt, alloc, courier, &buffer[..count]),
+            Ok(count) => {
+                let after = self.hear(rt, alloc, courier, &buffer[..count]);
+                fit(count, after, buffer);
+                !matches!(after, After::Bye | After::Submit)
+            }
             Err(fault) => fault.kind() == ErrorKind::Interrupted,
         }
     }
@@ -195,19 +214,19 @@ impl<'a, B: Naming, R: Wait, G: Gate, W: Sink + Drop> Berth<'a, B, R, G, W> {
         true
     }
 
-    // Hears the client: whether it may send more. One that stopped short may not; why, its courier keeps, where it is torn.
-    fn hear<C: Courier>(&self, rt: &R, alloc: Global, courier: &mut C, piece: &[u8]) -> bool
+    // Hears the client, and answers what it may send next. One that stopped short may send nothing; why, its courier keeps, where it is torn.
+    fn hear<C: Courier>(&self, rt: &R, alloc: Global, courier: &mut C, piece: &[u8]) -> After
         requires ready { C.ready courier.old }
         ensures ready { C.ready courier.new }
         ensures kept { (first : C) → C.kept first courier.old → C.kept first courier.new }
     {
         let mut held = self.visit.lock(rt);
         let Some(visit) = &mut *held else {
-            return false;
+            return After::Bye;
         };
         match visit.hear(alloc, courier, piece, &*self.idles) {
-            Ok(after) => !matches!(after, After::Bye | After::Submit),
-            Err(_) => false,
+            Ok(after) => after,
+            Err(_) => After::Bye,
         }
     }
 
@@ -227,7 +246,8 @@ impl<'a, B: Naming, R: Wait, G: Gate, W: Sink + Drop> Berth<'a, B, R, G, W> {
         }
     }
 
-    // The client's session leaves its mailbox, and the berth has no client.
+    // The client's session leaves its mailbox, and the berth has no client. Its frame, which has room for the visit, isn't that of who serves.
+    #[inline(never)]
     fn vacate(&self, rt: &R) {
         let mut held = self.visit.lock(rt);
         self.idles.store(false, Ordering::SeqCst);

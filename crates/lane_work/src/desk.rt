@@ -2,6 +2,7 @@
 //! beside this one.
 
 use crate::dispatch::Dispatch;
+use budget::Budget;
 use envelope::Directory;
 use house_history::{Answer, Letter, Naming};
 use shard_queue::{Ended, ProducerPermit, ReceiverPermit, ShardQueue};
@@ -14,6 +15,8 @@ pub struct Office<B: Naming> {
     pub host: Vec<u8>,
     /// The most bytes of a message's data.
     pub max_message: usize,
+    /// What the texts of messages are charged to.
+    pub budget: Budget,
     /// The lane of each shard, as many as the directory has shards.
     pub lanes: Vec<ShardQueue<Letter<B>>>,
     /// For each worker, by its number, the shards that it closes. A worker that isn't there closes none.

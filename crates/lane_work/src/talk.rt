@@ -55,6 +55,7 @@ fn open<B: Naming>(
     let limits = Limits {
         host: office.host.as_slice(),
         max_message: office.max_message,
+        budget: &office.budget,
     };
     let mut machine = LmtpMachine::new(alloc, seat, serial, limits)?;
     machine.greet(out)?;

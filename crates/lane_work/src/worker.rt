@@ -334,6 +334,7 @@ fn converse<B: Naming, R: Wait, G: Gate, S: Summons>(
     let limits = Limits {
         host: context.office.host.as_slice(),
         max_message: context.office.max_message,
+        budget: &context.office.budget,
     };
     let mut machine = LmtpMachine::new(context.alloc, producer.desk.number, serial, limits)?;
     let mut out = Vec::new(context.alloc);

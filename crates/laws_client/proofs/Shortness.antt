@@ -16,7 +16,8 @@ use Rattle.lmtp_machine.specs.declared.connection.What.{What}
 use Rattle.lmtp_machine.specs.Dialogue as dialogue
 use Rattle.lmtp_machine.specs.Dialogue.{Submission}
 use Rattle.house_peers.specs.Caller as connection
-use Rattle.house_peers.specs.Caller.{Caller, Proceeds, Terms, Works, copies_of, greeted, meets, more_waits, setting_of, with_unsaid}
+use Rattle.house_peers.specs.Caller.{Caller, Proceeds, Terms, Works, copies_of, greeted, more_waits, setting_of, with_unsaid}
+use Rattle.house_peers.specs.inner.Meeting.{meets}
 use Rattle.imap_session.specs.declared.standing.After.{After}
 use Rattle.imap_session.specs.Exchange as calls
 use Rattle.imap_session.specs.Exchange.{PendingLiteral, Sent, Standing, is_idling}

@@ -28,7 +28,8 @@ use Rattle.lmtp_machine.specs.Dialogue as dialogue
 use Rattle.lmtp_machine.specs.Dialogue.{Phase, Start, Ready, Waiting, Ended, Answered, Setting, Submission, Turn, keys_from, on_verdicts, verdict_reply}
 use Rattle.lmtp_machine.specs.Kept.{IsMessage}
 use Rattle.house_peers.specs.ConnectionStands.{IsAwaited}
-use Rattle.house_peers.specs.Caller.{GoesOn, Caller, IsAnswered, Proceeds, Terms, Works, answers, copies_of, fades, greeted, keys_of, lingers, meets, more_waits, setting_of, stalls, talks, unread, waits, works}
+use Rattle.house_peers.specs.Caller.{GoesOn, Caller, IsAnswered, Proceeds, Terms, Works, answers, copies_of, fades, greeted, keys_of, lingers, more_waits, setting_of, stalls, talks, unread, waits, works}
+use Rattle.house_peers.specs.inner.Meeting.{meets}
 use Rattle.laws_relay.specs.Connections.{HasCome}
 use Rattle.laws_relay.specs.Numbers.{no_submission}
 use Rattle.laws_relay.proofs.Connected.{begins, takes_bytes, tells_verdicts}

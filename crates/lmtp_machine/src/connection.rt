@@ -1,6 +1,7 @@
 //! What passes between a connection and its server: how far a call of `feed` came, and a message that was submitted. Plain data, with
 //! no code.
 
+use budget::Budget;
 use delivery_token::{CopyKey, Text};
 
 /// What a call of `feed` came to.
@@ -35,10 +36,12 @@ pub struct Submission {
 }
 
 /// What a connection has to know of its server.
-#[derive(Clone, Copy, Debug, PartialEq, Eq)]
+#[derive(Clone, Copy)]
 pub struct Limits<'a> {
     /// The server's name, of at most 255 bytes.
     pub host: &'a [u8],
     /// The most bytes of a message's unstuffed data.
     pub max_message: usize,
+    /// What the texts of messages are charged to.
+    pub budget: &'a Budget,
 }

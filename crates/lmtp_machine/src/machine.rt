@@ -20,6 +20,7 @@ use crate::commands::{Commands, Stage};
 use crate::connection::{Fed, Limits, Submission, What};
 use crate::message::{begin_data, keys_of, say_to_each, say_verdicts};
 use crate::reply::{ANSWER_ROOM, BRIEF_ROOM, NAMED_ROOM, Reply, say, say_any};
+use budget::Budget;
 use delivery_token::{Text, Verdict};
 use dot_stuffing::{Outcome, Progress, Unstuffer};
 use envelope::{Directory, MOST_RECIPIENTS};
@@ -43,6 +44,8 @@ pub struct LmtpMachine {
     cutter: LineCutter,
     unstuffer: Unstuffer,
     submission: Option<Submission>,
+    // What the texts of its messages are charged to.
+    budget: Budget,
 }
 
 impl Model for LmtpMachine {
@@ -112,6 +115,7 @@ impl LmtpMachine {
             cutter: LineCutter::new(alloc, MAX_LINE)?,
             unstuffer: Unstuffer::new(alloc, limits.max_message),
             submission: None,
+            budget: limits.budget.again()?,
         })
     }
 
@@ -389,7 +393,7 @@ impl LmtpMachine {
 
     /// Makes the message of this text for the recipients.
     ///
-    /// Errors: `AllocError` where memory for it was refused.
+    /// Errors: `AllocError` where memory for it was refused, or the budget of texts has no room for it.
     fn build(&self, text: Vec<u8>) -> Result<Submission, AllocError>
         ensures few { length self.now.commands.recipients ≤ MOST_RECIPIENTS }
         ensures made { IfOk result (λ s. submission_of s ≡ record {
@@ -404,7 +408,7 @@ impl LmtpMachine {
         Ok(Submission {
             keys: keys_of(self.alloc, self.seat, self.serial, message, recipients)?,
             mailboxes: Vec::from_slice(self.alloc, recipients)?,
-            text: Text::new(text)?,
+            text: Text::charged(&self.budget, text, None)?,
         })
     }
 

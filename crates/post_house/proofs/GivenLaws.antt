@@ -21,7 +21,7 @@ use Rattle.serving.specs.declared.reporting.Reporting.{Reporting}
 use Rattle.serving.specs.declared.server.Uidvalidity.{Uidvalidity}
 use Rattle.serving.specs.declared.server.Uidvalidity.TheVariants.{Given, Default}
 use Rattle.std.proofs.lemmas.List.{length-map}
-use Rattle.post_house.specs.Asking.{AreHouseSettings, AsksForScript, AsksForServer, is_flag, is_given, mailboxes_given, number_given, number_or, port_of, reporting_given, server_shards, text_given, uidvalidity_given}
+use Rattle.post_house.specs.Asking.{AreHouseSettings, AsksForScript, AsksForServer, GivesMemory, is_flag, is_given, mailboxes_given, number_given, number_or, port_of, reporting_given, server_shards, text_given, uidvalidity_given}
 
 -- ---- one option
 
@@ -149,6 +149,7 @@ module _ (rows : List Row) (c0 c1 c2 c3 c4 : Config) (is : IsDefault c0 (mailbox
       imap_port = ap (λ (c : Config). c.imap_port) rest4 ∙ ap (λ (c : Config). c.imap_port) rest3 ∙ ap (λ (c : Config). c.imap_port) rest2 ∙ ap (λ (c : Config). c.imap_port) rest1 ∙ is.imap_port;
       workers = ap (λ (c : Config). c.workers) rest4 ∙ ap (λ (c : Config). c.workers) rest3 ∙ ap (λ (c : Config). c.workers) rest2 ∙ ap (λ (c : Config). c.workers) rest1 ∙ is.workers;
       sessions = ap (λ (c : Config). c.sessions) rest4 ∙ ap (λ (c : Config). c.sessions) rest3 ∙ ap (λ (c : Config). c.sessions) rest2 ∙ ap (λ (c : Config). c.sessions) rest1 ∙ is.sessions;
+      memory = ap (λ (c : Config). c.memory) rest4 ∙ ap (λ (c : Config). c.memory) rest3 ∙ ap (λ (c : Config). c.memory) rest2 ∙ ap (λ (c : Config). c.memory) rest1 ∙ is.memory;
     };
   }
 
@@ -176,9 +177,9 @@ shards_given rows b c given shards rest =
 pub server_given : (rows : List Row) (b c d : Config) (u : Uidvalidity) (r : Reporting) → AsksForScript rows b → c.shards ≡ number_given rows (codes "shards") (server_shards (length b.mailboxes.items))
     → c ≡ record b { shards = c.shards } → d.lmtp_port ≡ number_given rows (codes "lmtp-port") c.lmtp_port
     → d.imap_port ≡ number_given rows (codes "imap-port") c.imap_port → d.workers ≡ number_given rows (codes "workers") c.workers
-    → d.sessions ≡ number_given rows (codes "sessions") c.sessions
-    → d ≡ record c { lmtp_port = d.lmtp_port; imap_port = d.imap_port; workers = d.workers; sessions = d.sessions } → u ≡ uidvalidity_given rows → r ≡ reporting_given rows → AsksForServer rows d u r
-server_given rows b c d u r given shards rest1 lmtp_port imap_port workers sessions rest warned told =
+    → d.sessions ≡ number_given rows (codes "sessions") c.sessions → GivesMemory (first_of (codes "memory") rows) d.memory
+    → d ≡ record c { lmtp_port = d.lmtp_port; imap_port = d.imap_port; workers = d.workers; sessions = d.sessions; memory = d.memory } → u ≡ uidvalidity_given rows → r ≡ reporting_given rows → AsksForServer rows d u r
+server_given rows b c d u r given shards rest1 lmtp_port imap_port workers sessions memory rest warned told =
     let house = shards_given rows b c given shards rest1 in
     record {
       house = record {
@@ -200,6 +201,7 @@ server_given rows b c d u r given shards rest1 lmtp_port imap_port workers sessi
         imap_port = imap_port ∙ ap (number_given rows (codes "imap-port")) (ap (λ (x : Config). x.imap_port) rest1 ∙ given.server.imap_port);
         workers = workers ∙ ap (number_given rows (codes "workers")) (ap (λ (x : Config). x.workers) rest1 ∙ given.server.workers);
         sessions = sessions ∙ ap (number_given rows (codes "sessions")) (ap (λ (x : Config). x.sessions) rest1 ∙ given.server.sessions);
+        memory = memory;
       };
       warned = warned;
       told = told;

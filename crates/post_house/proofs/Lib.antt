@@ -1,5 +1,7 @@
 mod AskLaws
 mod GivenLaws
+mod SizeLaws
 mod WordLaws
 mod Playing
 mod Telling
+mod SizeCases

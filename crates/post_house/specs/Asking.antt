@@ -1,7 +1,7 @@
 -- What the words of a command line ask for: of each setting what is given for it, or what stands where nothing is.
-use Rattle.std.specs.Prelude.{◌≡◌, ℕ, Bool, false, List, [], Option, Some, None, codes, if◌then◌else◌, is_some, length, max, min, unwrap_or}
+use Rattle.std.specs.Prelude.{◌≡◌, ◌==◌, ◌*◌, ◌++◌, ◌∷◌, ℕ, Bool, false, Contains, List, [], Option, Some, None, codes, if◌then◌else◌, is_some, length, max, min, unwrap_or}
 use Rattle.std.specs.Str.{bytes_eq}
-use Rattle.std.specs.Str.Parse.{digits_value}
+use Rattle.std.specs.Str.Parse.{IsNumeral, digits_value}
 use Rattle.clap.specs.Words.{Row, Text, all_of, first_of, subcommand_of}
 use Rattle.settings.specs.Settings.{IsInRange, words_of}
 use Rattle.settings.specs.declared.config.Config.{Config}
@@ -63,6 +63,31 @@ port_of (Some digits) = Some (digits_value 10 digits)
 abbrev pub reporting_given : List Row → Reporting
 reporting_given rows = record { log = is_given (codes "log") rows; status = port_of (first_of (codes "status-port") rows) }
 
+-- ---- a limit on the bytes of texts
+
+-- what may stand behind a size's digits, and how many bytes one is then
+abbrev pub units : List (Text × ℕ)
+units = ([], 1) ∷ (codes "K", 1024) ∷ (codes "M", 1048576) ∷ (codes "G", 1073741824) ∷ []
+
+-- A text is digits, one at least, and behind them a unit, and is so many bytes.
+pub record IsSize (text : Text) (size : ℕ) : Type 0 where
+  pub digits : Text
+  pub unit : Text
+  pub each : ℕ
+  pub spelled : text ≡ digits ++ unit
+  pub numeral : IsNumeral 10 digits
+  pub known : Contains units (unit, each)
+  pub is : size ≡ digits_value 10 digits * each
+
+-- no bytes are no limit
+abbrev pub limit_of : (size : ℕ) → Option ℕ
+limit_of size = if size == 0 then None else Some size
+
+-- What is given is a size, which is the limit. Where nothing is given there is none.
+abbrev pub GivesMemory : (given : Option Text) → (limit : Option ℕ) → Type 0
+GivesMemory None limit = limit ≡ None
+GivesMemory (Some text) limit = (size : ℕ) × IsSize text size × (limit ≡ limit_of size)
+
 -- ---- settings
 
 -- how many shards a server of so many mailboxes has where that isn't given: one for each, and eight at most
@@ -90,6 +115,7 @@ pub record AreServerSettings (rows : List Row) (c : Config) : Type 0 where
   pub imap_port : c.imap_port ≡ number_given rows (codes "imap-port") 14300
   pub workers : c.workers ≡ number_given rows (codes "workers") 4
   pub sessions : c.sessions ≡ number_given rows (codes "sessions") 2
+  pub memory : GivesMemory (first_of (codes "memory") rows) c.memory
 
 -- A script has none of these: they are the defaults.
 pub record AreServerDefaults (c : Config) : Type 0 where
@@ -97,6 +123,7 @@ pub record AreServerDefaults (c : Config) : Type 0 where
   pub imap_port : c.imap_port ≡ 14300
   pub workers : c.workers ≡ 4
   pub sessions : c.sessions ≡ 2
+  pub memory : c.memory ≡ None
 
 -- ---- what is asked for
 

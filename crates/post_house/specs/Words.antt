@@ -8,7 +8,7 @@ use Rattle.clap.specs.declared.builder.value_parser.ValueParser.TheVariants.{Uns
 use Rattle.clap.specs.declared.error.kind.ErrorKind.{ErrorKind}
 use Rattle.clap.specs.declared.error.kind.ErrorKind.TheVariants as kind
 
--- an option that sets a name
+-- an option that sets a name, or another text of which clap takes any
 abbrev pub name_rule : Text → Rule
 name_rule name = record (new_rule name) { long = Some name; action = Some Set }
 
@@ -52,6 +52,7 @@ logged_rules =
     ∷ number_rule (codes "imap-port") 0 65472
     ∷ number_rule (codes "workers") 1 8
     ∷ number_rule (codes "sessions") 1 16
+    ∷ name_rule (codes "memory")
     ∷ flag_rule (codes "log")
     ∷ []
 
@@ -78,7 +79,7 @@ abbrev pub faults_at : List Text → Kinds
 faults_at words = fault_of program words
 
 -- what clap takes, and the program doesn't: a number that is spelled with other than digits, a port of users or of the page that is neither 0 nor high enough, more sessions
--- than the standard profile has, no mailbox, no subcommand
+-- than the standard profile has, a limit on memory that is no size or a size of 2 ^ 64 bytes or more, no mailbox, no subcommand
 abbrev pub own_faults : Kinds
 own_faults = kind.ValueValidation ∷ kind.MissingRequiredArgument ∷ kind.MissingSubcommand ∷ []
 

@@ -1,17 +1,18 @@
 //! What the words of a command line ask for, and the settings that they come to.
 
-ghost use Rattle.std.specs.Prelude.{◌≡◌, ◌≢◌, ◌≤◌, ◌<◌, [], codes, false, length, map, IfOk, MatchResult, OnOk, Some};
+ghost use Rattle.std.specs.Prelude.{◌≡◌, ◌≢◌, ◌≤◌, ◌<◌, [], codes, false, length, map, IfOk, IfSome, MatchResult, OnOk, Some};
 ghost use Rattle.std.specs.Char.{is_ascii_digit};
 ghost use Rattle.std.specs.List.{list_all};
 ghost use Rattle.clap.specs.Words.{IsAmong, app_of, first_of, found_of, kind_of, rows_of, subcommand_rows_of};
 ghost use Rattle.settings.specs.Settings.{IsDefault, IsFrom, IsInRange, most_sessions};
-ghost use Rattle.post_house.specs.Asking.{AsksBy, AsksFor, AsksForScript, IsAskedInRange};
-ghost use Rattle.post_house.specs.Asking.{form_given, is_flag, is_given, mailboxes_given, number_given, port_of, reporting_given, server_shards, text_given, uidvalidity_given};
+ghost use Rattle.post_house.specs.Asking.{AsksBy, AsksFor, AsksForScript, GivesMemory, IsAskedInRange, IsSize};
+ghost use Rattle.post_house.specs.Asking.{form_given, is_flag, is_given, limit_of, mailboxes_given, number_given, port_of, reporting_given, server_shards, text_given, uidvalidity_given};
 ghost use Rattle.post_house.specs.Words as words_taken;
+ghost use Rattle.post_house.specs.inner.Sizes.{IsSizeIn, bytes_of};
 
 use crate::options::{
-    COMPATIBLE, DEPTH, FIRST_UID, Helps, IMAP_PORT, JSON, LMTP_PORT, LOG, MAX_MESSAGE, MESSAGES,
-    NumberOption, RING, RING_MAX, SESSIONS, SHARDS, STATUS_PORT, UIDVALIDITY, WORKERS,
+    COMPATIBLE, DEPTH, FIRST_UID, Helps, IMAP_PORT, JSON, LMTP_PORT, LOG, MAX_MESSAGE, MEMORY,
+    MESSAGES, NumberOption, RING, RING_MAX, SESSIONS, SHARDS, STATUS_PORT, UIDVALIDITY, WORKERS,
     command_line,
 };
 use clap::error::ErrorKind;
@@ -53,6 +54,8 @@ enum Refused<'a> {
     LowPort(&'static str, u64),
     /// So many sessions of one user are more than the standard profile has.
     Sessions(u64),
+    /// A limit on memory that is no size, or one of more bytes than can be counted.
+    Size(&'a str),
     /// There is no mailbox.
     NoMailbox,
     /// There is no subcommand.
@@ -154,6 +157,86 @@ fn given_sessions<'a>(
         return Err(Refused::Sessions(count));
     }
     Ok(count as u8)
+}
+
+/// What a size is counted in, by what stands behind its digits.
+#[derive(Clone, Copy)]
+enum Unit {
+    /// Nothing stands there.
+    Byte,
+    /// K stands there.
+    Kibibyte,
+    /// M stands there.
+    Mebibyte,
+    /// G stands there.
+    Gibibyte,
+}
+
+impl Unit {
+    // So many bytes is one.
+    fn bytes(self) -> u64
+        ensures { result ≡ bytes_of self }
+    {
+        match self {
+            Unit::Byte => 1,
+            Unit::Kibibyte => 1 << 10,
+            Unit::Mebibyte => 1 << 20,
+            Unit::Gibibyte => 1 << 30,
+        }
+    }
+}
+
+// So many bytes are as many of this unit as these digits say. None where they are no digits, or the bytes can't be counted.
+fn bytes_in(digits: &str, unit: Unit) -> Option<u64>
+    ensures { IfSome result (IsSizeIn digits.now unit) }
+{
+    if !are_digits(digits.as_bytes()) {
+        return None;
+    }
+    let Ok(count) = digits.parse::<u64>() else {
+        return None;
+    };
+    count.checked_mul(unit.bytes())
+}
+
+// The bytes that this size says. None where it is no size, or they can't be counted.
+fn size_of(text: &str) -> Option<u64>
+    ensures { IfSome result (IsSize text.now) }
+{
+    if let Some(digits) = text.strip_suffix('K') {
+        return bytes_in(digits, Unit::Kibibyte);
+    }
+    if let Some(digits) = text.strip_suffix('M') {
+        return bytes_in(digits, Unit::Mebibyte);
+    }
+    if let Some(digits) = text.strip_suffix('G') {
+        return bytes_in(digits, Unit::Gibibyte);
+    }
+    bytes_in(text, Unit::Byte)
+}
+
+// The limit that a size is: no bytes are none.
+fn limit_of(size: u64) -> Option<u64>
+    ensures { result ≡ limit_of size }
+{
+    if size == 0 {
+        return None;
+    }
+    Some(size)
+}
+
+// The limit on the bytes of texts, where one was given.
+fn given_memory<'a>(matches: &ArgMatches<'a>) -> Result<Option<u64>, Refused<'a>>
+    ensures { IfOk result
+        (GivesMemory (first_of (codes "memory") (rows_of (found_of matches.now)))) }
+{
+    let Some(text) = matches.get_str(MEMORY) else {
+        return Ok(None);
+    };
+    let Some(size) = size_of(text) else {
+        return Err(Refused::Size(text));
+    };
+    Ok(limit_of(size))
 }
 
 // A name is set where one was given.
@@ -327,18 +410,23 @@ fn set_server<'a>(matches: &ArgMatches<'a>, config: &mut Config) -> Result<(), R
         ≡ number_given (rows_of (found_of matches.now)) (codes "workers") config.old.workers) }
     ensures sessions { OnOk result (config.new.sessions
         ≡ number_given (rows_of (found_of matches.now)) (codes "sessions") config.old.sessions) }
+    ensures memory { OnOk result
+        (GivesMemory (first_of (codes "memory") (rows_of (found_of matches.now)))
+        config.new.memory) }
     ensures rest { config.new
         ≡ record config.old {
           lmtp_port = config.new.lmtp_port;
           imap_port = config.new.imap_port;
           workers = config.new.workers;
           sessions = config.new.sessions;
+          memory = config.new.memory;
         } }
 {
     config.lmtp_port = given(matches, LMTP_PORT, u64::from(config.lmtp_port))? as u16;
     config.imap_port = given_user_port(matches, config.imap_port)?;
     config.workers = given(matches, WORKERS, u64::from(config.workers))? as u8;
     config.sessions = given_sessions(matches, config.compatible, config.sessions)?;
+    config.memory = given_memory(matches)?;
     Ok(())
 }
 
@@ -525,6 +613,19 @@ fn too_many_sessions<'a>(
     command.error(ErrorKind::ValueValidation, &reason)
 }
 
+// The mistake in a limit that is no size, or too large a one.
+fn no_size<'a>(alloc: Global, command: &mut Command<'a>, text: &str) -> Result<Error, AllocError>
+    ensures { IfOk result (λ e. kind_of e ≡ ErrorKind.ValueValidation) }
+{
+    let reason = format!(in alloc;
+        "invalid value '{}' for '--{}': only digits are read, with nothing, K, M or G behind them, up to {} bytes",
+        text,
+        MEMORY,
+        u64::MAX
+    )?;
+    command.error(ErrorKind::ValueValidation, &reason)
+}
+
 // What clap tells of a mistake that it didn't find itself.
 fn error_of<'a>(
     alloc: Global,
@@ -537,6 +638,7 @@ fn error_of<'a>(
         Refused::Spelling(name, text) => misspelled(alloc, command, name, text),
         Refused::LowPort(name, port) => too_low(alloc, command, name, port),
         Refused::Sessions(count) => too_many_sessions(alloc, command, count),
+        Refused::Size(text) => no_size(alloc, command, text),
         Refused::NoMailbox => {
             command.error(ErrorKind::MissingRequiredArgument, "there is no mailbox")
         }
@@ -574,8 +676,8 @@ fn asked_by<'a, S: AsStr>(
 /// right.
 ///
 /// The error is clap's: a mistake in the words, a number that is out of its range or has other than digits, a port of users or of
-/// the page from 1 to 1023, more than 4 sessions of a user without `--compatible`, or a request for help; of kind `OutOfMemory` where
-/// memory is refused.
+/// the page from 1 to 1023, more than 4 sessions of a user without `--compatible`, a limit on memory that is no size, or a request
+/// for help; of kind `OutOfMemory` where memory is refused.
 pub fn asked_of<'a, S: AsStr>(alloc: Global, words: &'a [S]) -> Result<Asked, Error>
     ensures range { IfOk result IsAskedInRange }
     ensures asks { IfOk result (AsksFor (map S.text words.entry.now)) }

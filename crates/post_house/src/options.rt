@@ -124,6 +124,9 @@ pub(crate) const JSON: &str = "json";
 /// Whether sessions have the compatible profile.
 pub(crate) const COMPATIBLE: &str = "compatible";
 
+/// The most bytes that the texts of all messages may have together.
+pub(crate) const MEMORY: &str = "memory";
+
 /// Whether a server writes a log.
 pub(crate) const LOG: &str = "log";
 
@@ -324,6 +327,19 @@ fn with_script_options<'a>(
     subcommand.arg(json(alloc))
 }
 
+// The most bytes of texts. Clap takes any text for it, and `asked` tells which are sizes.
+fn memory<'a>(alloc: Global) -> Arg<'a>
+    ensures rule { rule_of result ≡ words.name_rule (codes "memory") }
+    ensures local { result.global ≡ false }
+{
+    Arg::new(alloc, MEMORY)
+        .long(MEMORY)
+        .help(
+            "Bytes that the texts of messages may have together, as 800000, 800K, 800M or 2G; 0 for no limit, and 0 where it is not given",
+        )
+        .action(ArgAction::Set)
+}
+
 // A subcommand with what a server alone has, up to its log.
 fn with_log<'a>(
     alloc: Global,
@@ -333,7 +349,8 @@ fn with_log<'a>(
     requires { AreThere helps.now }
     ensures { IfOk result (HasMore words.logged_rules subcommand.entry) }
 {
-    with_options(alloc, subcommand, SERVER_OPTIONS, &helps.server)?.arg(flag(
+    let numbered = with_options(alloc, subcommand, SERVER_OPTIONS, &helps.server)?;
+    numbered.arg(memory(alloc))?.arg(flag(
         alloc,
         LOG,
         "Writes a line to standard error for each thing that happens",

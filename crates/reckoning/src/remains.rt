@@ -40,6 +40,7 @@ pub fn remains_of<B: Naming>(floor: Floor<B>) -> Remains<B>
         directory,
         host: _,
         max_message: _,
+        budget: _,
         lanes,
         closings: _,
     } = office;

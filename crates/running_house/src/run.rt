@@ -28,6 +28,7 @@ fn sizes_of(plan: &Plan) -> Sizes<'_>
     Sizes {
         host: &config.host,
         max_message: config.max_message,
+        memory: None,
         producers: (plan.workers.len() + plan.sessions.len()) as u8,
         depth: config.depth,
         uidvalidity: config.uidvalidity,

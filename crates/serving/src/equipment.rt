@@ -19,8 +19,8 @@ use workers_sync::{Grip, Listening, Sleeper};
 /// So many bytes of a mail connection are read at once.
 const MAIL_BUFFER: usize = 131_072;
 
-/// So many bytes of a mail client are read at once: each berth has that much room, also while its client is silent.
-const CLIENT_BUFFER: usize = 4_096;
+/// So many bytes of a mail client are read at once: each berth has that much room, also while its client is silent, and more while it sends more.
+const CLIENT_BUFFER: usize = 256;
 
 // Room for a connection: so many bytes are read at once. The number is a parameter, since a proof would count up to a constant.
 fn buffer_of(alloc: Global, size: usize) -> Result<Buffers, AllocError>

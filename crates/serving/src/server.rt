@@ -57,6 +57,7 @@ fn sizes_of(config: &Config, berths: usize) -> Sizes<'_>
     Sizes {
         host: &config.host,
         max_message: config.max_message,
+        memory: config.memory,
         producers: (usize::from(config.workers) + berths) as u8,
         depth: config.depth,
         uidvalidity: config.uidvalidity,

@@ -135,7 +135,7 @@ pub(crate) fn name_of_user(directory: &Directory, user: u8) -> &[u8] {
 }
 
 // The client that this berth serves, for the log.
-fn visitor_of<'s, B: Naming>(gateway: Gateway<'s, B>) -> Visitor<'s> {
+fn visitor_of<'s, B: Naming>(gateway: &Gateway<'s, B>) -> Visitor<'s> {
     let user = name_of_user(&gateway.floor.office.directory, gateway.user);
     let door = gateway.door;
     Visitor {
@@ -150,12 +150,12 @@ fn visitor_of<'s, B: Naming>(gateway: Gateway<'s, B>) -> Visitor<'s> {
 // client has gone.
 fn open_visit<'a, B: Naming, R: Wait, W: Sink + Drop>(
     rt: &'a R,
-    gateway: Gateway<'a, B>,
+    gateway: &Gateway<'a, B>,
     output: W,
 ) -> Option<Visit<'a, B, R, Unhindered, W>>
     requires live { W.failed output ≡ false }
-    ensures { IfSome result (IsVisitOf gateway.entry.floor.now gateway.entry.compatible
-        gateway.entry.user (W.taken output)) }
+    ensures { IfSome result (IsVisitOf gateway.now.floor.now gateway.now.compatible
+        gateway.now.user (W.taken output)) }
 {
     let (floor, gate) = (gateway.floor, gateway.gate);
     let directory = &floor.office.directory;
@@ -166,7 +166,11 @@ fn open_visit<'a, B: Naming, R: Wait, W: Sink + Drop>(
         return None;
     };
     let limit = most_of(floor.office.max_message);
-    let Ok(admission) = admission_of(floor.alloc, gateway.compatible, Some(limit), user) else {
+    let Ok(budget) = floor.office.budget.again() else {
+        return None;
+    };
+    let compatible = gateway.compatible;
+    let Ok(admission) = admission_of(floor.alloc, compatible, Some(limit), user, budget) else {
         return None;
     };
     let store = LockedStore::new(
@@ -185,7 +189,7 @@ fn open_visit<'a, B: Naming, R: Wait, W: Sink + Drop>(
 
 // How a visit ended, where this was the end of reading.
 fn how_it_ended<B: Naming>(
-    gateway: Gateway<'_, B>,
+    gateway: &Gateway<'_, B>,
     visitor: Visitor<'_>,
     read: Happened,
 ) -> Happened {
@@ -198,29 +202,56 @@ fn how_it_ended<B: Naming>(
     read
 }
 
-// One client's visit, which is of this berth's user, from its first byte to its end; and how it ended.
-fn attend_visit<'a, B: Naming, R: Wait, C: Courier>(
+// The berth has this visit from now on, which is of its user. It has no other: this thread alone brings clients there.
+fn admit_visit<'a, B: Naming, R: Wait>(
+    rt: &'a R,
+    berth: &ClientBerth<'a, B, R>,
+    _gateway: &Gateway<'a, B>,
+    visit: Visit<'a, B, R, Unhindered, ClientOutput<'a>>,
+)
+    requires visit { (before : Option (List ℕ))
+        × IsVisitOf _gateway.now.floor.now _gateway.now.compatible _gateway.now.user before visit }
+{
+    let _ = berth.admit(rt, visit);
+}
+
+// Greets a client, whose visit the berth has from then on; and whether that could be done. Its frame has room for the visit, and is gone while
+// the client is served.
+#[inline(never)]
+fn admit_client<'a, B: Naming, R: Wait>(
+    rt: &'a R,
+    berth: &ClientBerth<'a, B, R>,
+    gateway: &Gateway<'a, B>,
+    output: Watched<Timely<TcpStream>>,
+) -> bool
+    requires live { ⟦<Watched<Timely<TcpStream>> as Sink>⟧.failed output ≡ false }
+{
+    let output = Signed::new(output, gateway.sign);
+    let Some(visit) = open_visit(rt, gateway, output) else {
+        return false;
+    };
+    admit_visit(rt, berth, gateway, visit);
+    true
+}
+
+// The client that the berth has, from its first byte to its end; and how it ended.
+fn attend_client<'a, B: Naming, R: Wait, C: Courier>(
     rt: &'a R,
     berth: &ClientBerth<'a, B, R>,
     courier: &mut C,
-    gateway: Gateway<'a, B>,
-    visit: Visit<'a, B, R, Unhindered, ClientOutput<'a>>,
+    gateway: &Gateway<'a, B>,
     stream: &TcpStream,
-    buffer: &mut [u8],
+    buffer: &mut Vec<u8>,
 ) -> Happened
     requires ready { C.ready courier.old }
-    requires visit { (before : Option (List ℕ))
-        × IsVisitOf gateway.floor.now gateway.compatible gateway.user before visit }
     ensures ready { C.ready courier.new }
     ensures kept { (first : C) → C.kept first courier.old → C.kept first courier.new }
 {
     let visitor = visitor_of(gateway);
     let mut input = Incoming::new(rt, stream, visitor);
-    // The berth has no other client: this thread alone brings them here.
-    let _ = berth.attend(
+    berth.attend(
         rt,
         gateway.floor.alloc,
-        visit,
         courier,
         &mut input,
         buffer,
@@ -234,21 +265,20 @@ fn serve_client<'a, B: Naming, R: Wait, C: Courier>(
     rt: &'a R,
     berth: &ClientBerth<'a, B, R>,
     courier: &mut C,
-    gateway: Gateway<'a, B>,
+    gateway: &Gateway<'a, B>,
     stream: &TcpStream,
     output: Watched<Timely<TcpStream>>,
-    buffer: &mut [u8],
+    buffer: &mut Vec<u8>,
 ) -> Happened
     requires ready { C.ready courier.old }
     requires live { ⟦<Watched<Timely<TcpStream>> as Sink>⟧.failed output ≡ false }
     ensures ready { C.ready courier.new }
     ensures kept { (first : C) → C.kept first courier.old → C.kept first courier.new }
 {
-    let output = Signed::new(output, gateway.sign);
-    let Some(visit) = open_visit(rt, gateway, output) else {
+    if !admit_client(rt, berth, gateway, output) {
         return Happened::OutOfMemory;
-    };
-    attend_visit(rt, berth, courier, gateway, visit, stream, buffer)
+    }
+    attend_client(rt, berth, courier, gateway, stream, buffer)
 }
 
 // A client that is one too many is told so, unless the house stops; and how it ended.
@@ -268,10 +298,10 @@ fn serve_in_turn<'a, B: Naming, R: Wait, C: Courier>(
     rt: &'a R,
     berth: &ClientBerth<'a, B, R>,
     courier: &mut C,
-    gateway: Gateway<'a, B>,
+    gateway: &Gateway<'a, B>,
     stream: &TcpStream,
     output: Watched<Timely<TcpStream>>,
-    buffer: &mut [u8],
+    buffer: &mut Vec<u8>,
 ) -> Happened
     requires ready { C.ready courier.old }
     requires live { ⟦<Watched<Timely<TcpStream>> as Sink>⟧.failed output ≡ false }
@@ -295,10 +325,10 @@ fn receive<'a, B: Naming, R: Wait, C: Courier>(
     rt: &'a R,
     berth: &ClientBerth<'a, B, R>,
     courier: &mut C,
-    gateway: Gateway<'a, B>,
+    gateway: &Gateway<'a, B>,
     line: &SocketLine<&'a Listening>,
     call: Call<TcpStream, Watched<Timely<TcpStream>>>,
-    buffer: &mut [u8],
+    buffer: &mut Vec<u8>,
 )
     requires ready { C.ready courier.old }
     requires live { ⟦<Watched<Timely<TcpStream>> as Sink>⟧.failed call.output ≡ false }
@@ -312,7 +342,7 @@ fn receive<'a, B: Naming, R: Wait, C: Courier>(
         gateway.door.show(gateway.serial);
         let end = serve_in_turn(rt, berth, courier, gateway, &input, output, buffer);
         visitor.tell(rt, end);
-        gateway.door.part(line, &input, buffer);
+        gateway.door.part(line, &input, buffer.as_mut_slice());
         gateway.door.hide();
     }
     gateway.door.grip.clear(rt);
@@ -355,12 +385,13 @@ fn answer_clients<'a, B: Naming, R: Wait, S: Summons>(
         };
         courier.serial = serial;
         let gateway = Gateway { serial, ..gateway };
-        let buffer = buffer.as_mut_slice();
-        receive(rt, berth, courier, gateway, &line, call, buffer);
+        receive(rt, berth, courier, &gateway, &line, call, &mut buffer);
     }
 }
 
 // Ends the permits of a berth that serves nobody any more. It hears no end of its channel: those come when all have ended.
+// Its frame isn't wanted while clients are served.
+#[inline(never)]
 fn leave<B: Naming, R: Wait, S: Summons, L>(
     courier: LaneCourier<'_, B, R, S, LogBook<'_, R>>,
     gate: &Unhindered,

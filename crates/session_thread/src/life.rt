@@ -11,6 +11,7 @@ ghost use Rattle.session_thread.specs.Life.{Awaits, Departs, IsForgotten, IsOver
 use crate::locked_store::LockedStore;
 use crate::speaking::answer;
 use crate::turns::idle_turn;
+use budget::Budget;
 use house_history::Naming;
 use imap_session::{Admission, After, Folder, ImapConnection, Profile, Store};
 use line_io::Outlet;
@@ -208,6 +209,7 @@ pub fn live<B: Naming, R: Wait, G: Gate, C: Courier, O: Outlet>(
         max_message: most,
         profile: Profile::Standard,
         login: None,
+        budget: Budget::unlimited(),
     };
     let mut connection = ImapConnection::new(alloc, folders, known)?;
     connection.greet(out)?;

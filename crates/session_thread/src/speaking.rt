@@ -66,6 +66,8 @@ fn hear_verdict<B: Naming, R: Wait, G: Gate, C: Courier, O: Outlet>(
 
 // Carries the message that was submitted, and answers the verdict on it; and so the messages that follow it, where it is one of several that are copied, till no
 // verdict is awaited.
+// Its frame stands apart: the stack of a thread that waits for its client is as deep as what it once answered.
+#[inline(never)]
 fn hear_verdicts<B: Naming, R: Wait, G: Gate, C: Courier, O: Outlet>(
     connection: &mut ImapConnection,
     store: &mut LockedStore<'_, B, R, G>,

@@ -30,6 +30,7 @@ pub record IsDefault (c : Config) (words : List (List ℕ)) : Type 0 where
   pub workers : c.workers ≡ 4
   pub lmtp_port : c.lmtp_port ≡ 2424
   pub imap_port : c.imap_port ≡ 14300
+  pub memory : c.memory ≡ None
   pub compatible : c.compatible ≡ false
 
 -- ---- the ranges of the numbers

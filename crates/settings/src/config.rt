@@ -46,6 +46,8 @@ pub struct Config {
     /// The port of the first user's sessions, 1024 to 65472; the others' follow, in the order of the users. 0 where the system is
     /// to choose a free one for each user.
     pub imap_port: u16,
+    /// The most bytes that the texts of all messages may have together; None where there is no limit. Only a server looks at it.
+    pub memory: Option<u64>,
     /// Sessions have the compatible profile: a client logs in first, and is offered what fronts and clients of IMAP4rev1 want besides.
     pub compatible: bool,
 }
@@ -135,6 +137,7 @@ impl Config {
             workers: numbers::WORKERS.default as u8,
             lmtp_port: numbers::LMTP_PORT.default as u16,
             imap_port: numbers::IMAP_PORT.default as u16,
+            memory: None,
             compatible: false,
         })
     }

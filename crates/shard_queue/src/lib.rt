@@ -7,6 +7,7 @@ mod calls;
 mod ends;
 mod lane;
 mod laws;
+mod marks;
 mod queue;
 mod reply;
 mod shared;

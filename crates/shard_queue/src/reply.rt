@@ -14,7 +14,8 @@ ghost use Rattle.shard_queue.specs.Reply.{IsSender, IsSenderEnded, IsReceiver, s
 
 use crate::ends::ReplyChannel;
 use crate::lane::{Entry, Full};
-use crate::shared::{Announce, HearOut, Hire, Merge, Put, Take, View, no_marks};
+use crate::marks::Marks;
+use crate::shared::{Announce, HearOut, Hire, Merge, Put, Take, View};
 use crossbeam_channel::{Pass, RuledSender, TrySendError, bounded_with};
 use std::alloc::{AllocError, Global};
 use std::sync::Wait;
@@ -39,7 +40,7 @@ pub struct SenderEnded<T> {
 pub struct ReceiverPermit<T> {
     pass: Pass<Entry<T>, View<T>>,
     // Of each sender, whether its end was received.
-    ended: [bool; 256],
+    ended: Marks,
 }
 
 /// What is left of a channel whose senders have all ended, and whose entries were all received.
@@ -95,6 +96,7 @@ impl<T: Drop> ReplyChannel<T> {
         // The last is the receiver's, by which nothing was received.
         ensures receiver { IfOk result (λ r. IsReceiver r.0 r.2 × (received r.2 ≡ [])) }
     {
+        let ended = Marks::new(alloc)?;
         let (sender, receiver, mut pass) = bounded_with(alloc, capacity)?;
         let mut permits = Vec::with_capacity(alloc, usize::from(senders))?;
         announce(&sender, &mut pass, senders);
@@ -106,10 +108,7 @@ impl<T: Drop> ReplyChannel<T> {
             receiver,
             senders,
         };
-        let permit = ReceiverPermit {
-            pass,
-            ended: no_marks(),
-        };
+        let permit = ReceiverPermit { pass, ended };
         Ok((channel, permits, permit))
     }
 
@@ -206,7 +205,7 @@ impl<T: Drop> ReplyChannel<T> {
             match self.receiver.recv_as::<Take, R>(rt, &mut permit.pass) {
                 Ok(Entry::Item(p, item)) => return Entry::Item(p, item),
                 Ok(Entry::End(p)) => {
-                    permit.ended[usize::from(p)] = true;
+                    permit.ended.mark(p);
                     return Entry::End(p);
                 }
                 Err(_) => {}
@@ -289,7 +288,7 @@ impl<T: Drop> ReplyChannel<T> {
             → IsNotAll sender_ended_number (senders_of self.now) ended.now (received permit.now) }
     {
         for p in 0..self.senders {
-            if !permit.ended[usize::from(p)] {
+            if !permit.ended.has(p) {
                 return false;
             }
             if !has_ended(ended, p) {

@@ -2,6 +2,7 @@
 //! that it has ended. What it says is shown by scripts, but where no message is taken, and where its store or memory refuses.
 
 use crate::stores::{deliver, store};
+use budget::Budget;
 use change_ring::{Flags, NO_FLAGS};
 use delivery_token::{Refusal, Verdict};
 use house::CoreStore;
@@ -24,6 +25,7 @@ pub fn standard(most: Option<u32>) -> Admission {
         max_message: most,
         profile: Profile::Standard,
         login: None,
+        budget: Budget::unlimited(),
     }
 }
 
@@ -330,7 +332,7 @@ a1 OK CAPABILITY completed\r\n",
 
 // The same in the session of a client that is to log in first.
 fn played_compatible(alloc: Global, steps: &[Step]) -> Result<Option<usize>, AllocError> {
-    let admission = admission_of(alloc, true, Some(10), b"SMITH")?;
+    let admission = admission_of(alloc, true, Some(10), b"SMITH", Budget::unlimited())?;
     let mut session = Session::new(folders(alloc)?, admission);
     played_with(alloc, &mut session, steps)
 }

@@ -2,6 +2,7 @@
 
 ghost use Rattle.std.specs.Prelude.{◌≡◌, ◌≤◌, [], length, IfOk, OnOk};
 
+use budget::Budget;
 use delivery_token::{CopyKey, Refusal, Verdict};
 use envelope::{Directory, DirectoryFault};
 use lmtp_machine::{Fed, Limits, LmtpMachine, Submission, What};
@@ -77,6 +78,7 @@ fn converse(
     let limits = Limits {
         host: b"mx.example.org",
         max_message,
+        budget: &Budget::unlimited(),
     };
     let mut machine = LmtpMachine::new(alloc, 0, 0, limits)?;
     machine.greet(out)?;
@@ -320,6 +322,7 @@ fn submitted(
     let limits = Limits {
         host: b"mx.example.org",
         max_message: 100,
+        budget: &Budget::unlimited(),
     };
     let mut machine = LmtpMachine::new(alloc, 3, 9, limits)?;
     submits_and_shuts(alloc, &mut machine, directory, said, &mut Vec::new(alloc))

@@ -5,6 +5,8 @@
 #[cfg(test)]
 mod bells;
 #[cfg(test)]
+mod budgets;
+#[cfg(test)]
 mod commands;
 #[cfg(test)]
 mod cursors;

@@ -7,6 +7,7 @@ use crate::houses::{TestHouse, open_house};
 use crate::sessions::store_of;
 use crate::stream_couriers::TestCourier;
 use crate::wires::{Marks, Tally, Wire, wait_until};
+use budget::Budget;
 use change_ring::NO_FLAGS;
 use delivery_token::{Text, Verdict};
 use house_history::{Naming, Opened};
@@ -151,6 +152,7 @@ pub(crate) fn known(most: Option<u32>) -> Admission {
         max_message: most,
         profile: Profile::Standard,
         login: None,
+        budget: Budget::unlimited(),
     }
 }
 
@@ -196,7 +198,7 @@ pub(crate) fn attend_one<'x, B: Naming, R: Wait, I: Read, C: Courier>(
     visit: Visit<'x, B, R, Tally, Wire<'x, R>>,
     courier: &mut C,
     input: &mut I,
-    buffer: &mut [u8],
+    size: usize,
     stop: &AtomicBool,
 ) -> bool
     requires { C.ready courier.old }
@@ -204,9 +206,15 @@ pub(crate) fn attend_one<'x, B: Naming, R: Wait, I: Read, C: Courier>(
     let Ok(idles) = Arc::new(alloc, AtomicBool::new(false)) else {
         return false;
     };
-    Berth::new(idles)
-        .attend(rt, alloc, visit, courier, input, buffer, stop)
-        .is_ok()
+    let Ok(mut buffer) = vec![in alloc; 0; size] else {
+        return false;
+    };
+    let berth = Berth::new(idles);
+    if berth.admit(rt, visit).is_err() {
+        return false;
+    }
+    berth.attend(rt, alloc, courier, input, &mut buffer, stop);
+    true
 }
 
 // Whether the client was greeted, and then served until its stream or its output ended.
@@ -224,7 +232,7 @@ fn serve_over<'x, B: Naming, R: Wait, I: Read>(
     match open(rt, alloc, house, tally, None, wire) {
         Some(visit) => {
             let mut courier = nobody(rt, house);
-            attend_one(rt, alloc, visit, &mut courier, input, &mut [0; 64], stop)
+            attend_one(rt, alloc, visit, &mut courier, input, 64, stop)
         }
         None => false,
     }
@@ -337,19 +345,22 @@ fn attend_visit<'a, B: Naming, R: Wait>(
         marks,
         nap,
     };
-    let mut buffer = [0; 64];
+    let Ok(mut buffer) = vec![in alloc; 0; 64] else {
+        return false;
+    };
+    if berth.admit(rt, visit).is_err() {
+        return false;
+    }
     let never = AtomicBool::new(false);
-    berth
-        .attend(
-            rt,
-            alloc,
-            visit,
-            &mut nobody(rt, house),
-            &mut idler,
-            &mut buffer,
-            &never,
-        )
-        .is_ok()
+    berth.attend(
+        rt,
+        alloc,
+        &mut nobody(rt, house),
+        &mut idler,
+        &mut buffer,
+        &never,
+    );
+    true
 }
 
 // The thread that serves the client, from its greeting on; then the watch is over.

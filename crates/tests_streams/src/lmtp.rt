@@ -8,6 +8,7 @@ ghost use Rattle.lane_work.specs.Permits.{AreInForce};
 
 use crate::houses::{Shelf, open_shelf};
 use crate::permits::{Permits, Room, make_permits, make_room, sort, spend_room};
+use budget::Budget;
 use envelope::Directory;
 use house_history::{Answer, Letter, Naming, Opened};
 use lane_work::{
@@ -510,6 +511,7 @@ fn spend<B: Naming>(
         directory: _,
         host: _,
         max_message: _,
+        budget: _,
         mut lanes,
         closings: _,
     } = office;
@@ -595,6 +597,7 @@ fn play_in<B: Naming, R: Wait>(
         directory,
         host,
         max_message: 100,
+        budget: Budget::unlimited(),
         lanes,
         closings: Vec::new(alloc),
     };

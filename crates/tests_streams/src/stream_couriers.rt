@@ -196,15 +196,7 @@ fn attend<'x, B: Naming, R: Wait>(
 ) -> Option<u32> {
     let mut courier = TestCourier::new(rt, house, loses);
     let (mut input, never) = (bytes, AtomicBool::new(false));
-    let is_done = attend_one(
-        rt,
-        alloc,
-        visit,
-        &mut courier,
-        &mut input,
-        &mut [0; 16],
-        &never,
-    );
+    let is_done = attend_one(rt, alloc, visit, &mut courier, &mut input, 16, &never);
     if is_done { Some(courier.asked) } else { None }
 }
 

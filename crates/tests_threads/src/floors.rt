@@ -50,6 +50,7 @@ fn sizes() -> Sizes<'static>
     Sizes {
         host: b"mx.example.org",
         max_message: 1000,
+        memory: None,
         producers: 2,
         depth: 4,
         uidvalidity: 7,

@@ -458,6 +458,7 @@ fn close_all<B: Naming>(
         directory: _,
         host: _,
         max_message: _,
+        budget: _,
         lanes,
         closings: _,
     } = office;
@@ -551,6 +552,7 @@ fn sizes<'a>(closings: &'a [Vec<Closing>]) -> Sizes<'a>
     Sizes {
         host: b"mx.example.org",
         max_message: 1000,
+        memory: None,
         producers: WORKERS,
         depth: 4,
         uidvalidity: 7,

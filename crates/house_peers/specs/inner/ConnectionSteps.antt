@@ -5,7 +5,8 @@ use Rattle.delivery_token.specs.declared.Verdict.{Verdict}
 use Rattle.delivery_token.specs.declared.log.Noted.{Noted}
 use Rattle.lmtp_machine.specs.Dialogue as dialogue
 use Rattle.house_peers.specs.HouseConnection.{HouseConnection}
-use Rattle.house_peers.specs.Caller.{Caller, IsAnswered, Terms, meets}
+use Rattle.house_peers.specs.Caller.{Caller, IsAnswered, Terms}
+use Rattle.house_peers.specs.inner.Meeting.{meets}
 use Rattle.house_peers.specs.ConnectionStands.{StandsForConnection}
 
 -- the verdicts were said, and nothing is awaited any more

@@ -12,5 +12,5 @@ returns-clause-asks c =
       rows,
       refl,
       server_given rows c.in_ok-config.config c.set_server_shards.new.config c.set_server.new.config c.uidvalidity_of.result c.in_ok-report.report c.in_ok-config.ensures.given
-          shards.shards c.set_server_shards.ensures.rest set.lmtp_port set.imap_port set.workers set.sessions c.set_server.ensures.rest c.uidvalidity_of.ensures c.in_ok-report.ensures,
+          shards.shards c.set_server_shards.ensures.rest set.lmtp_port set.imap_port set.workers set.sessions set.memory c.set_server.ensures.rest c.uidvalidity_of.ensures c.in_ok-report.ensures,
     )

@@ -1,4 +1,4 @@
-use Rattle.std.proofs.Common.{◌++◌, ◌∷◌, [], codes}
+use Rattle.std.proofs.Common.{◌∷◌, [], codes}
 use Rattle.std.proofs.lemmas.Result.{IfOk-weaker}
 use Rattle.post_house.specs.Words.{flag_rule, mailbox_rule, name_rule}
 use Rattle.post_house.proofs.WordLaws.{adds_one, joined}

@@ -4,7 +4,7 @@ use Rattle.std.proofs.lemmas.Result.{IfOk-weaker, on_err_weaker}
 use Rattle.delivery_token.specs.declared.Verdict.{Verdict}
 use Rattle.lmtp_machine.specs.Dialogue.{Answered, Submission}
 use Rattle.house_peers.specs.HouseConnection.{HouseConnection}
-use Rattle.house_peers.specs.Caller.{meets}
+use Rattle.house_peers.specs.inner.Meeting.{meets}
 use Rattle.delivery_token.specs.Verdicts.{AreKnown as IsKnown}
 use Rattle.house_peers.specs.Taking.{awaited_keys}
 use Rattle.house_peers.proofs.Connections.{went_answers, went_waits}

@@ -31,5 +31,5 @@ returns-clause-sent c before =
     let same = ap the_view c.self-inside.view_is ∙ c.self.view_is in
     leads_wanting_waits c.args.begun.tag [] (ForVerdict Client c.in-Ok.mailbox (flags_for (purpose_of c.args.begun.purpose)) (record { bytes = c.in-Ok.text.items; date = date_for (purpose_of c.args.begun.purpose) })) now _ (on_rest now.mailing (pending_of c.args.begun) c.args.ends) before before
     (c.in-Ok.ensures.ready now.mailing (pending_of c.args.begun) (sym (ap (λ (s : Standing). s.mailing.most) same)) (sym (ap (λ (s : Standing). s.mailing.number) same)) (sym c.mailbox-mailbox.ensures) refl refl)
-    (sym (append-nil before)) (submitted_again Client c.in-Ok.mailbox c.flags-flags.result (flags_for (purpose_of c.args.begun.purpose)) c.in-Ok-with_date.text (record { bytes = c.in-Ok.text.items; date = date_for (purpose_of c.args.begun.purpose) }) c.args.begun.tag c.flags-flags.ensures
-    (c.in-Ok-with_date.ensures ∙ ap (λ (d : Option Stamp). record { bytes = c.in-Ok.text.items; date = d }) c.date-date.ensures) same)
+    (sym (append-nil before)) (submitted_again Client c.in-Ok.mailbox c.flags-flags.result (flags_for (purpose_of c.args.begun.purpose)) c.in-Ok-charged.text (record { bytes = c.in-Ok.text.items; date = date_for (purpose_of c.args.begun.purpose) }) c.args.begun.tag c.flags-flags.ensures
+    (c.in-Ok-charged.ensures ∙ ap (λ (d : Option Stamp). record { bytes = c.in-Ok.text.items; date = d }) c.date-date.ensures) same)

@@ -10,7 +10,7 @@ loop-p-preserved g c = (
   refl,
   below_suc (λ p. Any (λ e. sender_ended_number e ≡ p) c.args.ended.now × (has_end (of p (received c.args.permit.now)) ≡ true)) c.loop-p.p c.loop-p.invariant.2 (
     some_numbered sender_ended_number c.loop-p.p c.args.ended.now (sym c.has_ended.ensures ∙ c.if-not-has_ended.false),
-    sym (c.requires.2 c.loop-p.p c.loop-p-test.true) ∙ ap (λ i. slice_index_or c.args.permit.now.ended i false) (sym c.from.ensures) ∙ c.if-not-permit-from.false,
+    sym (c.requires.2 c.loop-p.p c.loop-p-test.true) ∙ sym c.has.ensures ∙ c.if-not-has.false,
   ),
 )
 

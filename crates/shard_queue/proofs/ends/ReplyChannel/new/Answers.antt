@@ -25,4 +25,4 @@ loop-p-preserved g c =
     )
 
 pub returns-clause-receiver : goal.returns-clause-receiver
-returns-clause-receiver g c = ((c.loop-p.invariant.0, all_permitted _ _ _ c.loop-p.invariant.1 (search rules), λ p less. c.no_marks.ensures p ∙ sym (ap (λ v. has_end (of p (list_of v))) c.loop-p.invariant.1)), ap list_of c.loop-p.invariant.1)
+returns-clause-receiver g c = ((c.loop-p.invariant.0, all_permitted _ _ _ c.loop-p.invariant.1 (search rules), λ p less. c.in_ok-ended.ensures p ∙ sym (ap (λ v. has_end (of p (list_of v))) c.loop-p.invariant.1)), ap list_of c.loop-p.invariant.1)

@@ -18,6 +18,6 @@ pub returns-in-Ok-End-clause-permit : goal.returns-in-Ok-End-clause-permit
 returns-in-Ok-End-clause-permit g c = let r = c.loop.invariant.0 in let a = c.in-Ok-End in let t = took_one _ _ _ _ _ _ _ _ r.1 a.ensures.rule in (
   subst (λ r. IsSeatAt r c.recv_as.new.pass) c.args.self.now.both a.ensures.channel.0,
   t.0,
-  subst (λ n. AreMarks c.args.self.now.senders (set c.loop.permit.ended n true) (list_of (view c.recv_as.new.pass))) (sym c.from.ensures)
-      (marks_end _ _ _ _ _ (t.1 ∙ ap (λ e. received c.loop.permit ++ e ∷ []) a.field-0-is) (search rules) r.2),
+  subst (λ marks. AreMarks c.args.self.now.senders marks (list_of (view c.recv_as.new.pass))) (sym c.mark.ensures.marks)
+      (marks_end _ _ _ _ _ (t.1 ∙ ap (λ e. received c.loop.permit ++ e ∷ []) a.field-0-is) c.mark.ensures.within r.2),
 )

@@ -1,0 +1,4 @@
+pub mod Charging
+pub mod Counting
+pub mod Limits
+pub mod inner
