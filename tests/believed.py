@@ -4,7 +4,7 @@
     tests/believed.py                       each file that has some, how many, and how many lines they take with their comments
     tests/believed.py --parts               the same in the parts in which the page lists them: the headline, which is over any dialogues; what of LMTP and of IMAP
                                             comes to it; and what the other promises need besides. A definition counts in the first part that cites it
-    tests/believed.py --page docs/PROMISE.md    the same check that the gate makes: the page lists these files in these parts, each with its lines, and no other
+    tests/believed.py --page docs/DEFINITIONS.md    the same check that the gate makes: the page lists these files in these parts, each with its lines, and no other
                                             of specs/, and the heads of its sections tell their sums
     tests/believed.py CRATE::FUNCTION ..    those of other functions
     tests/believed.py --apart               whether what public clauses say stands apart, as the gate checks too: each definition of specs/ is cited by a

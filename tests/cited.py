@@ -27,7 +27,7 @@ import sys
 TOP = os.path.dirname(os.path.dirname(os.path.abspath(__file__)))
 
 # The pages that cite, and the one whose rows give names.
-PAGES = ["README.md", "CHANGELOG.md", "CONTRIBUTING.md", "SECURITY.md", "docs/ARCHITECTURE.md", "docs/CRATES.md", "docs/DECISIONS.md", "docs/OPERATING.md", "docs/PROMISE.md", "docs/SCRIPT.md", "docs/STANDARDS.md"]
+PAGES = ["README.md", "CHANGELOG.md", "CONTRIBUTING.md", "SECURITY.md", "docs/ARCHITECTURE.md", "docs/CRATES.md", "docs/DECISIONS.md", "docs/DEFINITIONS.md", "docs/LIMITS.md", "docs/OPERATING.md", "docs/PROMISE.md", "docs/SCRIPT.md", "docs/STANDARDS.md"]
 WITH_NAMES = "docs/STANDARDS.md"
 
 CASES = ("tests/worked_cases", "tests/dialogues")

@@ -21,7 +21,7 @@ TOP = os.path.dirname(os.path.dirname(os.path.abspath(__file__)))
 
 # The median has to be below the first number, and no sentence has more words than the second.
 LIMITS = (16, 35)
-CHECKED = ["README.md", "docs/OPERATING.md", "docs/STANDARDS.md", "docs/SCRIPT.md", "CONTRIBUTING.md", "SECURITY.md", "docs/PROMISE.md", "docs/ARCHITECTURE.md",
+CHECKED = ["README.md", "docs/OPERATING.md", "docs/STANDARDS.md", "docs/SCRIPT.md", "CONTRIBUTING.md", "SECURITY.md", "docs/PROMISE.md", "docs/LIMITS.md", "docs/DEFINITIONS.md", "docs/ARCHITECTURE.md",
            "docs/DECISIONS.md", "CHANGELOG.md", "bench/README.md"]
 # Pages that are printed, and have no limits.
 PRINTED = ["docs/CRATES.md"]
