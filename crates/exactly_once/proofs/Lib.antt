@@ -19,3 +19,4 @@ pub mod WorldRefuted
 pub mod WorldAlone
 pub mod ToldRefuted
 pub mod OneRecord
+pub mod SpeechRefuted
