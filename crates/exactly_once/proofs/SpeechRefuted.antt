@@ -8,7 +8,7 @@ use Rattle.delivery_token.specs.declared.Verdict.TheVariants.{Stored, Refused}
 use Rattle.delivery_token.specs.declared.Refusal.TheVariants as refusals
 use Rattle.envelope.specs.Directory.{Directory}
 use Rattle.lmtp_machine.specs.declared.reply.Reply.{Reply}
-use Rattle.lmtp_machine.specs.declared.reply.Reply.TheVariants.{Delivered, MailboxFull}
+use Rattle.lmtp_machine.specs.declared.reply.Reply.TheVariants.{Delivered, OutOfMemory}
 use Rattle.lmtp_machine.specs.Conversation.{Conversation}
 use Rattle.lmtp_machine.specs.Dialogue.{Setting, Waiting}
 use Rattle.lmtp_machine.specs.Kept.{Kept}
@@ -24,8 +24,8 @@ awaiting count = record { standing = record { phase = Waiting count; submitted =
 awaits : (mailboxes count : ℕ) → 0 < count → count ≤ 100 → Kept mailboxes (awaiting count).standing
 awaits mailboxes count some most = record { here = (some, most, omega arith) }
 
-abbrev full : Verdict
-full = Refused refusals.MailboxFull
+abbrev unheld : Verdict
+unheld = Refused refusals.NoMemory
 
 -- what is said to verdicts is neither nothing nor all of them
 said_neither : (said told : List Reply) → (said ≡ []) ⊎ (said ≡ told) → 0 < length said → (length said ≡ length told → ⊥) → ⊥
@@ -54,8 +54,8 @@ tells_twice = record lmtp { said = λ setting directory at occasion. lmtp.said s
 
 no_verdict_is_told_twice : (setting : Setting) (directory : Directory) → IsSpeech tells_twice → ⊥
 no_verdict_is_told_twice setting directory asked =
-    let a = asked.answers setting directory (awaiting 1) (full ∷ []) (awaits (length directory.homes) 1 (omega arith) (omega arith)) in
-    said_neither (MailboxFull ∷ MailboxFull ∷ []) (MailboxFull ∷ []) a.0 (omega arith) (λ e. let x : 2 ≡ 1 = e in omega (arith, x))
+    let a = asked.answers setting directory (awaiting 1) (unheld ∷ []) (awaits (length directory.homes) 1 (omega arith) (omega arith)) in
+    said_neither (OutOfMemory ∷ OutOfMemory ∷ []) (OutOfMemory ∷ []) a.0 (omega arith) (λ e. let x : 2 ≡ 1 = e in omega (arith, x))
 
 -- Only the first verdict is told: a reply too few, and a relay waits.
 abbrev tells_the_first : Speech
@@ -63,32 +63,32 @@ tells_the_first = record lmtp { said = λ setting directory at occasion. take 1 
 
 each_verdict_is_told : (setting : Setting) (directory : Directory) → IsSpeech tells_the_first → ⊥
 each_verdict_is_told setting directory asked =
-    let a = asked.answers setting directory (awaiting 2) (full ∷ full ∷ []) (awaits (length directory.homes) 2 (omega arith) (omega arith)) in
-    said_neither (MailboxFull ∷ []) (MailboxFull ∷ MailboxFull ∷ []) a.0 (omega arith) (λ e. let x : 1 ≡ 2 = e in omega (arith, x))
+    let a = asked.answers setting directory (awaiting 2) (unheld ∷ unheld ∷ []) (awaits (length directory.homes) 2 (omega arith) (omega arith)) in
+    said_neither (OutOfMemory ∷ []) (OutOfMemory ∷ OutOfMemory ∷ []) a.0 (omega arith) (λ e. let x : 1 ≡ 2 = e in omega (arith, x))
 
 -- A copy that was refused is told as delivered: the relay lets go of it.
 abbrev tells_all_as_delivered : Speech
 tells_all_as_delivered = record lmtp { said = λ setting directory at occasion. map (λ reply. Delivered) (lmtp.said setting directory at occasion) }
 
-delivered_or_not : (Delivered ∷ [] ≡ []) ⊎ (Delivered ∷ [] ≡ MailboxFull ∷ []) → ⊥
+delivered_or_not : (Delivered ∷ [] ≡ []) ⊎ (Delivered ∷ [] ≡ OutOfMemory ∷ []) → ⊥
 delivered_or_not (inl none) = let e : 1 ≡ 0 = ap length none in omega (arith, e)
-delivered_or_not (inr same) = let e : Delivered ∷ [] ≡ MailboxFull ∷ [] = same in absurd cc
+delivered_or_not (inr same) = let e : Delivered ∷ [] ≡ OutOfMemory ∷ [] = same in absurd cc
 
 no_refusal_is_told_as_delivered : (setting : Setting) (directory : Directory) → IsSpeech tells_all_as_delivered → ⊥
 no_refusal_is_told_as_delivered setting directory asked =
-    delivered_or_not (asked.answers setting directory (awaiting 1) (full ∷ []) (awaits (length directory.homes) 1 (omega arith) (omega arith))).0
+    delivered_or_not (asked.answers setting directory (awaiting 1) (unheld ∷ []) (awaits (length directory.homes) 1 (omega arith) (omega arith))).0
 
 -- The last recipient's verdict is told first: the relay keeps the wrong copy.
 abbrev tells_backwards : Speech
 tells_backwards = record lmtp { said = λ setting directory at occasion. reverse (lmtp.said setting directory at occasion) }
 
-backwards_or_not : (MailboxFull ∷ Delivered ∷ [] ≡ []) ⊎ (MailboxFull ∷ Delivered ∷ [] ≡ Delivered ∷ MailboxFull ∷ []) → ⊥
+backwards_or_not : (OutOfMemory ∷ Delivered ∷ [] ≡ []) ⊎ (OutOfMemory ∷ Delivered ∷ [] ≡ Delivered ∷ OutOfMemory ∷ []) → ⊥
 backwards_or_not (inl none) = let e : 2 ≡ 0 = ap length none in omega (arith, e)
-backwards_or_not (inr same) = let e : MailboxFull ∷ Delivered ∷ [] ≡ Delivered ∷ MailboxFull ∷ [] = same in absurd cc
+backwards_or_not (inr same) = let e : OutOfMemory ∷ Delivered ∷ [] ≡ Delivered ∷ OutOfMemory ∷ [] = same in absurd cc
 
 no_verdicts_are_told_backwards : (setting : Setting) (directory : Directory) → IsSpeech tells_backwards → ⊥
 no_verdicts_are_told_backwards setting directory asked =
-    backwards_or_not (asked.answers setting directory (awaiting 2) (Stored 7 ∷ full ∷ []) (awaits (length directory.homes) 2 (omega arith) (omega arith))).0
+    backwards_or_not (asked.answers setting directory (awaiting 2) (Stored 7 ∷ unheld ∷ []) (awaits (length directory.homes) 2 (omega arith) (omega arith))).0
 
 -- ---- sessions
 
