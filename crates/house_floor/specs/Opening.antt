@@ -1,8 +1,8 @@
 -- What is made before the first thread runs: the floor that all share, and room for what the threads will leave.
-use Rattle.std.specs.Prelude.{◌≡◌, ◌≤◌, ◌*◌, ℕ, [], All, length, map, vec_capacity}
+use Rattle.std.specs.Prelude.{◌≡◌, ◌≤◌, ◌*◌, ◌+◌, ◌-◌, ◌++◌, ℕ, List, [], All, length, map, replicate, vec_capacity}
 use Rattle.envelope.specs.Directory.{Directory}
 use Rattle.lane_work.specs.Rooms.{AreRooms}
-use Rattle.shard_queue.specs.Reply.{room_of, senders_of}
+use Rattle.shard_queue.specs.Reply.{senders_of}
 use Rattle.shard_queue.specs.Permits.{capacity_of, producers_of}
 use Rattle.house_floor.specs.Crew.{IsHouse}
 use Rattle.house_floor.specs.declared.floor.Floor.{Floor}
@@ -10,9 +10,13 @@ use Rattle.house_floor.specs.declared.opening.Baskets.{Baskets}
 use Rattle.house_floor.specs.declared.opening.Sizes.{Sizes}
 use Rattle.house_floor.specs.declared.stock.Spares.{Spares}
 
--- a reply channel has room for so many verdicts
+-- A worker's reply channel has room for so many verdicts: for those on all copies of a message.
 abbrev pub reply_room : ℕ
 reply_room = 128
+
+-- How much room the reply channel of each producer has, the workers first. A session awaits one verdict at a time: it has room for that and for each shard's end.
+abbrev pub reply_rooms : (producers sessions shards : ℕ) → List ℕ
+reply_rooms producers sessions shards = replicate (producers - sessions) reply_room ++ replicate (producers - (producers - sessions)) (shards + 1)
 
 -- the floor is that of a house with this directory, each consumer has a bell, and each queue is as large as the sizes say
 pub record IsFloor {B : Type 0} (directory : Directory) (sizes : Sizes) (floor : Floor B) : Type 0 where
@@ -25,7 +29,7 @@ pub record IsFloor {B : Type 0} (directory : Directory) (sizes : Sizes) (floor :
   pub bells : length floor.bells.items ≡ directory.shards
   pub mailboxes : length floor.depot.mailboxes.items ≡ length directory.homes
   pub lanes : All (λ q. (capacity_of q ≡ sizes.depth) × (producers_of q ≡ sizes.producers)) floor.office.lanes.items
-  pub channels : All (λ c. (room_of c ≡ reply_room) × (senders_of c ≡ directory.shards)) floor.depot.channels.items
+  pub channels : All (λ c. senders_of c ≡ directory.shards) floor.depot.channels.items
 
 -- nothing lies in these lists
 abbrev pub AreNoSpares : {B : Type 0} → Spares B → Type 0

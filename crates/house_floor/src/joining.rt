@@ -1,11 +1,11 @@
 //! A house is put together of what was made for it. Nothing is made here, so nothing is refused.
 
 ghost use Rattle.std.specs.Prelude.{◌≡◌, ◌<◌, All, length, vec_len};
-ghost use Rattle.shard_queue.specs.Reply.{room_of, senders_of};
+ghost use Rattle.shard_queue.specs.Reply.{senders_of};
 ghost use Rattle.shard_queue.specs.Permits.{capacity_of, producers_of};
 ghost use Rattle.house_floor.specs.Crew.{IsCrew};
 ghost use Rattle.house_floor.specs.inner.Making.{AreCrewLists, AreFittings, AreStock, AreUndealt, IsHall, IsWholeSeating};
-ghost use Rattle.house_floor.specs.Opening.{AreBaskets, IsFloor, reply_room};
+ghost use Rattle.house_floor.specs.Opening.{AreBaskets, IsFloor};
 
 use crate::dealing::{Undealt, deal_out};
 use crate::fittings::{Fittings, Interior, Papers};
@@ -35,7 +35,7 @@ fn lay_floor<B: Naming>(
         × All (λ q. (capacity_of q ≡ sizes.depth)
         × (producers_of q ≡ sizes.producers)) lanes.items }
     requires channels { (vec_len channels ≡ sizes.producers) ×
-        All (λ c. (room_of c ≡ reply_room) × (senders_of c ≡ directory.shards)) channels.items }
+        All (λ c. senders_of c ≡ directory.shards) channels.items }
     ensures floor { IsFloor directory sizes.entry result }
     ensures sessions { length result.depot.sessions.items ≡ length directory.homes }
     ensures lanes { result.office.lanes ≡ lanes }
@@ -250,6 +250,7 @@ pub(crate) fn put_together<B: Naming>(
     ensures crew { IsCrew result.floor sizes.entry.producers result.crew }
     ensures baskets { AreBaskets sizes.entry.producers directory.shards result.baskets }
     ensures sleepers { result.sleepers ≡ fittings.sleepers }
+    ensures channels { result.floor.depot.channels ≡ stock.channels.channels }
 {
     let (producers, shards) = (sizes.producers, directory.shards());
     let Stock {

@@ -2,9 +2,10 @@
 //! bells, and room for all that the threads will leave, so that behind the start nothing is refused but
 //! a thread. No thread is started here.
 
-ghost use Rattle.std.specs.Prelude.{◌≡◌, ◌≢◌, ◌<◌, ◌≤◌, All, IfOk, None, length, vec_len};
+ghost use Rattle.std.specs.Prelude.{◌≡◌, ◌≢◌, ◌<◌, ◌≤◌, All, IfOk, None, length, map, vec_len};
 ghost use Rattle.house_floor.specs.Crew.{AreGuests, IsCrew};
-ghost use Rattle.house_floor.specs.Opening.{AreBaskets, IsFloor};
+ghost use Rattle.shard_queue.specs.Reply.{room_of};
+ghost use Rattle.house_floor.specs.Opening.{AreBaskets, IsFloor, reply_rooms};
 ghost use Rattle.house_floor.specs.Users.{user_numbered};
 
 use crate::fittings::make_fittings;
@@ -118,6 +119,10 @@ pub fn open<B: Naming>(
     ensures floor { IfOk result (λ o. IsFloor directory sizes.entry o.floor) }
     ensures guests { IfOk result (λ o. AreGuests o.floor guests.now) }
 
+    // The last producers are the sessions: their reply channels have less room.
+    ensures rooms { IfOk result (λ o. map room_of o.floor.depot.channels.items
+        ≡ reply_rooms sizes.entry.producers (length guests.now) directory.shards) }
+
     // There is then a post for each producer and a stand for each shard, and nothing is put, taken, sent or heard yet.
     ensures crew { IfOk result (λ o. IsCrew o.floor sizes.entry.producers o.crew) }
 
@@ -128,7 +133,8 @@ pub fn open<B: Naming>(
 {
     let (front, parts, seats, tickets) = history.named::<B>();
     let fittings = make_fittings(alloc, &directory, sizes, guests, parts, &front)?;
-    let stock = make_stock(alloc, sizes.producers, directory.shards(), sizes.depth)?;
+    let (producers, sessions) = (sizes.producers, guests.len());
+    let stock = make_stock(alloc, producers, sessions, directory.shards(), sizes.depth)?;
     let seating = Seating {
         seats,
         tickets,

@@ -2,9 +2,10 @@
 //! lists for what is dealt of them and for what the threads leave. Where memory is refused on the way,
 //! all that was made by then is spent. What may be let go stands in `fittings`.
 
-ghost use Rattle.std.specs.Prelude.{◌<◌, IfOk, OnOk};
+ghost use Rattle.std.specs.Prelude.{◌≡◌, ◌<◌, All, IfOk, OnOk, map, vec_len};
+ghost use Rattle.shard_queue.specs.Reply.{room_of};
 ghost use Rattle.house_floor.specs.inner.Making.{AreEmptyLists, AreLists, AreStock};
-ghost use Rattle.house_floor.specs.Opening.{AreNoSpares, AreSpares};
+ghost use Rattle.house_floor.specs.Opening.{AreNoSpares, AreSpares, reply_rooms};
 
 use crate::floor::{Post, Stand};
 use delivery_token::REPLY_ROOM;
@@ -192,17 +193,39 @@ pub(crate) struct Stock<B: Naming> {
     pub(crate) channels: Channels<B>,
 }
 
+// How much room the reply channel of each producer has, of which the last are sessions. A session awaits one verdict at a time.
+fn reply_rooms(
+    alloc: Global,
+    producers: u8,
+    sessions: usize,
+    shards: u8,
+) -> Result<Vec<usize>, AllocError>
+    ensures rooms { IfOk result (λ r. r.items ≡ reply_rooms producers sessions shards) }
+    ensures count { IfOk result (λ r. vec_len r ≡ producers) }
+    ensures some { IfOk result (λ r. All (λ room. 0 < room) r.items) }
+{
+    let all = usize::from(producers);
+    let workers = all.saturating_sub(sessions);
+    let mut rooms = vec![in alloc; REPLY_ROOM; workers]?;
+    rooms.resize(all, usize::from(shards) + 1)?;
+    Ok(rooms)
+}
+
 /// All that can't be let go of a house with so many producers and shards, whose lanes have room for
-/// `depth` entries. An error where memory is refused; nothing is left then.
+/// `depth` entries. So many of the producers are sessions, the last. An error where memory is refused; nothing is left then.
 pub(crate) fn make_stock<B: Naming>(
     alloc: Global,
     producers: u8,
+    sessions: usize,
     shards: u8,
     depth: usize,
 ) -> Result<Stock<B>, AllocError>
     requires { 0 < depth }
-    ensures { IfOk result (λ stock. AreStock producers shards depth stock) }
+    ensures stock { IfOk result (λ stock. AreStock producers shards depth stock) }
+    ensures rooms { IfOk result (λ stock. map room_of stock.channels.channels.items
+        ≡ reply_rooms producers sessions shards) }
 {
+    let reply_rooms = reply_rooms(alloc, producers, sessions, shards)?;
     let rooms = make_rooms(alloc, producers, shards)?;
     let lists = match make_lists(alloc, producers, shards) {
         Ok(lists) => lists,
@@ -219,7 +242,7 @@ pub(crate) fn make_stock<B: Naming>(
             return Err(e);
         }
     };
-    match make_channels(alloc, producers, REPLY_ROOM, shards) {
+    match make_channels(alloc, &reply_rooms, shards) {
         Ok(channels) => Ok(Stock {
             rooms,
             lists,

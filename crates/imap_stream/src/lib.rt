@@ -1,5 +1,5 @@
 //! One IMAP client over a stream: its visit, whose answers are sent as they are made, and the berth where
-//! it is served by two threads, one that reads and one that a bell wakes. What is answered stands in
+//! it is served by one thread, which waits for its bytes, and for a bell while its session idles. What is answered stands in
 //! `imap_session`, what a call does to a mailbox in `session_thread`; sockets stand above.
 #![tactic(auto)]
 
@@ -7,5 +7,5 @@ mod berth;
 mod turns;
 mod visit;
 
-pub use berth::{Berth, Hush};
+pub use berth::{Berth, Wakes, Woken};
 pub use visit::{Visit, VisitFault};

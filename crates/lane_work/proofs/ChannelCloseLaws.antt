@@ -1,5 +1,5 @@
 -- Channels that are closed one after another.
-use Rattle.std.proofs.Common.{◌≡◌, ℕ, ◌++◌, ◌∙◌, ap, refl, sym, subst, List, [], ◌∷◌, map, append_assoc, append-nil, All, length, suc}
+use Rattle.std.proofs.Common.{◌≡◌, ℕ, ◌++◌, ◌∙◌, ap, refl, sym, subst, List, [], ◌∷◌, map, append_assoc, append-nil, All, length, suc, arith}
 use Rattle.std.proofs.lemmas.List.Elements.{All-contains, All-nil, All-cons, All-head, All-tail}
 use Rattle.delivery_token.specs.declared.log.Noted.{Noted}
 use Rattle.shard_queue.specs.declared.ends.ReplyChannel.{ReplyChannel}
@@ -68,10 +68,12 @@ histories_taken none = refl
 histories_taken (next {permits = ss} {cs = cs} q r s c is others) = ap (λ l. l ∷ map reply_history cs) is.taken ∙ ap (λ l. received s ∷ l) (histories_taken others)
 
 pub all_whole : {qs : List (ReplyChannel Noted)} {rs : List (List (SenderEnded Noted))} {ss : List (ReceiverPermit Noted)} {cs : List (ReplyClosed Noted)} → AreChannelsClosed qs rs ss cs
-    → (senders depth : ℕ) → All (λ q. (room_of q ≡ depth) × (senders_of q ≡ senders)) qs → All (λ c. IsWhole senders depth (reply_history c)) cs
-all_whole none senders depth all = All-nil (λ c. IsWhole senders depth (reply_history c))
-all_whole (next {qs = qs} {cs = cs} q r s c is others) senders depth all =
-    let P : ReplyChannel Noted → Type 0 = λ q. (room_of q ≡ depth) × (senders_of q ≡ senders) in
-    let e = All-head P q qs all in
-    All-cons (λ c. IsWhole senders depth (reply_history c)) c cs (subst (λ n. IsWhole n depth (reply_history c)) e.1 (subst (λ n. IsWhole (senders_of q) n (reply_history c)) e.0 is.whole))
-    (all_whole others senders depth (All-tail P q qs all))
+    → (senders : ℕ) → All (λ q. senders_of q ≡ senders) qs → All (λ c. IsWhole senders 0 (reply_history c)) cs
+all_whole none senders all = All-nil (λ c. IsWhole senders 0 (reply_history c))
+all_whole (next {qs = qs} {cs = cs} q r s c is others) senders all =
+    let P : ReplyChannel Noted → Type 0 = λ q. senders_of q ≡ senders in
+    let one = is.whole in
+    All-cons (λ c. IsWhole senders 0 (reply_history c)) c cs
+    (subst (λ n. IsWhole n 0 (reply_history c)) (All-head P q qs all)
+    (record { merge = record { each = one.merge.each; known = one.merge.known; within = omega arith; legal = one.merge.legal }; closed = one.closed }))
+    (all_whole others senders (All-tail P q qs all))

@@ -11,7 +11,7 @@ use Rattle.shard_queue.specs.declared.ends.ReplyChannel.{ReplyChannel}
 use Rattle.shard_queue.specs.declared.reply.SenderEnded.{SenderEnded}
 use Rattle.shard_queue.specs.declared.reply.ReceiverPermit.{ReceiverPermit}
 use Rattle.shard_queue.specs.declared.reply.ReplyClosed.{ReplyClosed}
-use Rattle.shard_queue.specs.Reply.{received, reply_history, room_of, said_on, senders_of}
+use Rattle.shard_queue.specs.Reply.{received, reply_history, said_on, senders_of}
 use Rattle.shard_queue.specs.Closing.{IsWhole}
 use Rattle.shard_queue.specs.Lane.{of}
 use Rattle.shard_queue.specs.Permits.{said, got, history, producers_of, capacity_of}
@@ -52,10 +52,10 @@ SaidOnIsHistory = (channels : List (ReplyChannel Noted)) (rows : List (List (Sen
     → (s : ℕ) (ended : List (SenderEnded Noted)) → AreSendersEnded channels s ended → AreSendersIn ended rows
     → map said_on ended ≡ map (of s) (map reply_history closed)
 
--- there is a history for each channel, it is what the channel's receiver has received, and it is whole
+-- there is a history for each channel, it is what the channel's receiver has received, and it is whole: nothing waits, so it needs no room
 abbrev pub ChannelsAreWhole : Type 0
 ChannelsAreWhole = (channels : List (ReplyChannel Noted)) (rows : List (List (SenderEnded Noted))) (permits : List (ReceiverPermit Noted))
     (closed : List (ReplyClosed Noted)) → AreChannelsClosed channels rows permits closed
     → (length closed ≡ length channels) × (map reply_history closed ≡ map received permits)
-    × ((senders room : ℕ) → All (λ q. (room_of q ≡ room) × (senders_of q ≡ senders)) channels
-    → All (λ c. IsWhole senders room (reply_history c)) closed)
+    × ((senders : ℕ) → All (λ q. senders_of q ≡ senders) channels
+    → All (λ c. IsWhole senders 0 (reply_history c)) closed)

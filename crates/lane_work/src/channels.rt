@@ -56,18 +56,16 @@ fn no_channels<B: Naming>(alloc: Global, count: usize) -> Result<Channels<B>, Al
     })
 }
 
-/// An empty channel for each of `producers` producers, with room for `depth` entries, and the permits of
+/// An empty channel for each producer, with room for so many entries as `rooms` says of it, one at least, and the permits of
 /// `senders` senders, 0 to 255 each. An error where memory is refused; nothing is left then.
 pub fn make_channels<B: Naming>(
     alloc: Global,
-    producers: u8,
-    depth: usize,
+    rooms: &[usize],
     senders: u8,
 ) -> Result<Channels<B>, AllocError>
-    requires { 0 < depth }
-    ensures count { IfOk result (λ r. vec_len r.channels ≡ producers) }
-    ensures channels { IfOk result (λ r.
-        All (λ q. (room_of q ≡ depth) × (senders_of q ≡ senders)) r.channels.items) }
+    requires { All (λ room. 0 < room) rooms.now }
+    ensures rooms { IfOk result (λ r. map room_of r.channels.items ≡ rooms.now) }
+    ensures senders { IfOk result (λ r. All (λ q. senders_of q ≡ senders) r.channels.items) }
 
     // Without an error each channel has its senders' permits, by their numbers, which sent nothing, and its receiver's, which took nothing.
     ensures permits { IfOk result (λ r.
@@ -75,9 +73,9 @@ pub fn make_channels<B: Naming>(
     ensures receivers { IfOk result (λ r. AreReceivers r.channels.items r.receivers.items
         × All (λ s. received s ≡ []) r.receivers.items) }
 {
-    let mut channels = no_channels(alloc, usize::from(producers))?;
-    for _ in 0..producers {
-        match ReplyChannel::new(alloc, depth, senders) {
+    let mut channels = no_channels(alloc, rooms.len())?;
+    for position in 0..rooms.len() {
+        match ReplyChannel::new(alloc, rooms[position], senders) {
             Ok((channel, permits, receiver)) => {
                 channels.channels.push_reserved(channel);
                 channels.permits.push_reserved(permits);

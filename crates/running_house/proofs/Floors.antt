@@ -7,12 +7,12 @@ use Rattle.envelope.specs.Directory.{Directory}
 use Rattle.shard_queue.specs.declared.ends.ReplyChannel.{ReplyChannel}
 use Rattle.delivery_token.specs.declared.log.Noted.{Noted}
 use Rattle.shard_queue.specs.declared.queue.ShardQueue.{ShardQueue}
-use Rattle.shard_queue.specs.Reply.{room_of, senders_of}
+use Rattle.shard_queue.specs.Reply.{senders_of}
 use Rattle.shard_queue.specs.Permits.{capacity_of, producers_of}
 use Rattle.lane_work.specs.Account.{Premises}
 use Rattle.lane_work.specs.Copies.{Room, rooms_of}
 use Rattle.house_floor.specs.Crew.{IsHouse}
-use Rattle.house_floor.specs.Opening.{IsFloor, reply_room}
+use Rattle.house_floor.specs.Opening.{IsFloor}
 use Rattle.house_floor.specs.declared.floor.Floor.{Floor}
 use Rattle.house_floor.specs.declared.floor.Guest.{Guest}
 use Rattle.house_floor.specs.declared.opening.Sizes.{Sizes}
@@ -52,8 +52,8 @@ floor_for plan directory sizes floor same are is =
       mailboxes = is.mailboxes ∙ ap (λ d. length d.homes) same;
       turns = is.turns ∙ are.turns;
       lanes = as_large;
-      channels = All-weaker (λ (c : ReplyChannel Noted). (room_of c ≡ reply_room) × (senders_of c ≡ directory.shards)) (λ c. (room_of c ≡ reply_room) × (senders_of c ≡ plan.config.shards))
-          (λ c h. (h.0, h.1 ∙ shards)) floor.depot.channels.items is.channels;
+      channels = All-weaker (λ (c : ReplyChannel Noted). senders_of c ≡ directory.shards) (λ c. senders_of c ≡ plan.config.shards)
+          (λ c h. h ∙ shards) floor.depot.channels.items is.channels;
     }
 
 -- it has as many producers as there are of these

@@ -23,7 +23,6 @@ use Rattle.lane_work.specs.declared.worker.Worked.{Worked}
 use Rattle.lane_work.proofs.CloseLaws as lanes
 use Rattle.lane_work.proofs.ChannelCloseLaws as channels
 use Rattle.house_floor.specs.Crew.{AllAt}
-use Rattle.house_floor.specs.Opening.{reply_room}
 use Rattle.house_floor.specs.declared.floor.Floor.{Floor}
 use Rattle.house_floor.specs.declared.floor.Guest.{Guest}
 use Rattle.house_floor.specs.Left.{IsServiceOf}
@@ -227,5 +226,5 @@ module _ {B : Type 0} (plan : Plan) (floor : Floor B) (is : IsFloorFor plan floo
         (all_emptied history (producers_in plan) plan.config.depth books.closed.lanes.items (lanes.all_whole balanced.lanes_closed.2 (producers_in plan) plan.config.depth is.lanes));
     producers = ap (λ c. length c.items) channels_are ∙ channels.closed_length balanced.channels_closed.2 ∙ is.house.channels;
     channels = subst (λ c. All (λ d. IsEmptied plan.config.shards (reply_history d)) c.items) (sym channels_are)
-        (all_emptied reply_history plan.config.shards reply_room books.closed.channels.items (channels.all_whole balanced.channels_closed.2 plan.config.shards reply_room is.channels));
+        (channels.all_whole balanced.channels_closed.2 plan.config.shards is.channels);
   }

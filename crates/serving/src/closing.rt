@@ -190,6 +190,7 @@ pub(crate) fn close_or_spend<B: Naming, H: Hall, R: Wait, L: Line>(
         grips: _,
         signs: _,
         page: _,
+        watch: _,
     } = site;
     let Workplace {
         floor,

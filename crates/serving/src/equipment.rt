@@ -4,16 +4,17 @@ ghost use Rattle.std.specs.Prelude.{◌≡◌, ◌≤◌, ◌<◌, ◌+◌, [], 
 ghost use Rattle.serving_workers.specs.Leaving.{IsOutfit};
 ghost use Rattle.serving_workers.specs.Lines.{IsFresh};
 
-use crate::sessions::ClientBerth;
+use crate::sessions::Ear;
 use crate::visiting::{Sign, signs_of};
+use crate::watch::{Lookout, Watch};
 use clerks::{Hall, Staff};
 use house_floor::Floor;
 use house_history::Naming;
 use locked_mailbox::LockedMailbox;
 use server_report::Presence;
-use serving_workers::{Buffers, Hired, Line, Lines, Outfit, Served};
+use serving_workers::{Buffers, Line, Lines, Outfit, Served};
 use std::alloc::{AllocError, Global};
-use std::sync::{Arc, Wait};
+use std::sync::Arc;
 use workers_sync::{Grip, Listening, Sleeper};
 
 /// So many bytes of a mail connection are read at once.
@@ -131,61 +132,32 @@ fn equip<L: Line>(alloc: Global, lines: Vec<L>, berths: usize) -> Result<Equipme
     })
 }
 
-/// A berth with no client, for its two threads.
-#[derive(Drop)]
-pub(crate) struct SharedBerth<'a, B: Naming, R: Wait> {
-    pub(crate) reader: Arc<ClientBerth<'a, B, R>>,
-    pub(crate) watch: Arc<ClientBerth<'a, B, R>>,
-}
-
-// A berth with no client, whose watch sleeps on this bell.
-fn shared_berth<'a, B: Naming, R: Wait>(
-    alloc: Global,
-    bell: &Sleeper,
-) -> Result<SharedBerth<'a, B, R>, AllocError> {
-    let reader = Arc::new(alloc, ClientBerth::new(bell.idling()?))?;
-    let watch = reader.clone()?;
-    Ok(SharedBerth { reader, watch })
-}
-
-// A berth with no client for each of these bells.
-fn shared_berths<'a, B: Naming, R: Wait>(
-    alloc: Global,
-    bells: &[Sleeper],
-) -> Result<Vec<SharedBerth<'a, B, R>>, AllocError>
-    ensures { IfOk result (λ berths. vec_len berths ≡ length bells.now) }
+// An ear for each of these bells, in the order of the berths.
+fn ears_of(alloc: Global, mut bells: Vec<Sleeper>) -> Result<Vec<Ear>, AllocError>
+    requires { vec_len bells < 256 }
+    ensures { IfOk result (λ ears. vec_len ears ≡ vec_len bells) }
 {
-    let mut all = Vec::with_capacity(alloc, bells.len())?;
-    for bell in bells {
-        all.push_reserved(shared_berth(alloc, bell)?);
+    let count = bells.len();
+    let mut ears = Vec::with_capacity(alloc, count)?;
+    for berth in 0..count {
+        let bell = bells.remove(0);
+        let idles = bell.idling()?;
+        ears.push_reserved(Ear {
+            berth: berth as u8,
+            bell,
+            idles,
+            waits: 0,
+        });
     }
-    Ok(all)
-}
-
-/// Room for the producers' threads, and the berths.
-#[derive(Drop)]
-pub(crate) struct Crowd<'a, B: Naming, R: Wait, L: Line> {
-    pub(crate) hired: Vec<Hired<'a, B, L>>,
-    pub(crate) berths: Vec<SharedBerth<'a, B, R>>,
-}
-
-/// Room for so many producers' threads, and a berth for each of these bells. An error where memory is refused.
-pub(crate) fn crowd_for<'a, B: Naming, R: Wait, L: Line>(
-    alloc: Global,
-    producers: usize,
-    bells: &[Sleeper],
-) -> Result<Crowd<'a, B, R, L>, AllocError>
-    ensures hired { IfOk result (λ c. (c.hired.items ≡ []) × (producers ≤ vec_capacity c.hired)) }
-    ensures berths { IfOk result (λ c. vec_len c.berths ≡ length bells.now) }
-{
-    let hired = Vec::with_capacity(alloc, producers)?;
-    let berths = shared_berths(alloc, bells)?;
-    Ok(Crowd { hired, berths })
+    Ok(ears)
 }
 
 /// All that is made before the first thread.
 pub(crate) struct Rooms<B: Naming, H: Hall, L> {
     pub(crate) grips: Grips,
+    pub(crate) watch: Watch,
+    /// For each berth.
+    pub(crate) ears: Vec<Ear>,
     pub(crate) equipment: Equipment<L>,
     pub(crate) served: Vec<Served<B, L>>,
     pub(crate) staff: Staff<B, H>,
@@ -204,17 +176,18 @@ pub(crate) fn make_rooms<B: Naming, H: Hall, L: Line, D: Lines<L> + Drop>(
     mail: D,
     lmtp: &Arc<Listening>,
     workers: usize,
-    berths: usize,
-    bells: &[Sleeper],
+    bells: Vec<Sleeper>,
+    lookout: &Lookout,
 ) -> Result<Rooms<B, H, L>, AllocError>
-    requires few { workers + berths < 256 }
+    requires few { workers + vec_len bells < 256 }
     ensures outfits { IfOk result (λ r. All (λ o. IsOutfit L.told o) r.equipment.outfits.items
         × (vec_len r.equipment.outfits ≡ workers)) }
     ensures grips { IfOk result (λ r. (vec_len r.grips.mail ≡ workers)
-        × (vec_len r.grips.clients ≡ berths)) }
-    ensures clients { IfOk result (λ r. vec_len r.equipment.client_buffers ≡ berths) }
+        × (vec_len r.grips.clients ≡ vec_len bells)) }
+    ensures clients { IfOk result (λ r. vec_len r.equipment.client_buffers ≡ vec_len bells) }
+    ensures ears { IfOk result (λ r. vec_len r.ears ≡ vec_len bells) }
     ensures served { IfOk result (λ r. (r.served.items ≡ [])
-        × (workers + berths ≤ vec_capacity r.served)) }
+        × (workers + vec_len bells ≤ vec_capacity r.served)) }
     ensures clerks { IfOk result (λ r. (r.staff.clerks.items ≡ [])
         × (length floor.now.office.lanes.items ≤ vec_capacity r.staff.clerks)) }
     ensures rooms { IfOk result (λ r. (r.staff.rooms.items ≡ [])
@@ -224,12 +197,17 @@ pub(crate) fn make_rooms<B: Naming, H: Hall, L: Line, D: Lines<L> + Drop>(
     ensures unlocked { IfOk result (λ r. (r.unlocked.items ≡ [])
         × (vec_len floor.now.depot.mailboxes ≤ vec_capacity r.unlocked)) }
     ensures lines { IfOk result (λ r. (r.lines.items ≡ [])
-        × (workers + berths ≤ vec_capacity r.lines)) }
+        × (workers + vec_len bells ≤ vec_capacity r.lines)) }
 {
     let alloc = floor.alloc;
+    let berths = bells.len();
     let grips = grips_of_all(alloc, workers, berths)?;
     let equipment = equip(alloc, mail.lines(alloc, lmtp, workers)?, berths)?;
-    let signs = signs_of(alloc, bells)?;
+    let signs = signs_of(alloc, &bells)?;
+    let Ok(watch) = Watch::new(alloc, lookout, &bells) else {
+        return Err(AllocError);
+    };
+    let ears = ears_of(alloc, bells)?;
     let presences = presences_of(alloc, workers)?;
     let unlocked = Vec::with_capacity(alloc, floor.depot.mailboxes.len())?;
     let lines = Vec::with_capacity(alloc, workers + berths)?;
@@ -240,6 +218,8 @@ pub(crate) fn make_rooms<B: Naming, H: Hall, L: Line, D: Lines<L> + Drop>(
     };
     Ok(Rooms {
         grips,
+        watch,
+        ears,
         equipment,
         served,
         staff,

@@ -20,6 +20,7 @@ mod sockets;
 mod stopping;
 mod telling;
 mod visiting;
+mod watch;
 
 pub use fault::ServeFault;
 pub use reporting::Reporting;

@@ -1,4 +1,4 @@
-//! The threads of a server: workers first, then two for each berth of a session; it is waited for the end, all are stopped and joined, and
+//! The threads of a server: workers first, then one for each berth of a session; it is waited for the end, all are stopped and joined, and
 //! the house is closed. What the threads do stands in `serving_workers` and `sessions`, the house's end in `closing`.
 
 ghost use Rattle.std.specs.Prelude.{ℕ, ◌≡◌, ◌≢◌, ◌≤◌, ◌<◌, ◌+◌, All, Err, Ok, OnOk, Some, IfOk, [], false, true, length, map, take, vec_len, vec_capacity};
@@ -16,15 +16,16 @@ ghost use Rattle.serving.specs.inner.Ending.{CameTo, FirstTakeMail};
 
 use crate::announcing::Announcer;
 use crate::closing::{Over, close_or_spend, give_up};
-use crate::equipment::{Crowd, Equipment, Rooms, crowd_for, make_rooms};
+use crate::equipment::{Equipment, Rooms, make_rooms};
 use crate::fault::ServeFault;
 use crate::limit::ClientLimit;
 use crate::reporting::{Writing, start_writing};
-use crate::sessions::{Furnishings, start_berths};
+use crate::sessions::{Ear, Furnishings, start_berths};
 use crate::site::Site;
 use crate::sockets::Sockets;
 use crate::stopping::{await_end, bytes_held, longest_lane, stop_all};
 use crate::telling::start_telling;
+use crate::watch::Lookout;
 use clerks::{Hall, Staff, Unhindered, hire_all};
 use house_floor::{Baskets, Crew, Floor, Guest, Post};
 use house_history::Naming;
@@ -60,8 +61,9 @@ struct Left<'o, B: Naming, L, W: Sink> {
 // What is dealt to the threads, and room for what the producers leave.
 struct Dealt<B: Naming, L> {
     posts: Vec<Post<B>>,
-    // The berths' ends of their bells.
-    bells: Vec<Sleeper>,
+    // What the berths' threads take in with, and the watch's.
+    ears: Vec<Ear>,
+    lookout: Lookout,
     equipment: Equipment<L>,
     served: Vec<Served<B, L>>,
 }
@@ -81,7 +83,7 @@ fn start_all<
     site: &'s Site<B, H>,
     posts: Vec<Post<B>>,
     outfits: Vec<Outfit<L>>,
-    furnishings: Furnishings<'s, B, R>,
+    furnishings: Furnishings,
     hired: Vec<Hired<'s, B, L>>,
 ) -> (Vec<Hired<'s, B, L>>, bool)
     requires lanes { H.lanes ≡ Some site.now.workplace.floor.office.lanes.items }
@@ -95,9 +97,8 @@ fn start_all<
     requires outfits { All (λ o. IsOutfit L.told o) outfits.items
         × (vec_len outfits ≡ length site.now.grips.mail.items) }
     requires client_grips { length site.now.grips.clients.items ≡ length site.now.guests.items }
-    requires berths { vec_len furnishings.berths ≡ length site.now.guests.items }
-    requires bells { (vec_len furnishings.bells ≡ length site.now.guests.items)
-        × (vec_len furnishings.buffers ≡ length site.now.guests.items) }
+    requires ears { vec_len furnishings.ears ≡ length site.now.guests.items }
+    requires buffers { vec_len furnishings.buffers ≡ length site.now.guests.items }
     requires room { (hired.items ≡ [])
         × (length site.now.workplace.floor.depot.channels.items ≤ vec_capacity hired) }
     requires imap { All (λ v. v.user < vec_len site.now.imap) site.now.guests.items }
@@ -137,7 +138,7 @@ fn start_and_tell<
     site: &'s Site<B, H>,
     posts: Vec<Post<B>>,
     outfits: Vec<Outfit<L>>,
-    furnishings: Furnishings<'s, B, R>,
+    furnishings: Furnishings,
     hired: Vec<Hired<'s, B, L>>,
     lines: &[u8],
     announcer: Announcer<'o, W>,
@@ -153,9 +154,8 @@ fn start_and_tell<
     requires outfits { All (λ o. IsOutfit L.told o) outfits.items
         × (vec_len outfits ≡ length site.now.grips.mail.items) }
     requires client_grips { length site.now.grips.clients.items ≡ length site.now.guests.items }
-    requires berths { vec_len furnishings.berths ≡ length site.now.guests.items }
-    requires bells { (vec_len furnishings.bells ≡ length site.now.guests.items)
-        × (vec_len furnishings.buffers ≡ length site.now.guests.items) }
+    requires ears { vec_len furnishings.ears ≡ length site.now.guests.items }
+    requires buffers { vec_len furnishings.buffers ≡ length site.now.guests.items }
     requires room { (hired.items ≡ [])
         × (length site.now.workplace.floor.depot.channels.items ≤ vec_capacity hired) }
     requires imap { All (λ v. v.user < vec_len site.now.imap) site.now.guests.items }
@@ -347,7 +347,8 @@ fn in_scope<
 {
     let Dealt {
         posts,
-        bells,
+        ears,
+        lookout,
         equipment,
         served,
     } = ManuallyDrop::into_inner(dealt);
@@ -355,7 +356,7 @@ fn in_scope<
         site.workplace.floor.alloc,
         site.workplace.floor.depot.channels.len(),
     );
-    let Ok(Crowd { hired, berths }) = crowd_for(alloc, producers, &bells) else {
+    let Ok(hired) = Vec::with_capacity(alloc, producers) else {
         let over = untried(served, posts, true);
         return Left { over, announcer };
     };
@@ -368,9 +369,9 @@ fn in_scope<
         client_buffers,
     } = equipment;
     let furnishings = Furnishings {
-        berths,
-        bells,
+        ears,
         buffers: client_buffers,
+        lookout,
     };
     let begin = start_and_tell::<E, B, H, R, L, W>(
         scope,
@@ -585,18 +586,20 @@ pub(crate) fn run_house_in<
         unmanned,
     } = crew;
     unmanned.destroy_empty();
-    let Ok(rooms) = make_rooms::<B, H, L, D>(
-        &floor,
-        mail,
-        &sockets.lmtp,
-        workers,
-        guests.len(),
-        &bells,
-    ) else {
+    let Sockets {
+        lmtp,
+        imap,
+        pause,
+        page,
+        lookout,
+    } = sockets;
+    let Ok(rooms) = make_rooms::<B, H, L, D>(&floor, mail, &lmtp, workers, bells, &lookout) else {
         return Err(give_up(floor, worked, consumed, stands, posts, baskets));
     };
     let Rooms {
         grips,
+        watch,
+        ears,
         equipment,
         served,
         staff,
@@ -610,12 +613,6 @@ pub(crate) fn run_house_in<
         rooms,
         stands,
     } = hire_all(&floor, stands, staff);
-    let Sockets {
-        lmtp,
-        imap,
-        pause,
-        page,
-    } = sockets;
     let workplace = Workplace {
         floor,
         clerks,
@@ -638,10 +635,12 @@ pub(crate) fn run_house_in<
         grips,
         signs,
         page,
+        watch,
     };
     let dealt = Dealt {
         posts,
-        bells,
+        ears,
+        lookout,
         equipment,
         served,
     };

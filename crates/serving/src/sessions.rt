@@ -1,5 +1,5 @@
-//! The threads of a berth: one accepts a user's clients, one at a time, and answers them, and what they append goes by way of the lanes;
-//! the other sleeps until a change was logged. What is answered stands in `imap_stream`.
+//! The thread of a berth: it accepts a user's clients, one at a time, and answers them, and what they append goes by way of the lanes. While its
+//! client idles it waits for changes too. What is answered stands in `imap_stream`.
 
 ghost use Rattle.std.specs.Prelude.{◌≡◌, ◌≤◌, ◌<◌, ◌+◌, ℕ, [], All, IfSome, List, Option, Some, false, length, map, slice_get, true, vec_len, vec_capacity};
 ghost use Rattle.std.specs.List.{list_all};
@@ -17,16 +17,16 @@ ghost use Rattle.serving.specs.inner.Visiting.{IsVisitOf};
 ghost use Rattle.clerks.specs.Keeping.{parts_of};
 ghost use Rattle.serving_workers.specs.Leaving.{AreAttended, IsHired, IsServed, has_thread, serves_mail};
 
-use crate::equipment::SharedBerth;
 use crate::limit::{ClientLimit, turn_away};
 use crate::site::Site;
 use crate::visiting::{Incoming, Sign, Signed, Visitor};
+use crate::watch::{Lookout, Watch, start_watch};
 use clerks::{Hall, Unhindered};
 use envelope::Directory;
 use house_floor::{Floor, Post, inbox_numbered, most_of};
 use house_history::{Letter, Naming};
 use imap_session::{admission_of, folders_of};
-use imap_stream::{Berth, Hush, Visit};
+use imap_stream::{Berth, Visit};
 use lane_work::{Context, Desk, LaneCourier, Summons, end_all};
 use line_io::{Sink, Watched};
 use server_report::{Happened, LogBook, Presence};
@@ -37,29 +37,17 @@ use session_thread::LockedStore;
 use shard_queue::Ended;
 use std::mem::ManuallyDrop;
 use std::net::TcpStream;
+use std::sync::atomic::AtomicBool;
 use std::sync::{Arc, Wait};
 use std::thread;
 use std::thread::Threads;
-use workers_sync::{Actor, Courier, Grip, Listening, Pace, Patience, Sleeper, Timely};
+use workers_sync::{Actor, Courier, Listening, Pace, Patience, Sleeper, Timely};
 
 /// Where a client's answers go.
 type ClientOutput<'a> = Signed<'a, Watched<Timely<TcpStream>>>;
 
-/// Where one client of a user is served at a time.
-pub(crate) type ClientBerth<'a, B, R> = Berth<'a, B, R, Unhindered, ClientOutput<'a>>;
-
-// The connection that a berth's thread has at hand, for the watch beside it. It comes to hand before its visit stands in the berth, and
-// the next one only when that visit was taken out: see `answer_clients`.
-#[derive(Drop)]
-struct AtHand<'s> {
-    grip: &'s Grip,
-}
-
-impl Hush for AtHand<'_> {
-    fn hush<R: Wait>(&self, rt: &R) {
-        self.grip.hush(rt);
-    }
-}
+// The visit of a client.
+type ClientVisit<'a, B, R> = Visit<'a, B, R, Unhindered, ClientOutput<'a>>;
 
 /// Where a berth's clients come in, which berth it is, and what they find there.
 #[derive_where(Clone, Copy)]
@@ -80,6 +68,8 @@ pub(crate) struct Gateway<'s, B: Naming> {
     pub(crate) limit: Option<&'s ClientLimit>,
     /// What its client's session is seen to do.
     pub(crate) sign: Option<&'s Sign>,
+    /// The watch over clients whose sessions idle.
+    pub(crate) watch: &'s Watch,
     /// How many clients it has had before the one that it serves.
     pub(crate) serial: u64,
 }
@@ -122,6 +112,7 @@ fn gateway_of<B: Naming, H: Hall>(site: &Site<B, H>, session: u8) -> Gateway<'_,
         compatible: site.compatible,
         limit: site.limits.get(usize::from(user)),
         sign: site.signs.get(berth),
+        watch: &site.watch,
         serial: 0,
     }
 }
@@ -202,68 +193,33 @@ fn how_it_ended<B: Naming>(
     read
 }
 
-// The berth has this visit from now on, which is of its user. It has no other: this thread alone brings clients there.
-fn admit_visit<'a, B: Naming, R: Wait>(
-    rt: &'a R,
-    berth: &ClientBerth<'a, B, R>,
-    _gateway: &Gateway<'a, B>,
-    visit: Visit<'a, B, R, Unhindered, ClientOutput<'a>>,
-)
-    requires visit { (before : Option (List ℕ))
-        × IsVisitOf _gateway.now.floor.now _gateway.now.compatible _gateway.now.user before visit }
-{
-    let _ = berth.admit(rt, visit);
+// Room for a visit; None where memory is refused. The visit is opened once that is there, so that it is moved once.
+#[inline(never)]
+fn room_for_visit<'a, B: Naming, R: Wait>(
+    gateway: &Gateway<'a, B>,
+) -> Option<Box<Option<ClientVisit<'a, B, R>>>> {
+    Box::new(gateway.floor.alloc, None).ok()
 }
 
-// Greets a client, whose visit the berth has from then on; and whether that could be done. Its frame has room for the visit, and is gone while
-// the client is served.
+// Greets a client, and puts its visit into the room, where it could be opened. Its frame is as large as a visit, and is gone while the client is
+// served.
 #[inline(never)]
 fn admit_client<'a, B: Naming, R: Wait>(
     rt: &'a R,
-    berth: &ClientBerth<'a, B, R>,
     gateway: &Gateway<'a, B>,
     output: Watched<Timely<TcpStream>>,
-) -> bool
+    room: &mut Option<ClientVisit<'a, B, R>>,
+)
     requires live { ⟦<Watched<Timely<TcpStream>> as Sink>⟧.failed output ≡ false }
 {
     let output = Signed::new(output, gateway.sign);
-    let Some(visit) = open_visit(rt, gateway, output) else {
-        return false;
-    };
-    admit_visit(rt, berth, gateway, visit);
-    true
-}
-
-// The client that the berth has, from its first byte to its end; and how it ended.
-fn attend_client<'a, B: Naming, R: Wait, C: Courier>(
-    rt: &'a R,
-    berth: &ClientBerth<'a, B, R>,
-    courier: &mut C,
-    gateway: &Gateway<'a, B>,
-    stream: &TcpStream,
-    buffer: &mut Vec<u8>,
-) -> Happened
-    requires ready { C.ready courier.old }
-    ensures ready { C.ready courier.new }
-    ensures kept { (first : C) → C.kept first courier.old → C.kept first courier.new }
-{
-    let visitor = visitor_of(gateway);
-    let mut input = Incoming::new(rt, stream, visitor);
-    berth.attend(
-        rt,
-        gateway.floor.alloc,
-        courier,
-        &mut input,
-        buffer,
-        &gateway.door.mark.stop,
-    );
-    how_it_ended(gateway, visitor, input.end())
+    *room = open_visit(rt, gateway, output);
 }
 
 // One client, from the greeting to its end; and how it ended.
 fn serve_client<'a, B: Naming, R: Wait, C: Courier>(
     rt: &'a R,
-    berth: &ClientBerth<'a, B, R>,
+    ear: &mut Ear,
     courier: &mut C,
     gateway: &Gateway<'a, B>,
     stream: &TcpStream,
@@ -275,10 +231,29 @@ fn serve_client<'a, B: Naming, R: Wait, C: Courier>(
     ensures ready { C.ready courier.new }
     ensures kept { (first : C) → C.kept first courier.old → C.kept first courier.new }
 {
-    if !admit_client(rt, berth, gateway, output) {
+    let Some(mut room) = room_for_visit(gateway) else {
         return Happened::OutOfMemory;
-    }
-    attend_client(rt, berth, courier, gateway, stream, buffer)
+    };
+    admit_client(rt, gateway, output, &mut *room);
+    let Some(visit) = &mut *room else {
+        return Happened::OutOfMemory;
+    };
+    let visitor = visitor_of(gateway);
+    let berth = Berth {
+        idles: &*ear.idles,
+        stop: &gateway.door.mark.stop,
+    };
+    let mut input = Incoming::new(
+        rt,
+        stream,
+        visitor,
+        gateway.watch,
+        ear.berth,
+        &ear.bell,
+        &mut ear.waits,
+    );
+    berth.attend(rt, gateway.floor.alloc, visit, courier, &mut input, buffer);
+    how_it_ended(gateway, visitor, input.end())
 }
 
 // A client that is one too many is told so, unless the house stops; and how it ended.
@@ -296,7 +271,7 @@ fn send_away(door: Door<'_>, mut output: Watched<Timely<TcpStream>>) -> Happened
 // One client, served in its turn where there is a limit, or sent away; and how it ended.
 fn serve_in_turn<'a, B: Naming, R: Wait, C: Courier>(
     rt: &'a R,
-    berth: &ClientBerth<'a, B, R>,
+    ear: &mut Ear,
     courier: &mut C,
     gateway: &Gateway<'a, B>,
     stream: &TcpStream,
@@ -309,12 +284,12 @@ fn serve_in_turn<'a, B: Naming, R: Wait, C: Courier>(
     ensures kept { (first : C) → C.kept first courier.old → C.kept first courier.new }
 {
     let Some(limit) = gateway.limit else {
-        return serve_client(rt, berth, courier, gateway, stream, output, buffer);
+        return serve_client(rt, ear, courier, gateway, stream, output, buffer);
     };
     if !limit.wait_for_turn(rt, &gateway.door) {
         return send_away(gateway.door, output);
     }
-    let end = serve_client(rt, berth, courier, gateway, stream, output, buffer);
+    let end = serve_client(rt, ear, courier, gateway, stream, output, buffer);
     limit.release(rt);
     end
 }
@@ -323,7 +298,7 @@ fn serve_in_turn<'a, B: Naming, R: Wait, C: Courier>(
 // hand, so the mark is looked at behind that.
 fn receive<'a, B: Naming, R: Wait, C: Courier>(
     rt: &'a R,
-    berth: &ClientBerth<'a, B, R>,
+    ear: &mut Ear,
     courier: &mut C,
     gateway: &Gateway<'a, B>,
     line: &SocketLine<&'a Listening>,
@@ -340,7 +315,7 @@ fn receive<'a, B: Naming, R: Wait, C: Courier>(
         let visitor = visitor_of(gateway);
         visitor.open(rt);
         gateway.door.show(gateway.serial);
-        let end = serve_in_turn(rt, berth, courier, gateway, &input, output, buffer);
+        let end = serve_in_turn(rt, ear, courier, gateway, &input, output, buffer);
         visitor.tell(rt, end);
         gateway.door.part(line, &input, buffer.as_mut_slice());
         gateway.door.hide();
@@ -352,10 +327,10 @@ fn receive<'a, B: Naming, R: Wait, C: Courier>(
 // that wasn't the verdict on a message, or the serials are spent: then nobody is served any more.
 fn answer_clients<'a, B: Naming, R: Wait, S: Summons>(
     rt: &'a R,
-    berth: &ClientBerth<'a, B, R>,
+    mut ear: Ear,
+    mut buffer: Vec<u8>,
     courier: &mut LaneCourier<'_, B, R, S, LogBook<'_, R>>,
     gateway: Gateway<'a, B>,
-    mut buffer: Vec<u8>,
 )
     requires ready { IsReady courier.old.context.office.now courier.old.context.channel.now
         courier.old.desk }
@@ -385,7 +360,7 @@ fn answer_clients<'a, B: Naming, R: Wait, S: Summons>(
         };
         courier.serial = serial;
         let gateway = Gateway { serial, ..gateway };
-        receive(rt, berth, courier, &gateway, &line, call, &mut buffer);
+        receive(rt, &mut ear, courier, &gateway, &line, call, &mut buffer);
     }
 }
 
@@ -450,11 +425,11 @@ fn leave<B: Naming, R: Wait, S: Summons, L>(
 fn attend_there<'a, B: Naming, H: Hall, R: Wait, L: Line>(
     rt: &'a R,
     site: &'a Site<B, H>,
-    berth: Arc<ClientBerth<'a, B, R>>,
+    ear: Ear,
+    buffer: Vec<u8>,
     session: u8,
     number: u8,
     post: ManuallyDrop<Post<B>>,
-    buffer: Vec<u8>,
 ) -> ManuallyDrop<Served<B, L>>
     requires lanes { H.lanes ≡ Some site.now.workplace.floor.office.lanes.items }
     requires depot { H.depot ≡ Some (parts_of site.now.workplace.floor.depot) }
@@ -488,22 +463,11 @@ fn attend_there<'a, B: Naming, H: Hall, R: Wait, L: Line>(
         book: LogBook::new(rt, floor.alloc, door.log, door.names),
         is_torn: false,
     };
-    answer_clients(rt, &berth, &mut courier, gateway, buffer);
+    answer_clients(rt, ear, buffer, &mut courier, gateway);
     packed(leave(courier, gate, session, room))
 }
 
-// The life of the thread that shows a client what there is, until the house stops.
-fn watch_clients<'a, B: Naming, R: Wait>(
-    rt: &R,
-    berth: &ClientBerth<'a, B, R>,
-    bell: &Sleeper,
-    mark: &Mark,
-    grip: &Grip,
-) {
-    berth.keep_watch(rt, bell, &mark.stop, &AtHand { grip });
-}
-
-// Starts the thread of a berth that answers. Where none can be made the house's mark has to be set before what came of it can be had: so
+// Starts the thread of a berth. Where none can be made the house's mark has to be set before what came of it can be had: so
 // nobody is served there, and its permits are ended here.
 fn start_answering<
     's,
@@ -516,11 +480,11 @@ fn start_answering<
     scope: &thread::Scope<'s, E>,
     rt: &'s R,
     site: &'s Site<B, H>,
-    berth: Arc<ClientBerth<'s, B, R>>,
+    ear: Ear,
+    buffer: Vec<u8>,
     session: u8,
     number: u8,
     post: Post<B>,
-    buffer: Vec<u8>,
 ) -> Hired<'s, B, L>
     requires lanes { H.lanes ≡ Some site.now.workplace.floor.office.lanes.items }
     requires depot { H.depot ≡ Some (parts_of site.now.workplace.floor.depot) }
@@ -557,7 +521,7 @@ fn start_answering<
             ensures served { IsServed L.told site.entry.now.workplace.floor number
                 (manually_drop_value result) }
             ensures mail { (manually_drop_value result).mail ≡ false }
-        { attend_there::<B, H, R, L>(rt, site, berth, session, number, parcel, buffer) },
+        { attend_there::<B, H, R, L>(rt, site, ear, buffer, session, number, parcel) },
     ) {
         Ok(child) => Hired::There(child),
         Err(refused) => {
@@ -567,37 +531,30 @@ fn start_answering<
     }
 }
 
-// Starts the thread of a berth that watches, and says whether it could be made. Where it can't be the house's mark is set, and the one that
-// answers serves nobody.
-fn start_watching<'s, E, B: Naming + Send + Sync, R: Threads + Wait + Sync>(
-    scope: &thread::Scope<'s, E>,
-    rt: &'s R,
-    berth: Arc<ClientBerth<'s, B, R>>,
-    gateway: Gateway<'s, B>,
-    bell: Sleeper,
-) -> bool {
-    let (mark, grip) = (gateway.door.mark, gateway.door.grip);
-    let watches = scope.spawn(move || watch_clients(rt, &berth, &bell, mark, grip));
-    if watches.is_err() {
-        mark.set();
-        return false;
-    }
-    true
+/// What the thread of a berth takes in with.
+#[derive(Drop)]
+pub(crate) struct Ear {
+    /// The berth's number among all of the house.
+    pub(crate) berth: u8,
+    /// Its end of its session's bell.
+    pub(crate) bell: Sleeper,
+    /// The mark that its session idles.
+    pub(crate) idles: Arc<AtomicBool>,
+    /// So many waits it has had while its sessions idled.
+    pub(crate) waits: u64,
 }
 
-/// What the berths' threads are given, for each berth one of each.
+/// What the berths' threads are given: for each berth one of each, and what the watch's thread waits with.
 #[derive(Drop)]
-pub(crate) struct Furnishings<'s, B: Naming, R: Wait> {
-    /// The berth itself, for both threads.
-    pub(crate) berths: Vec<SharedBerth<'s, B, R>>,
-    /// The bell on which its watch sleeps.
-    pub(crate) bells: Vec<Sleeper>,
+pub(crate) struct Furnishings {
+    pub(crate) ears: Vec<Ear>,
     /// For what comes of its clients.
     pub(crate) buffers: Vec<Vec<u8>>,
+    pub(crate) lookout: Lookout,
 }
 
-/// Starts two threads for each berth, with these posts, which are those behind the workers'. The threads that answer go behind those in
-/// `hired`, which has room for them. Says whether each of these has a thread, the workers' too, and each berth its watch. Where a thread
+/// Starts a thread for each berth, with these posts, which are those behind the workers'. They go behind those in
+/// `hired`, which has room for them. Says whether each of these has a thread, the workers' too, and the watch. Where a thread
 /// can't be made the mark is set; nobody is accepted while its start is held, as the caller does.
 pub(crate) fn start_berths<
     's,
@@ -610,7 +567,7 @@ pub(crate) fn start_berths<
     scope: &thread::Scope<'s, E>,
     rt: &'s R,
     site: &'s Site<B, H>,
-    mut furnishings: Furnishings<'s, B, R>,
+    furnishings: Furnishings,
     mut posts: Vec<Post<B>>,
     mut hired: Vec<Hired<'s, B, L>>,
 ) -> (Vec<Hired<'s, B, L>>, bool)
@@ -618,10 +575,9 @@ pub(crate) fn start_berths<
     requires depot { H.depot ≡ Some (parts_of site.now.workplace.floor.depot) }
     requires house { IsHouse site.now.workplace.floor
         (length site.now.workplace.floor.depot.channels.items) }
-    requires berths { vec_len furnishings.berths ≡ length site.now.guests.items }
-    requires grips { length site.now.grips.clients.items ≡ length site.now.guests.items }
-    requires bells { vec_len furnishings.bells ≡ length site.now.guests.items }
+    requires ears { vec_len furnishings.ears ≡ length site.now.guests.items }
     requires buffers { vec_len furnishings.buffers ≡ length site.now.guests.items }
+    requires grips { length site.now.grips.clients.items ≡ length site.now.guests.items }
     requires posts { AllAt (IsPost site.now.workplace.floor) (vec_len hired) posts.items
         × (vec_len posts ≡ length site.now.guests.items) }
     requires all { vec_len hired + length site.now.guests.items
@@ -635,22 +591,32 @@ pub(crate) fn start_berths<
     ensures count { vec_len result.0 ≡ length site.now.workplace.floor.depot.channels.items }
     ensures all { result.1 ≡ true → list_all has_thread result.0.items ≡ true }
 {
-    let mut are_watched = true;
+    let Furnishings {
+        mut ears,
+        mut buffers,
+        lookout,
+    } = furnishings;
+    let is_watched = start_watch::<E, B, H, R>(scope, rt, site, lookout);
+    if !is_watched {
+        site.workplace.mark.set();
+    }
     for berth in 0..site.guests.len() {
-        let session = berth as u8;
-        let gateway = gateway_of(site, session);
-        let SharedBerth { reader, watch } = furnishings.berths.remove(0);
-        let (bell, buffer) = (furnishings.bells.remove(0), furnishings.buffers.remove(0));
+        let (ear, buffer) = (ears.remove(0), buffers.remove(0));
         let number = hired.len() as u8;
         let post = posts.remove(0);
         let one = start_answering::<E, B, H, R, L>(
-            scope, rt, site, reader, session, number, post, buffer,
+            scope,
+            rt,
+            site,
+            ear,
+            buffer,
+            berth as u8,
+            number,
+            post,
         );
         hired.push_reserved(one);
-        let is_watched = start_watching(scope, rt, watch, gateway, bell);
-        are_watched = are_watched && is_watched;
     }
     posts.destroy_empty();
-    let all = have_threads(&hired) && are_watched;
+    let all = have_threads(&hired) && is_watched;
     (hired, all)
 }

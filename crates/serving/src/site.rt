@@ -4,6 +4,7 @@ use crate::equipment::Grips;
 use crate::limit::ClientLimit;
 use crate::page::Page;
 use crate::visiting::Sign;
+use crate::watch::Watch;
 use clerks::{Hall, Unhindered};
 use house_floor::Guest;
 use house_history::Naming;
@@ -31,4 +32,6 @@ pub(crate) struct Site<B: Naming, H: Hall> {
     pub(crate) signs: Vec<Sign>,
     /// Where the page is asked for, if there is one.
     pub(crate) page: Option<Page>,
+    /// What waits for clients whose sessions idle, and wakes their threads.
+    pub(crate) watch: Watch,
 }

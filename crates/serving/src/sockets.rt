@@ -7,6 +7,7 @@ ghost use Rattle.serving.specs.inner.Faults.{IsOfSocket};
 
 use crate::fault::{ServeFault, device_or_memory};
 use crate::page::Page;
+use crate::watch::Lookout;
 use std::alloc::{AllocError, Global};
 use std::net::{Net, TcpListener, TcpStream};
 use std::sync::Arc;
@@ -21,6 +22,8 @@ pub(crate) struct Sockets {
     pub(crate) pause: Pause,
     /// Where the page is asked for, if there is to be one.
     pub(crate) page: Option<Page>,
+    /// What waits for clients whose sessions idle.
+    pub(crate) lookout: Lookout,
 }
 
 /// The ports of the listeners.
@@ -193,6 +196,10 @@ pub(crate) fn open_sockets<R: Net<Listener = TcpListener, Stream = TcpStream>>(
         Ok(lmtp) => lmtp,
         Err(refused) => return Err(AllocError::from(refused).into()),
     };
+    let lookout = match Lookout::new(rt, alloc) {
+        Ok(lookout) => lookout,
+        Err(error) => return Err(device_or_memory(&error)),
+    };
     match Pause::new(rt) {
         Ok(pause) => Ok(Open {
             sockets: Sockets {
@@ -200,6 +207,7 @@ pub(crate) fn open_sockets<R: Net<Listener = TcpListener, Stream = TcpStream>>(
                 imap: users.listening,
                 pause,
                 page,
+                lookout,
             },
             ports: Ports {
                 mail: mail.port,

@@ -32,7 +32,7 @@ fn wake_each(bells: &[SessionBell]) {
     }
 }
 
-// Wakes each watch: a session's bells stand at each of its user's mailboxes.
+// Wakes each thread that waits for a session's client: a session's bells stand at each of its user's mailboxes.
 fn wake_all(rows: &[Vec<SessionBell>]) {
     for bells in rows {
         wake_each(bells);
@@ -104,13 +104,14 @@ fn give_grace<B: Naming, H: Hall, R: Wait>(rt: &R, site: &Site<B, H>) {
     }
 }
 
-/// Stops the house: it is marked, nothing is accepted any more, no thread hears its peer any more, each watch is woken; and what is at
-/// hand some five seconds later is cut.
+/// Stops the house: it is marked, nothing is accepted any more, no thread hears its peer any more, each that waits for a bell is woken; and what is
+/// at hand some five seconds later is cut.
 pub(crate) fn stop_all<B: Naming, H: Hall, R: Wait>(rt: &R, site: &Site<B, H>) {
     site.workplace.mark.set();
     shut_listeners(site);
     hush_all(rt, site);
     wake_all(&site.workplace.floor.depot.sessions);
+    site.watch.stop();
     give_grace(rt, site);
     cut_all(rt, site);
 }

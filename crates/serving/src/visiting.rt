@@ -3,6 +3,8 @@
 
 ghost use Rattle.std.specs.Prelude.{◌≡◌};
 
+use crate::watch::Watch;
+use imap_stream::{Wakes, Woken};
 use line_io::Sink;
 use server_report::{Caller, Happened, Log, Presence};
 use std::alloc::{AllocError, Global};
@@ -182,6 +184,13 @@ pub(crate) struct Incoming<'s, 't, R: Wait> {
     rt: &'s R,
     stream: &'t TcpStream,
     visitor: Visitor<'s>,
+    watch: &'s Watch,
+    // The berth's number, its end of its bell, and how many waits it has had.
+    berth: u8,
+    bell: &'t Sleeper,
+    waits: &'t mut u64,
+    // Whether the watch looks at what comes since the last read.
+    is_looked_at: bool,
     idled: bool,
     end: Happened,
 }
@@ -192,18 +201,30 @@ impl<'s, 't, R: Wait> Incoming<'s, 't, R> {
         rt: &'s R,
         stream: &'t TcpStream,
         visitor: Visitor<'s>,
+        watch: &'s Watch,
+        berth: u8,
+        bell: &'t Sleeper,
+        waits: &'t mut u64,
     ) -> Incoming<'s, 't, R> {
         Incoming {
             rt,
             stream,
             visitor,
+            watch,
+            berth,
+            bell,
+            waits,
+            is_looked_at: false,
             idled: false,
             end: Happened::Quit,
         }
     }
 
-    /// How reading ended; and where the peer has not ended it, that the session did.
+    /// How reading ended; and where the peer has not ended it, that the session did. It isn't looked at any more.
     pub(crate) fn end(&self) -> Happened {
+        if self.is_looked_at {
+            self.watch.let_go(self.stream);
+        }
         self.end
     }
 
@@ -233,5 +254,26 @@ impl<'s, 't, R: Wait> Read for Incoming<'s, 't, R> {
         let read = stream.read(buffer);
         self.note(&read);
         read
+    }
+}
+
+impl<'s, 't, R: Wait> Wakes for Incoming<'s, 't, R> {
+    fn wait(&mut self) -> Woken {
+        self.look();
+        if !self.is_looked_at {
+            *self.waits = self.waits.wrapping_add(1);
+            let wait = *self.waits;
+            if self.watch.look_at(self.berth, wait, self.stream).is_err() {
+                return Woken::Peer;
+            }
+            self.is_looked_at = true;
+        }
+        self.bell.sleep(self.rt);
+        if !self.watch.has_ended(self.berth, *self.waits) {
+            return Woken::Bell;
+        }
+        self.watch.let_go(self.stream);
+        self.is_looked_at = false;
+        Woken::Peer
     }
 }

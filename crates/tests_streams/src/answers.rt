@@ -4,7 +4,7 @@ ghost use Rattle.std.specs.Prelude.{◌≡◌};
 
 use crate::houses::{TestHouse, open_house};
 use crate::imap::{SMALL, deliver, nobody, open};
-use crate::wires::{Marks, Tally, Wire};
+use crate::wires::{Tally, Wire};
 use delivery_token::Text;
 use house_history::{Naming, Opened};
 use imap_session::After;
@@ -92,8 +92,8 @@ fn told_by<B: Naming, R: Wait>(
     sends: usize,
 ) -> Option<(bool, Vec<u8>)> {
     let told = Mutex::new(Vec::new(alloc));
-    let (tally, marks) = (Tally::new(), Marks::new());
-    let wire = Wire::new(rt, &told, sends, &marks.told);
+    let tally = Tally::new();
+    let wire = Wire::new(rt, &told, sends);
     let answered = match open(rt, alloc, house, &tally, None, wire) {
         Some(mut visit) => Some(ask(rt, alloc, house, &mut visit, question)),
         None => None,

@@ -1,4 +1,4 @@
-//! Clients that are served over byte strings, by one thread and by three. What they are told is written
+//! Clients that are served over byte strings. What they are told is written
 //! in RFC 9051, 6.3.2, 6.4.5, 7.1.4, 7.1.5 and 7.4, and in RFC 2177.
 
 ghost use Rattle.std.specs.Prelude.{◌≡◌, false};
@@ -6,22 +6,21 @@ ghost use Rattle.std.specs.Prelude.{◌≡◌, false};
 use crate::houses::{TestHouse, open_house};
 use crate::sessions::store_of;
 use crate::stream_couriers::TestCourier;
-use crate::wires::{Marks, Tally, Wire, wait_until};
+use crate::wires::{Prompt, Tally, Wire};
 use budget::Budget;
 use change_ring::NO_FLAGS;
 use delivery_token::{Text, Verdict};
 use house_history::{Naming, Opened};
 use imap_session::{Admission, After, Folder, Profile};
-use imap_stream::{Berth, Visit, VisitFault};
+use imap_stream::{Berth, Visit, VisitFault, Wakes, Woken};
 use line_io::Watched;
 use mailbox::Limits;
 use std::alloc::{AllocError, Global};
 use std::io::{self, Error, ErrorKind, Read, Write};
 use std::marker::Brand;
 use std::sync::atomic::{AtomicBool, Ordering};
-use std::sync::{Arc, Mutex, Wait};
-use std::thread::{self, Threads, join};
-use workers_sync::{Courier, Lost, SessionBell, Sleeper};
+use std::sync::{Mutex, Wait};
+use workers_sync::{Courier, Lost};
 
 // Two changes are kept: a client that misses three has fallen behind.
 pub(crate) const SMALL: Limits = Limits {
@@ -37,42 +36,44 @@ struct Nap {
     messages: u8,
     // So many sends reach it.
     sends: usize,
-    // What it says once it was shown a message. Where that is nothing, its read waits until its line
-    // is hushed.
+    // What it says once it was shown a message. Where that is nothing, it says nothing more, and its bell rings.
     says: &'static [u8],
     // What it is told behind `OPENING`.
     told: &'static [u8],
 }
 
-// A client that idles.
+// A client that idles, in a house where messages come meanwhile.
 #[derive(Drop)]
-struct Idler<'a> {
-    reads: u8,
-    marks: &'a Marks,
+struct Idler<'a, B: Naming, R: Wait> {
+    rt: &'a R,
+    house: &'a TestHouse<B>,
+    text: &'a Text,
     nap: &'a Nap,
+    reads: u8,
+    waits: u8,
+    are_stored: bool,
 }
 
-impl Idler<'_> {
-    // Waits for what ends the nap.
-    fn wait(&self) {
-        self.marks.waits.store(true, Ordering::SeqCst);
-        if self.nap.says.is_empty() {
-            wait_until(&self.marks.hushed);
-        } else {
-            wait_until(&self.marks.told);
+impl<B: Naming, R: Wait> Wakes for Idler<'_, B, R> {
+    // The first wait ends with the bell, behind so many messages.
+    fn wait(&mut self) -> Woken {
+        self.waits = self.waits.saturating_add(1);
+        if self.waits > 1 {
+            return Woken::Peer;
         }
+        for _ in 0..self.nap.messages {
+            self.are_stored &= bring_one(self.rt, self.house, self.text);
+        }
+        Woken::Bell
     }
 }
 
-impl Read for Idler<'_> {
+impl<B: Naming, R: Wait> Read for Idler<'_, B, R> {
     fn read(&mut self, buf: &mut [u8]) -> io::Result<usize> {
         self.reads = self.reads.saturating_add(1);
         let mut piece = match self.reads {
             1 => b"a1 SELECT INBOX\r\na2 IDLE\r\n".as_slice(),
-            2 => {
-                self.wait();
-                self.nap.says
-            }
+            2 => self.nap.says,
             _ => b"".as_slice(),
         };
         piece.read(buf)
@@ -191,11 +192,11 @@ pub(crate) fn open<'x, B: Naming, R: Wait>(
     }
 }
 
-// Whether the berth was free for the visit, and its client was attended.
-pub(crate) fn attend_one<'x, B: Naming, R: Wait, I: Read, C: Courier>(
+// Whether there was memory for the client, who was attended then.
+pub(crate) fn attend_one<'x, B: Naming, R: Wait, I: Read + Wakes, C: Courier>(
     rt: &'x R,
     alloc: Global,
-    visit: Visit<'x, B, R, Tally, Wire<'x, R>>,
+    mut visit: Visit<'x, B, R, Tally, Wire<'x, R>>,
     courier: &mut C,
     input: &mut I,
     size: usize,
@@ -203,17 +204,15 @@ pub(crate) fn attend_one<'x, B: Naming, R: Wait, I: Read, C: Courier>(
 ) -> bool
     requires { C.ready courier.old }
 {
-    let Ok(idles) = Arc::new(alloc, AtomicBool::new(false)) else {
-        return false;
-    };
     let Ok(mut buffer) = vec![in alloc; 0; size] else {
         return false;
     };
-    let berth = Berth::new(idles);
-    if berth.admit(rt, visit).is_err() {
-        return false;
-    }
-    berth.attend(rt, alloc, courier, input, &mut buffer, stop);
+    let idles = AtomicBool::new(false);
+    let berth = Berth {
+        idles: &idles,
+        stop,
+    };
+    berth.attend(rt, alloc, &mut visit, courier, input, &mut buffer);
     true
 }
 
@@ -232,7 +231,15 @@ fn serve_over<'x, B: Naming, R: Wait, I: Read>(
     match open(rt, alloc, house, tally, None, wire) {
         Some(visit) => {
             let mut courier = nobody(rt, house);
-            attend_one(rt, alloc, visit, &mut courier, input, 64, stop)
+            attend_one(
+                rt,
+                alloc,
+                visit,
+                &mut courier,
+                &mut Prompt { input },
+                64,
+                stop,
+            )
         }
         None => false,
     }
@@ -251,9 +258,9 @@ fn served_in<B: Naming, R: Wait, I: Read>(
     requires { history ≡ B.book }
 {
     let house = a_mailbox::<B, R>(rt, alloc, history, true)?;
-    let (tally, marks) = (Tally::new(), Marks::new());
+    let tally = Tally::new();
     let bytes = Mutex::new(Vec::new(alloc));
-    let wire = Wire::new(rt, &bytes, calls, &marks.told);
+    let wire = Wire::new(rt, &bytes, calls);
     if !serve_over(rt, alloc, &house, &tally, wire, input, stop) {
         return Err(AllocError);
     }
@@ -330,57 +337,6 @@ fn a_session_leaves_where_its_output_fails(rt: HostRuntime) -> Result<(), AllocE
     Ok(())
 }
 
-// The client is served at the berth, to its end.
-fn attend_visit<'a, B: Naming, R: Wait>(
-    rt: &R,
-    alloc: Global,
-    house: &TestHouse<B>,
-    berth: &Berth<'a, B, R, Tally, Wire<'a, R>>,
-    visit: Visit<'a, B, R, Tally, Wire<'a, R>>,
-    marks: &Marks,
-    nap: &Nap,
-) -> bool {
-    let mut idler = Idler {
-        reads: 0,
-        marks,
-        nap,
-    };
-    let Ok(mut buffer) = vec![in alloc; 0; 64] else {
-        return false;
-    };
-    if berth.admit(rt, visit).is_err() {
-        return false;
-    }
-    let never = AtomicBool::new(false);
-    berth.attend(
-        rt,
-        alloc,
-        &mut nobody(rt, house),
-        &mut idler,
-        &mut buffer,
-        &never,
-    );
-    true
-}
-
-// The thread that serves the client, from its greeting on; then the watch is over.
-fn attend<'a, B: Naming, R: Wait>(
-    rt: &'a R,
-    alloc: Global,
-    scene: &Scene<'a, B, R>,
-    bytes: &'a Mutex<Vec<u8>>,
-) -> bool {
-    let (house, marks, nap) = (scene.house, scene.marks, scene.nap);
-    let wire = Wire::new(rt, bytes, nap.sends, &marks.told);
-    let is_done = match open(rt, alloc, house, scene.tally, None, wire) {
-        Some(visit) => attend_visit(rt, alloc, house, &scene.berth, visit, marks, nap),
-        None => false,
-    };
-    marks.over.store(true, Ordering::SeqCst);
-    scene.bell.wake();
-    is_done
-}
-
 // Delivers a message.
 fn bring_one<B: Naming, R: Wait>(rt: &R, house: &TestHouse<B>, text: &Text) -> bool {
     match text.copy() {
@@ -389,54 +345,36 @@ fn bring_one<B: Naming, R: Wait>(rt: &R, house: &TestHouse<B>, text: &Text) -> b
     }
 }
 
-// The thread that delivers messages while the client waits, and rings then.
-fn bring<B: Naming, R: Wait>(rt: &R, scene: &Scene<'_, B, R>) -> bool {
-    wait_until(&scene.marks.waits);
-    let mut are_stored = true;
-    for _ in 0..scene.nap.messages {
-        are_stored &= bring_one(rt, scene.house, scene.text);
-    }
-    scene.bell.ring();
-    are_stored
-}
-
-// A berth whose client idles, and what those share who are about it.
-#[derive(Drop)]
-struct Scene<'a, B: Naming, R: Wait> {
-    house: &'a TestHouse<B>,
-    tally: &'a Tally,
-    text: &'a Text,
-    marks: &'a Marks,
-    nap: &'a Nap,
-    berth: Berth<'a, B, R, Tally, Wire<'a, R>>,
-    bell: SessionBell,
-}
-
-// The three threads of the berth: whether the client was served, and the messages brought.
-fn idle_in<'a, B: Naming + Send + Sync, R: Threads + Wait + Sync>(
-    rt: &'a R,
+// Whether a client that idles so was served to its end, and each message was stored that came meanwhile.
+fn idle_at<'x, B: Naming, R: Wait>(
+    rt: &'x R,
     alloc: Global,
-    scene: &Scene<'a, B, R>,
-    bytes: &'a Mutex<Vec<u8>>,
-    sleeper: Sleeper,
+    house: &'x TestHouse<B>,
+    text: &'x Text,
+    bytes: &'x Mutex<Vec<u8>>,
+    nap: &'x Nap,
 ) -> bool {
-    let marks = scene.marks;
-    let (_watched, (is_done, are_stored)) = join(
+    let (tally, never) = (Tally::new(), AtomicBool::new(false));
+    let wire = Wire::new(rt, bytes, nap.sends);
+    let Some(visit) = open(rt, alloc, house, &tally, None, wire) else {
+        return false;
+    };
+    let mut idler = Idler {
         rt,
-        move || scene.berth.keep_watch(rt, &sleeper, &marks.over, marks),
-        move || {
-            join(
-                rt,
-                move || attend(rt, alloc, scene, bytes),
-                move || bring(rt, scene),
-            )
-        },
-    );
-    is_done && are_stored
+        house,
+        text,
+        nap,
+        reads: 0,
+        waits: 0,
+        are_stored: true,
+    };
+    let mut courier = nobody(rt, house);
+    let is_done = attend_one(rt, alloc, visit, &mut courier, &mut idler, 64, &never);
+    is_done && idler.are_stored
 }
 
-// Whether a client that idles so was served to its end, and its line was hushed where it said nothing.
-fn idle_through<B: Naming + Send + Sync, R: Threads + Wait + Sync>(
+// The same in a house that is opened for it.
+fn idle_through<B: Naming, R: Wait>(
     rt: &R,
     alloc: Global,
     history: Opened,
@@ -447,34 +385,7 @@ fn idle_through<B: Naming + Send + Sync, R: Threads + Wait + Sync>(
 {
     let house = a_mailbox::<B, R>(rt, alloc, history, false)?;
     let text = text(alloc)?;
-    idle_at(rt, alloc, &house, &text, bytes, nap)
-}
-
-// The same in a house that was opened.
-fn idle_at<'x, B: Naming + Send + Sync, R: Threads + Wait + Sync>(
-    rt: &'x R,
-    alloc: Global,
-    house: &'x TestHouse<B>,
-    text: &'x Text,
-    bytes: &'x Mutex<Vec<u8>>,
-    nap: &'x Nap,
-) -> Result<bool, AllocError> {
-    let sleeper = Sleeper::new(alloc)?;
-    let idling = sleeper.idling()?;
-    let bell = sleeper.bell()?;
-    let tally = Tally::new();
-    let marks = Marks::new();
-    let scene = Scene {
-        house,
-        tally: &tally,
-        text,
-        marks: &marks,
-        nap,
-        berth: Berth::new(idling),
-        bell,
-    };
-    let is_served = idle_in(rt, alloc, &scene, bytes, sleeper);
-    Ok(is_served && marks.hushed.load(Ordering::SeqCst) == nap.says.is_empty())
+    Ok(idle_at(rt, alloc, &house, &text, bytes, nap))
 }
 
 const OPENING: &[u8] = b"* PREAUTH IMAP4rev2 server ready\r\n\
@@ -492,11 +403,7 @@ fn is_opening_and(told: &[u8], rest: &[u8]) -> bool {
 }
 
 // Whether a client that idles so is served to its end and told what it is to be told.
-fn naps_well<R: Threads + Wait + Sync>(
-    rt: &R,
-    alloc: Global,
-    nap: &Nap,
-) -> Result<bool, AllocError> {
+fn naps_well<R: Wait>(rt: &R, alloc: Global, nap: &Nap) -> Result<bool, AllocError> {
     let told = Mutex::new(Vec::new(alloc));
     let is_served = idle_through::<Brand, R>(rt, alloc, Opened::new(), &told, nap)?;
     Ok(is_served && is_opening_and(&told.into_inner(), nap.told))
@@ -617,8 +524,8 @@ fn is_as_wanted<B: Naming, R: Wait>(
     case: &Case,
 ) -> bool {
     let told = Mutex::new(Vec::new(alloc));
-    let (tally, marks) = (Tally::new(), Marks::new());
-    let wire = Wire::new(rt, &told, case.sends, &marks.told);
+    let tally = Tally::new();
+    let wire = Wire::new(rt, &told, case.sends);
     let answered = match open(rt, alloc, house, &tally, None, wire) {
         Some(mut visit) => answers(rt, alloc, house, &mut visit, case.piece),
         None => None,

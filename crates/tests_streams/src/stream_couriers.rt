@@ -5,7 +5,7 @@ ghost use Rattle.std.specs.Prelude.{◌≡◌, false};
 
 use crate::houses::TestHouse;
 use crate::imap::{a_mailbox, attend_one, is_greeting_and, open};
-use crate::wires::{Marks, Tally, Wire};
+use crate::wires::{Prompt, Tally, Wire};
 use change_ring::Flags;
 use delivery_token::{Text, Verdict};
 use house_history::{Naming, Opened};
@@ -168,8 +168,8 @@ fn is_as_wanted<B: Naming, R: Wait>(
 {
     let house = a_mailbox::<B, R>(rt, alloc, history, false)?;
     let told = Mutex::new(Vec::new(alloc));
-    let (tally, marks) = (Tally::new(), Marks::new());
-    let wire = Wire::new(rt, &told, 9, &marks.told);
+    let tally = Tally::new();
+    let wire = Wire::new(rt, &told, 9);
     let answered = visited(rt, alloc, &house, case, &tally, wire);
     Ok(answered == case.wanted && is_greeting_and(&told.into_inner(), case.told))
 }
@@ -196,6 +196,7 @@ fn attend<'x, B: Naming, R: Wait>(
 ) -> Option<u32> {
     let mut courier = TestCourier::new(rt, house, loses);
     let (mut input, never) = (bytes, AtomicBool::new(false));
+    let mut input = Prompt { input: &mut input };
     let is_done = attend_one(rt, alloc, visit, &mut courier, &mut input, 16, &never);
     if is_done { Some(courier.asked) } else { None }
 }
@@ -214,8 +215,8 @@ fn is_attended<B: Naming, R: Wait>(
 {
     let house = a_mailbox::<B, R>(rt, alloc, history, false)?;
     let told = Mutex::new(Vec::new(alloc));
-    let (tally, marks) = (Tally::new(), Marks::new());
-    let wire = Wire::new(rt, &told, 9, &marks.told);
+    let tally = Tally::new();
+    let wire = Wire::new(rt, &told, 9);
     let asked = match open(rt, alloc, &house, &tally, Some(MOST), wire) {
         Some(visit) => attend(rt, alloc, &house, loses, bytes, visit),
         None => None,

@@ -2,15 +2,12 @@
 
 ghost use Rattle.std.specs.Prelude.{◌≡◌, false};
 
-use imap_stream::Hush;
+use imap_stream::{Wakes, Woken};
 use line_io::Sink;
-use std::sync::atomic::{AtomicBool, AtomicU64, Ordering};
+use std::io::{self, Read};
+use std::sync::atomic::{AtomicU64, Ordering};
 use std::sync::{Mutex, Wait};
-use std::thread;
 use workers_sync::{Actor, Gate};
-
-// So many turns a thread waits for another at most.
-const PATIENCE: u64 = 10_000_000;
 
 // A gate that counts how often it was asked: once for each event of the session.
 #[derive(Drop)]
@@ -32,43 +29,21 @@ impl Gate for Tally {
     }
 }
 
-// What happens while a client is served.
+// A client that a read finds at once, whatever its session does.
 #[derive(Drop)]
-pub(crate) struct Marks {
-    // The client waits while it idles.
-    pub(crate) waits: AtomicBool,
-    // It was shown a message.
-    pub(crate) told: AtomicBool,
-    // Its line was hushed.
-    pub(crate) hushed: AtomicBool,
-    // The watch is over.
-    pub(crate) over: AtomicBool,
+pub(crate) struct Prompt<'i, I> {
+    pub(crate) input: &'i mut I,
 }
 
-impl Marks {
-    pub(crate) fn new() -> Marks {
-        Marks {
-            waits: AtomicBool::new(false),
-            told: AtomicBool::new(false),
-            hushed: AtomicBool::new(false),
-            over: AtomicBool::new(false),
-        }
+impl<I: Read> Read for Prompt<'_, I> {
+    fn read(&mut self, buf: &mut [u8]) -> io::Result<usize> {
+        self.input.read(buf)
     }
 }
 
-impl Hush for Marks {
-    fn hush<R: Wait>(&self, _rt: &R) {
-        self.hushed.store(true, Ordering::SeqCst);
-    }
-}
-
-// Waits until the mark is set.
-pub(crate) fn wait_until(mark: &AtomicBool) {
-    for _ in 0..PATIENCE {
-        if mark.load(Ordering::SeqCst) {
-            return;
-        }
-        thread::yield_now();
+impl<I> Wakes for Prompt<'_, I> {
+    fn wait(&mut self) -> Woken {
+        Woken::Peer
     }
 }
 
@@ -80,16 +55,10 @@ pub(crate) struct Wire<'a, R: Wait> {
     bytes: &'a Mutex<Vec<u8>>,
     calls: usize,
     pub(crate) has_failed: bool,
-    told: &'a AtomicBool,
 }
 
 impl<'a, R: Wait> Wire<'a, R> {
-    pub(crate) fn new(
-        rt: &'a R,
-        bytes: &'a Mutex<Vec<u8>>,
-        calls: usize,
-        told: &'a AtomicBool,
-    ) -> Wire<'a, R>
+    pub(crate) fn new(rt: &'a R, bytes: &'a Mutex<Vec<u8>>, calls: usize) -> Wire<'a, R>
         ensures { result.has_failed ≡ false }
     {
         Wire {
@@ -97,7 +66,6 @@ impl<'a, R: Wait> Wire<'a, R> {
             bytes,
             calls,
             has_failed: false,
-            told,
         }
     }
 }
@@ -111,9 +79,6 @@ impl<R: Wait> Sink for Wire<'_, R> {
             return None;
         }
         self.calls -= 1;
-        if bytes.starts_with(b"* 1 EXISTS") {
-            self.told.store(true, Ordering::SeqCst);
-        }
         Some(bytes.len())
     }
 }

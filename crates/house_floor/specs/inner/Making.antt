@@ -8,9 +8,9 @@ use Rattle.lane_work.specs.LanePermits.{AreConsumers, Rows}
 use Rattle.lane_work.specs.ChannelPermits.{AreReceivers, SenderRows}
 use Rattle.shard_queue.specs.declared.queue.ShardQueue.{ShardQueue}
 use Rattle.shard_queue.specs.declared.ends.ReplyChannel.{ReplyChannel}
-use Rattle.shard_queue.specs.Reply.{received, room_of, senders_of}
+use Rattle.shard_queue.specs.Reply.{received, senders_of}
 use Rattle.shard_queue.specs.Permits.{capacity_of, got, producers_of}
-use Rattle.house_floor.specs.Opening.{AreNoSpares, AreSpares, reply_room}
+use Rattle.house_floor.specs.Opening.{AreNoSpares, AreSpares}
 use Rattle.house_floor.specs.declared.bells.Bells.{Bells}
 use Rattle.house_floor.specs.declared.dealing.Undealt.{Undealt}
 use Rattle.house_floor.specs.declared.fittings.Fittings.{Fittings}
@@ -89,7 +89,7 @@ pub record AreNewLanes {B : Type 0} (producers shards depth : ℕ) (l : Lanes B)
 -- a reply channel for each producer, likewise
 pub record AreNewChannels {B : Type 0} (producers shards : ℕ) (c : Channels B) : Type 0 where
   pub count : vec_len c.channels ≡ producers
-  pub channels : All (λ q. (room_of q ≡ reply_room) × (senders_of q ≡ shards)) c.channels.items
+  pub channels : All (λ q. senders_of q ≡ shards) c.channels.items
   pub permits : SenderRows c.channels.items 0 (map (λ v. v.items) c.permits.items)
   pub receivers : AreReceivers c.channels.items c.receivers.items
   pub fresh : All (λ s. received s ≡ []) c.receivers.items

@@ -2,12 +2,11 @@
 use Rattle.std.specs.Prelude.{◌≡◌, ◌<◌, ℕ, true, List, [], ◌∷◌, length, map, All, Vec}
 use Rattle.std.specs.List.{list_all}
 use Rattle.std.specs.Global.{Global}
-use Rattle.shard_queue.specs.Reply.{room_of, senders_of}
+use Rattle.shard_queue.specs.Reply.{senders_of}
 use Rattle.shard_queue.specs.Permits.{capacity_of, history, producers_of}
 use Rattle.lane_work.specs.Speaking.{premises_of}
 use Rattle.mailbox.specs.declared.history.History.TheVariants.{Kept}
 use Rattle.house_floor.specs.Crew.{IsHouse}
-use Rattle.house_floor.specs.Opening.{reply_room}
 use Rattle.house_floor.specs.declared.floor.Floor.{Floor}
 use Rattle.house_floor.specs.declared.opening.Sizes.{Sizes}
 use Rattle.reckoning.specs.Shelves.{AreNumbered, AreToldOnce}
@@ -37,7 +36,7 @@ pub record IsFloorFor {B : Type 0} (plan : Plan) (floor : Floor B) : Type 0 wher
   pub mailboxes : length floor.depot.mailboxes.items ≡ length (premises_for plan).directory.homes
   pub turns : floor.turns ≡ plan.turns
   pub lanes : All (λ q. (capacity_of q ≡ plan.config.depth) × (producers_of q ≡ producers_in plan)) floor.office.lanes.items
-  pub channels : All (λ c. (room_of c ≡ reply_room) × (senders_of c ≡ plan.config.shards)) floor.depot.channels.items
+  pub channels : All (λ c. senders_of c ≡ plan.config.shards) floor.depot.channels.items
 
 -- ---- what the sessions said
 

@@ -6,12 +6,12 @@ use Rattle.serving.specs.declared.run.Dealt.{Dealt}
 use Rattle.serving_workers.specs.Leaving.{IsOutfit}
 use Rattle.serving_workers.specs.Lines.{Told}
 
--- a post for each producer and room for what it leaves; for each worker its outfit, and for each berth a buffer and its end of its bell
+-- a post for each producer and room for what it leaves; for each worker its outfit, and for each berth its ear and a buffer
 pub record IsDealt {B L : Type 0} (told : L → Told) (floor : Floor B) (workers berths : ℕ) (dealt : Dealt B L) : Type 0 where
   pub posts : AllAt (IsPost floor) 0 dealt.posts.items
   pub each_post : vec_len dealt.posts ≡ length floor.depot.channels.items
   pub served : (dealt.served.items ≡ []) × (length floor.depot.channels.items ≤ vec_capacity dealt.served)
   pub outfits : All (λ o. IsOutfit told o) dealt.equipment.outfits.items
   pub each_worker : vec_len dealt.equipment.outfits ≡ workers
-  pub bells : vec_len dealt.bells ≡ berths
+  pub ears : vec_len dealt.ears ≡ berths
   pub client_buffers : vec_len dealt.equipment.client_buffers ≡ berths

@@ -1,4 +1,6 @@
-use Rattle.std.proofs.Common.{rules, arith, length, refl}
+use Rattle.std.proofs.Common.{rules, arith, length, refl, subst, List, ℕ}
+use Rattle.std.specs.Io.KnownBytes.{Appends}
+use Rattle.std.proofs.lemmas.Result.{on_ok_weaker}
 use Rattle.house_floor.proofs.Leaving.{posts_left, stands_left}
 use Rattle.serving.proofs.run.run_house_in.Goals as goal
 
@@ -21,6 +23,12 @@ serve_in_threads-over-requires-clause-dealt g c κs within =
       served = search rules;
       outfits = outfits.0;
       each_worker = (let many = outfits.1 in omega (arith, many, grips, rooms.grips.mail.ok.0));
-      bells = omega (arith, bells, c.args.manning.guests.ok.0);
-      client_buffers = search rules;
+      ears = (let many = c.in-Ok.ensures.ears in omega (arith, many, bells, c.args.manning.guests.ok.0));
+      client_buffers = (let many = c.in-Ok.ensures.clients in omega (arith, many, bells, c.args.manning.guests.ok.0));
     }
+
+pub returns-clause-all : goal.returns-clause-all
+returns-clause-all g c =
+    on_ok_weaker c.close_or_spend.result
+    (λ told. subst (λ (bytes : List ℕ). Appends (g.W.Sink.taken c.args.output.now) (g.W.Sink.taken c.serve_in_threads-over.new.output) bytes) c.deref.ensures.value (c.serve_in_threads-over.ensures.all told))
+    c.close_or_spend.ensures.told

@@ -20,17 +20,15 @@ loop-berth-preserved g c =
       omega (arith, v.1, v.2, c.loop-berth-test.true, c.remove-post.ensures.len, more),
       search rules,
       search rules,
+      more_at (IsHired g.L.Line.told floor) 0 before.items c.push_reserved.new.self.items c.start_answering-one.result c.len-number.result c.push_reserved.ensures.items v.5 at c.start_answering-one.ensures.hired,
       search rules,
-      more_at (IsHired g.L.Line.told floor) 0 before.items c.push_reserved.new.self.items c.start_answering-one.result c.len-number.result c.push_reserved.ensures.items v.6 at c.start_answering-one.ensures.hired,
-      search rules,
-      more_without serves_mail (vec_len c.args.hired) before.items c.push_reserved.new.self.items c.start_answering-one.result c.push_reserved.ensures.items c.start_answering-one.ensures.mail v.8,
+      more_without serves_mail (vec_len c.args.hired) before.items c.push_reserved.new.self.items c.start_answering-one.result c.push_reserved.ensures.items c.start_answering-one.ensures.mail v.7,
     )
 
 pub loop-berth-init : goal.loop-berth-init
 loop-berth-init g c =
     let hired = c.args.hired in
     let e : length hired.items ≡ vec_len hired = omega (arith, hired.ok.0) in (
-      search rules,
       search rules,
       search rules,
       search rules,

@@ -8,7 +8,6 @@ abbrev pub invariant-loop-berth : goal.invariant-loop-berth
 invariant-loop-berth g l =
     AllAt (IsPost l.site.workplace.floor) (vec_len l.hired) l.posts.items × (vec_len l.posts + l.berth ≡ length l.site.guests.items)
     × (vec_len l.hired + vec_len l.posts ≡ length l.site.workplace.floor.depot.channels.items)
-    × (vec_len l.furnishings.berths + l.berth ≡ length l.site.guests.items) × (vec_len l.furnishings.bells + l.berth ≡ length l.site.guests.items)
-    × (vec_len l.furnishings.buffers + l.berth ≡ length l.site.guests.items) × AllAt (IsHired g.L.Line.told l.site.workplace.floor) 0 l.hired.items
+    × (vec_len l.ears + l.berth ≡ length l.site.guests.items) × (vec_len l.buffers + l.berth ≡ length l.site.guests.items) × AllAt (IsHired g.L.Line.told l.site.workplace.floor) 0 l.hired.items
     × (length l.site.workplace.floor.depot.channels.items ≤ vec_capacity l.hired)
     × FirstTakeMail (vec_len l.fn.hired) (map serves_mail l.hired.items)
