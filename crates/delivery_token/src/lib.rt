@@ -26,15 +26,15 @@ pub use verdicts::{NextCopy, Submitted, Verdicts};
 pub const REPLY_ROOM: usize = 128;
 
 /// Which copy it is: the connection's seat and serial, its message, and the position of the recipient
-/// among those accepted. Keys of one seat stand in the order of the fields.
+/// among those accepted. Keys of one seat stand in the order of the fields, which is that of their sizes too: so a key takes 16 bytes.
 #[derive(Clone, Copy, Debug, PartialEq, Eq, PartialOrd, Ord)]
 pub struct CopyKey {
-    /// The number of the seat that puts the copy.
-    pub seat: u8,
     /// The serial that the connection or the session was given.
     pub serial: u64,
     /// The number of its message there.
     pub message: u32,
+    /// The number of the seat that puts the copy.
+    pub seat: u8,
     /// The position of the recipient among those accepted, from 0.
     pub recipient: u8,
 }
