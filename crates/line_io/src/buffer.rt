@@ -8,13 +8,14 @@ ghost use Rattle.line_io.specs.inner.Buffer.{logged};
 use crate::sink::{Sink, send};
 use http_server::Log;
 use std::marker::Model;
+use std::mem::replace;
 
 /// The sink of a [`Buffer`] has failed: the last of what was said, one byte at least, wasn't sent and never will be.
 #[derive(Clone, Copy, Debug, PartialEq, Eq)]
 pub struct FlushFault;
 
 /// What is said over a sink waits in a row of bytes until that is full or [`flush`](Buffer::flush) is called. It never takes more memory
-/// than the row that it was given.
+/// than the row that it was given. Whoever has many buffers may lend each a row while it is spoken through ([`trade`](Buffer::trade)).
 #[derive(Drop)]
 pub struct Buffer<W: Sink> {
     sink: W,
@@ -118,6 +119,19 @@ impl<W: Sink> Buffer<W> {
     {
         self.begun = Log::new().and(&self.sink, &());
         self.said = Log::new();
+    }
+
+    /// Waits in this row of bytes from here on, where nothing is pending, and gives back the row that it had. At most as many bytes wait then as the row
+    /// is long, whatever it says now.
+    pub fn trade(&mut self, row: Vec<u8>) -> Vec<u8>
+        requires none { self.old.pending ≡ [] }
+        ensures { self.new ≡ record self.old {
+          limit = length row.items;
+          memory = vec_capacity row;
+        } }
+    {
+        self.filled = 0;
+        replace(&mut self.row, row)
     }
 
     /// Says these bytes, behind all that was said. They wait where they fit behind what is pending; else that is sent, and what is longer than the row

@@ -27,7 +27,7 @@ impl<W: Sink> Model for Outgoing<W> {
 }
 
 impl<W: Sink> Outgoing<W> {
-    ghost use Rattle.std.specs.Prelude.{◌≡◌, [], Some, None, IsSome, IfSome, IfNone};
+    ghost use Rattle.std.specs.Prelude.{◌≡◌, [], Some, None, IsSome, IfSome, IfNone, length, vec_capacity};
     ghost use Rattle.line_io.specs.Outlet.{Buffer as Sending};
     ghost use Rattle.line_io.specs.Outgoing.{Flushed, IsReady};
 
@@ -67,6 +67,22 @@ impl<W: Sink> Outgoing<W> {
         match &mut self.buffer {
             Some(buffer) => buffer.flush(),
             None => Ok(()),
+        }
+    }
+
+    /// The buffer waits in this row of bytes from here on, where it is here and all that was said was sent; the row that it had is given back.
+    pub fn trade(&mut self, row: Vec<u8>) -> Vec<u8>
+        requires ready { IsReady self.old }
+        ensures { IfSome self.old.buffer (λ b. self.new ≡ record self.old {
+          buffer = Some (record b {
+            limit = length row.items;
+            memory = vec_capacity row;
+          });
+        }) }
+    {
+        match &mut self.buffer {
+            Some(buffer) => buffer.trade(row),
+            None => row,
         }
     }
 
