@@ -7,7 +7,7 @@ use Rattle.std.proofs.Math.Seq.{take-append_seam}
 use Rattle.std.specs.Io.KnownBytes.{Appends}
 use Rattle.line_io.specs.declared.buffer.FlushFault.{FlushFault}
 use Rattle.line_io.specs.Outlet.{Buffer, Lot}
-use Rattle.line_io.specs.Outgoing.{Flushed, Outgoing, lot_of, room_of, said_of}
+use Rattle.line_io.specs.Outgoing.{Flushed, IsReady, Outgoing, lot_of, room_of, said_of}
 use Rattle.imap_stream.specs.inner.Visits.{HasSent, IsFresh, TookFirst, failed_of, taken_of}
 
 -- what an outlet says that is flushed into a sink which had taken `start` when nothing was said yet
@@ -147,3 +147,22 @@ all_went_begun closed old begun before after r u sent began lot is h = all_went 
 pub first_went_begun : (closed : Bool) (old begun before after : Outgoing) (r : Result (Unit {0}) FlushFault) (e : FlushFault) → HasSent closed old → IsBegun old begun → lot_of before.buffer ≡ lot_of begun.buffer → r ≡ Err e → IsFlushed before r after
     → FirstWent (taken_of old) before after
 first_went_begun closed old begun before after r e sent began lot is h = first_went (taken_of old) sent.0.memory r e before after is (lot ∙ lot_begun closed old begun sent began) h
+
+-- ---- in another row
+
+ready_as : (old begun : Outgoing) (ready : IsReady old) → IsBegun old begun → begun ≡ record old { buffer = Some (record ready.0 { said = []; start = ready.0.taken }) }
+ready_as old begun ready h = subst (λ (x : Option Buffer). IfSome x (λ (b : Buffer). begun ≡ record old { buffer = Some (record b { said = []; start = b.taken }) })) ready.1 h
+
+-- an outlet that was begun anew is ready still
+pub ready_begun : (old begun : Outgoing) → IsReady old → IsBegun old begun → IsReady begun
+ready_begun old begun ready h = (record ready.0 { said = []; start = ready.0.taken }, ap (λ (o : Outgoing). o.buffer) (ready_as old begun ready h), ready.2, ready.3)
+
+-- nothing was said yet where it was begun anew and waits in another row
+pub fresh_traded : (old begun traded : Outgoing) (limit memory : ℕ) → IsReady old → IsBegun old begun
+    → IfSome begun.buffer (λ (b : Buffer). traded ≡ record begun { buffer = Some (record b { limit = limit; memory = memory }) }) → IsFresh (taken_of old) traded
+fresh_traded old begun traded limit memory ready began h =
+    let b : Buffer = record ready.0 { said = []; start = ready.0.taken } in
+    let here : begun.buffer ≡ Some b = ap (λ (o : Outgoing). o.buffer) (ready_as old begun ready began) in
+    let is = subst (λ (x : Option Buffer). IfSome x (λ (y : Buffer). traded ≡ record begun { buffer = Some (record y { limit = limit; memory = memory }) })) here h in
+    let taken : ready.0.taken ≡ taken_of old = sym (ap (λ (o : Option Buffer). option_map_or (λ (y : Buffer). y.taken) o None) ready.1) in
+    (record b { limit = limit; memory = memory }, ap (λ (o : Outgoing). o.buffer) is, ready.2, ready.3, refl, taken, taken)

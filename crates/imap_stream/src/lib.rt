@@ -4,8 +4,10 @@
 #![tactic(auto)]
 
 mod berth;
+mod rows;
 mod turns;
 mod visit;
 
 pub use berth::{Berth, Wakes, Woken};
+pub use rows::Rows;
 pub use visit::{Visit, VisitFault};

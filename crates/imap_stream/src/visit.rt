@@ -13,6 +13,7 @@ ghost use Rattle.imap_session.specs.Exchange.{begun_with};
 ghost use Rattle.imap_stream.specs.inner.Visits.{IsFresh, TookFirst, taken_of};
 ghost use Rattle.imap_stream.specs.Visits.{Hears, HearsInPart, IsGreeted, SendsAll, SendsFirst, ShowsAll, ShowsInPart, Tells, Visit, awaited, farewell, is_over, takes_bytes};
 
+use crate::rows::Rows;
 use crate::turns::{answer_and_show, show_all};
 use house_history::Naming;
 use imap_session::{Admission, After, Folder, ImapConnection, Store};
@@ -26,12 +27,6 @@ use workers_sync::{Courier, Gate, Lost};
 
 /// What a client is told that is dismissed.
 const FAREWELL: &[u8] = b"* BYE Shutting down\r\n";
-
-/// The most bytes of what is said to a client that was heard that wait to be sent. What is longer, as a message's text, is sent from where it stands.
-const ROW: usize = 16 * 1024;
-
-/// The same of what a client is greeted with, or shown that idles: lines of some 40 bytes.
-const SHORT_ROW: usize = 2 * 1024;
 
 /// Why a visit came to a stop.
 #[derive(Clone, Copy, Debug, PartialEq, Eq)]
@@ -54,24 +49,32 @@ impl From<AllocError> for VisitFault {
     }
 }
 
-// Gives the buffer a row of so many bytes in place of the one that it has, and begins anew. Where memory is refused it has none, and what is said is sent
-// at once. A client that is silent has none either, so it costs no memory.
-fn give_row<W: Sink + Drop>(size: usize, out: &mut Outgoing<W>)
+// What is said from here on waits in a row of the house's; where none could be had it is sent at once.
+fn take_row<R: Wait, W: Sink + Drop>(rt: &R, rows: &Rows, out: &mut Outgoing<W>)
     requires { IsReady out.old }
     ensures { IsFresh (taken_of out.old) out.new }
 {
-    let alloc = out.alloc();
-    let Some(output) = out.take().into_sink() else {
-        unreachable!()
-    };
-    let mut row = Vec::new(alloc);
-    let _ = row.resize(size, 0);
-    *out = Outgoing::new(alloc, Buffer::new(output, row));
+    let row = rows.lend(rt, out.alloc());
+    out.begin();
+    let _ = out.trade(row);
+}
+
+// The row is the house's again. A client that is silent has none, so it costs no memory.
+fn give_row_back<R: Wait, W: Sink + Drop>(rt: &R, rows: &Rows, out: &mut Outgoing<W>)
+    requires { IsReady out.old }
+    ensures { IsFresh (taken_of out.old) out.new }
+{
+    let none = Vec::new(out.alloc());
+    out.begin();
+    let row = out.trade(none);
+    rows.take_back(rt, row);
 }
 
 // The outlet of a client that was greeted on `output`, behind its greeting, of which nothing is left unsent.
-fn greeted<W: Sink + Drop>(
+fn greeted<R: Wait, W: Sink + Drop>(
+    rt: &R,
     alloc: Global,
+    rows: &Rows,
     connection: &ImapConnection,
     output: W,
 ) -> Result<Outgoing<W>, (W, VisitFault)>
@@ -84,8 +87,7 @@ fn greeted<W: Sink + Drop>(
         (greeting connection.now.session.profile) (W.taken stop.0)) }
     ensures failed { IfErr result (λ stop. W.failed stop.0 ≡ true) }
 {
-    let mut row = Vec::new(alloc);
-    let _ = row.resize(SHORT_ROW, 0);
+    let row = rows.lend(rt, alloc);
     let mut out = Outgoing::new(alloc, Buffer::new(output, row));
     let Ok(()) = connection.greet(&mut out) else {
         unreachable!()
@@ -96,7 +98,7 @@ fn greeted<W: Sink + Drop>(
         };
         return Err((output, VisitFault::Write));
     };
-    give_row(0, &mut out);
+    give_row_back(rt, rows, &mut out);
     Ok(out)
 }
 
@@ -116,6 +118,7 @@ fn fault_of(why: Lost) -> VisitFault
 #[derive(Drop)]
 pub struct Visit<'a, B: Naming, R: Wait, G: Gate, W: Sink> {
     rt: &'a R,
+    rows: &'a Rows,
     connection: ImapConnection,
     store: LockedStore<'a, B, R, G>,
     out: Outgoing<W>,
@@ -144,13 +147,14 @@ impl<'a, B: Naming, R: Wait, G: Gate, W: Sink> Model for Visit<'a, B, R, G, W> {
 impl<'a, B: Naming, R: Wait, G: Gate, W: Sink + Drop> Visit<'a, B, R, G, W> {
     /// Opens the visit of a client, and greets it (RFC 9051, 7.1.1 and 7.1.4): the greeting was sent.
     /// `store` is its session's, which is in no mailbox, `folders` are its user's mailboxes, it comes in
-    /// by `admission`, and its answers go to `output`.
+    /// by `admission`, and its answers go to `output`. What it says waits in one of `rows`, which the sessions of a house share.
     ///
     /// Errors give the output back: `NoMemory` as it was, where memory was refused before anything was
     /// sent; `Write` where it failed, behind the first bytes of the greeting.
     pub fn open(
         rt: &'a R,
         alloc: Global,
+        rows: &'a Rows,
         store: LockedStore<'a, B, R, G>,
         folders: Vec<Folder>,
         admission: Admission,
@@ -177,9 +181,10 @@ impl<'a, B: Naming, R: Wait, G: Gate, W: Sink + Drop> Visit<'a, B, R, G, W> {
         let Ok(connection) = ImapConnection::new(alloc, folders, admission) else {
             return Err((output, VisitFault::NoMemory));
         };
-        let out = greeted(alloc, &connection, output)?;
+        let out = greeted(rt, alloc, rows, &connection, output)?;
         Ok(Visit {
             rt,
+            rows,
             connection,
             store,
             out,
@@ -274,7 +279,7 @@ impl<'a, B: Naming, R: Wait, G: Gate, W: Sink + Drop> Visit<'a, B, R, G, W> {
         if !self.takes_bytes() {
             return Ok(self.awaited());
         }
-        give_row(ROW, &mut self.out);
+        take_row(self.rt, self.rows, &mut self.out);
         let heard = answer_and_show(
             self.rt,
             alloc,
@@ -289,7 +294,7 @@ impl<'a, B: Naming, R: Wait, G: Gate, W: Sink + Drop> Visit<'a, B, R, G, W> {
             self.is_closed = true;
             return Err(VisitFault::Write);
         };
-        give_row(0, &mut self.out);
+        give_row_back(self.rt, self.rows, &mut self.out);
         match heard {
             Ok(()) => Ok(self.awaited()),
             Err(why) => {
@@ -332,7 +337,7 @@ impl<'a, B: Naming, R: Wait, G: Gate, W: Sink + Drop> Visit<'a, B, R, G, W> {
         if self.is_over() {
             return Ok(After::Bye);
         }
-        give_row(SHORT_ROW, &mut self.out);
+        take_row(self.rt, self.rows, &mut self.out);
         let shown = show_all(
             self.rt,
             &mut self.connection,
@@ -343,7 +348,7 @@ impl<'a, B: Naming, R: Wait, G: Gate, W: Sink + Drop> Visit<'a, B, R, G, W> {
             self.is_closed = true;
             return Err(VisitFault::Write);
         };
-        give_row(0, &mut self.out);
+        give_row_back(self.rt, self.rows, &mut self.out);
         shown?;
         Ok(self.awaited())
     }

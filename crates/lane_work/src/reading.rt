@@ -1,4 +1,4 @@
-//! One read of a stream, tried again where it was interrupted. What becomes of the bytes is for the
+//! One read of a stream, tried again where it was interrupted, and the buffer that grows with what comes. What becomes of the bytes is for the
 //! modules beside this one.
 
 ghost use Rattle.std.specs.Prelude.{◌≡◌, ◌<◌, ◌≤◌, IfOk, OnErr, length, take};
@@ -6,6 +6,9 @@ ghost use Rattle.std.specs.Io.KnownBytes.{Consumes, IsAtEnd, Keeps};
 
 use std::io::{ErrorKind, Read};
 use std::sync::Wait;
+
+/// The most bytes that are read at once.
+const MOST: usize = 131_072;
 
 // A reader failed, and not because it was interrupted.
 #[derive(Clone, Copy, Debug, PartialEq, Eq)]
@@ -15,18 +18,18 @@ pub(crate) struct ReadFault;
 pub(crate) fn read_piece<R: Wait, I: Read>(
     rt: &R,
     input: &mut I,
-    buffer: &mut [u8],
+    buffer: &mut Vec<u8>,
 ) -> Result<usize, ReadFault>
-    requires { 0 < length buffer.old }
-    ensures len { length buffer.new ≡ length buffer.old }
-    ensures bound { IfOk result (λ n. n ≤ length buffer.new) }
+    requires { 0 < length buffer.old.items }
+    ensures len { length buffer.new.items ≡ length buffer.old.items }
+    ensures bound { IfOk result (λ n. n ≤ length buffer.new.items) }
     ensures came { IfOk result (λ n.
-        Consumes (I.remaining input.old) (I.remaining input.new) (take n buffer.new)) }
+        Consumes (I.remaining input.old) (I.remaining input.new) (take n buffer.new.items)) }
     ensures end { IfOk result (λ n. n ≡ 0 → IsAtEnd (I.remaining input.new)) }
     ensures none { OnErr result (Keeps (I.remaining input.old) (I.remaining input.new)) }
 {
     for _ in rt.forever() {
-        match input.read(buffer) {
+        match input.read(buffer.as_mut_slice()) {
             Ok(count) => return Ok(count),
             Err(e) => {
                 if e.kind() != ErrorKind::Interrupted {
@@ -36,4 +39,17 @@ pub(crate) fn read_piece<R: Wait, I: Read>(
         }
     }
     unreachable!()
+}
+
+// Makes the buffer twice as long, up to `MOST`, where a read of so many bytes filled it: so a connection over which little comes costs little. Where memory is refused it stays
+// as it is.
+pub(crate) fn widen(count: usize, buffer: &mut Vec<u8>)
+    ensures { length buffer.old.items ≤ length buffer.new.items }
+{
+    let len = buffer.len();
+    if count < len || MOST <= len {
+        return;
+    }
+    let wide = if MOST - len < len { MOST } else { 2 * len };
+    let _ = buffer.resize(wide, 0);
 }

@@ -1,7 +1,7 @@
 //! One connection over a reader and a sink, from its greeting to its end. What is done with the bytes of
 //! one read stands in `piece`, what is said last in `shutting`.
 
-ghost use Rattle.std.specs.Prelude.{◌≡◌, ◌<◌, ◌∷◌, List, [], map, length, Err, IfOk, OnOk, false, true};
+ghost use Rattle.std.specs.Prelude.{◌≡◌, ◌<◌, ◌≤◌, ◌∷◌, List, [], map, length, Err, IfOk, OnOk, false, true};
 ghost use Rattle.lmtp_machine.specs.declared.reply.Reply.TheVariants.{Greeting};
 ghost use Rattle.lmtp_machine.specs.Conversation.{opened};
 ghost use Rattle.lmtp_machine.specs.LmtpMachine.{StandsFor};
@@ -23,7 +23,7 @@ use crate::notebook::Notebook;
 use crate::outcome::{Ending, TalkFault};
 use crate::piece::{Next, take_piece};
 use crate::producer::{Context, Producer};
-use crate::reading::read_piece;
+use crate::reading::{read_piece, widen};
 use crate::shutting::{give_up, shut_down};
 use crate::worker::Stop;
 use house_history::Naming;
@@ -70,7 +70,7 @@ fn go_on<B: Naming, R: Wait, G: Gate, S: Summons, N: Notebook, I: Read, O: Sink>
     input: &mut I,
     output: &mut O,
     stop: &AtomicBool,
-    buffer: &mut [u8],
+    buffer: &mut Vec<u8>,
     out: &mut Vec<u8>,
 ) -> Result<Ending, TalkFault>
     requires permits { AreInForce context.now.office.now.directory
@@ -82,7 +82,7 @@ fn go_on<B: Naming, R: Wait, G: Gate, S: Summons, N: Notebook, I: Read, O: Sink>
     requires quiet { machine.old.pending ≡ [] }
     requires host { machine.old.host ≡ context.now.office.now.host.items }
     requires live { O.failed output.old ≡ false }
-    requires room { 0 < length buffer.old }
+    requires room { 0 < length buffer.old.items }
     ensures permits { AreInForce context.now.office.now.directory
         context.now.office.now.lanes.items producer.old.desk.number
         producer.new.desk.permits.items }
@@ -95,7 +95,7 @@ fn go_on<B: Naming, R: Wait, G: Gate, S: Summons, N: Notebook, I: Read, O: Sink>
         → length (received producer.old.desk.receiver) < length (received
         producer.new.desk.receiver) }
     ensures owner { N.owner producer.new.book ≡ N.owner producer.old.book }
-    ensures len { length buffer.new ≡ length buffer.old }
+    ensures len { length buffer.old.items ≤ length buffer.new.items }
     ensures live { OnOk result (O.failed output.new ≡ false) }
     ensures failed { result ≡ Err TalkFault.Write → O.failed output.new ≡ true }
     ensures played { (done : List Judged)
@@ -126,7 +126,7 @@ fn go_on<B: Naming, R: Wait, G: Gate, S: Summons, N: Notebook, I: Read, O: Sink>
             return Ok(Ending::Gone);
         }
         match take_piece(context, producer, machine, &buffer[..count], stop, out) {
-            Ok(Next::Read) => {}
+            Ok(Next::Read) => widen(count, buffer),
             Ok(Next::Shut) => return shut_down(machine, output, out),
             Err(Stop::NoMemory) => return Err(give_up(output, out.as_slice())),
             Err(Stop::Torn) => return Err(TalkFault::Torn),
@@ -138,7 +138,7 @@ fn go_on<B: Naming, R: Wait, G: Gate, S: Summons, N: Notebook, I: Read, O: Sink>
 /// Plays one connection of a worker over a stream, from the greeting to its end: what was said is sent,
 /// bytes are read into `buffer` and taken turn by turn, over and over. Replies are collected in `out`, and
 /// all that one read leads to are sent together. Both buffers are lent by whoever calls it, to be used for
-/// the next connection too; `buffer` has room for one byte or more, and what `out` has is dropped. The
+/// the next connection too; `buffer` has one byte or more, a read that fills it makes it twice as long, up to 131,072, unless memory is refused, and what `out` has is dropped. The
 /// sink, which hasn't failed, is flushed by nobody here.
 ///
 /// The messages that are submitted are put on the worker's lanes, and nothing behind a message is taken
@@ -159,7 +159,7 @@ pub fn converse<B: Naming, R: Wait, G: Gate, S: Summons, N: Notebook, I: Read, O
     input: &mut I,
     output: &mut O,
     stop: &AtomicBool,
-    buffer: &mut [u8],
+    buffer: &mut Vec<u8>,
     out: &mut Vec<u8>,
 ) -> Result<Ending, TalkFault>
     // The desk has its own permit on each lane, over only where the office marks the shard as shut; its receiver is of `channel`.
@@ -171,7 +171,7 @@ pub fn converse<B: Naming, R: Wait, G: Gate, S: Summons, N: Notebook, I: Read, O
         ≡ length context.now.office.now.lanes.items }
     requires host { length context.now.office.now.host.items < 256 }
     requires live { O.failed output.old ≡ false }
-    requires room { 0 < length buffer.old }
+    requires room { 0 < length buffer.old.items }
 
     // The same holds after, so that the next connection may follow; no end was counted that wasn't heard.
     ensures permits { AreInForce context.now.office.now.directory
@@ -188,9 +188,9 @@ pub fn converse<B: Naming, R: Wait, G: Gate, S: Summons, N: Notebook, I: Read, O
         → length (received producer.old.desk.receiver) < length (received
         producer.new.desk.receiver) }
 
-    // The book stays its owner's, and `buffer` as long as it was.
+    // The book stays its owner's, and `buffer` doesn't get shorter.
     ensures owner { N.owner producer.new.book ≡ N.owner producer.old.book }
-    ensures len { length buffer.new ≡ length buffer.old }
+    ensures len { length buffer.old.items ≤ length buffer.new.items }
 
     // Without an error the sink hasn't failed; after `Write` it has.
     ensures live { OnOk result (O.failed output.new ≡ false) }

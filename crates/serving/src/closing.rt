@@ -191,6 +191,7 @@ pub(crate) fn close_or_spend<B: Naming, H: Hall, R: Wait, L: Line>(
         signs: _,
         page: _,
         watch: _,
+        rows: _,
     } = site;
     let Workplace {
         floor,

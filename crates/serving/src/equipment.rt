@@ -10,6 +10,7 @@ use crate::watch::{Lookout, Watch};
 use clerks::{Hall, Staff};
 use house_floor::Floor;
 use house_history::Naming;
+use imap_stream::Rows;
 use locked_mailbox::LockedMailbox;
 use server_report::Presence;
 use serving_workers::{Buffers, Line, Lines, Outfit, Served};
@@ -17,8 +18,8 @@ use std::alloc::{AllocError, Global};
 use std::sync::Arc;
 use workers_sync::{Grip, Listening, Sleeper};
 
-/// So many bytes of a mail connection are read at once.
-const MAIL_BUFFER: usize = 131_072;
+/// So many bytes of a mail connection are read at once, until more comes.
+const MAIL_BUFFER: usize = 4_096;
 
 /// So many bytes of a mail client are read at once: each berth has that much room, also while its client is silent, and more while it sends more.
 const CLIENT_BUFFER: usize = 256;
@@ -156,6 +157,7 @@ fn ears_of(alloc: Global, mut bells: Vec<Sleeper>) -> Result<Vec<Ear>, AllocErro
 pub(crate) struct Rooms<B: Naming, H: Hall, L> {
     pub(crate) grips: Grips,
     pub(crate) watch: Watch,
+    pub(crate) rows: Rows,
     /// For each berth.
     pub(crate) ears: Vec<Ear>,
     pub(crate) equipment: Equipment<L>,
@@ -207,6 +209,7 @@ pub(crate) fn make_rooms<B: Naming, H: Hall, L: Line, D: Lines<L> + Drop>(
     let Ok(watch) = Watch::new(alloc, lookout, &bells) else {
         return Err(AllocError);
     };
+    let rows = Rows::new(alloc)?;
     let ears = ears_of(alloc, bells)?;
     let presences = presences_of(alloc, workers)?;
     let unlocked = Vec::with_capacity(alloc, floor.depot.mailboxes.len())?;
@@ -219,6 +222,7 @@ pub(crate) fn make_rooms<B: Naming, H: Hall, L: Line, D: Lines<L> + Drop>(
     Ok(Rooms {
         grips,
         watch,
+        rows,
         ears,
         equipment,
         served,

@@ -599,6 +599,7 @@ pub(crate) fn run_house_in<
     let Rooms {
         grips,
         watch,
+        rows,
         ears,
         equipment,
         served,
@@ -636,6 +637,7 @@ pub(crate) fn run_house_in<
         signs,
         page,
         watch,
+        rows,
     };
     let dealt = Dealt {
         posts,

@@ -26,7 +26,7 @@ use envelope::Directory;
 use house_floor::{Floor, Post, inbox_numbered, most_of};
 use house_history::{Letter, Naming};
 use imap_session::{admission_of, folders_of};
-use imap_stream::{Berth, Visit};
+use imap_stream::{Berth, Rows, Visit};
 use lane_work::{Context, Desk, LaneCourier, Summons, end_all};
 use line_io::{Sink, Watched};
 use server_report::{Happened, LogBook, Presence};
@@ -70,6 +70,8 @@ pub(crate) struct Gateway<'s, B: Naming> {
     pub(crate) sign: Option<&'s Sign>,
     /// The watch over clients whose sessions idle.
     pub(crate) watch: &'s Watch,
+    /// What its client is told waits there.
+    pub(crate) rows: &'s Rows,
     /// How many clients it has had before the one that it serves.
     pub(crate) serial: u64,
 }
@@ -113,6 +115,7 @@ fn gateway_of<B: Naming, H: Hall>(site: &Site<B, H>, session: u8) -> Gateway<'_,
         limit: site.limits.get(usize::from(user)),
         sign: site.signs.get(berth),
         watch: &site.watch,
+        rows: &site.rows,
         serial: 0,
     }
 }
@@ -172,10 +175,8 @@ fn open_visit<'a, B: Naming, R: Wait, W: Sink + Drop>(
         floor.depot.front.again(),
         bells,
     );
-    let Ok(visit) = Visit::open(rt, floor.alloc, store, folders, admission, output) else {
-        return None;
-    };
-    Some(visit)
+    let (alloc, rows) = (floor.alloc, gateway.rows);
+    Visit::open(rt, alloc, rows, store, folders, admission, output).ok()
 }
 
 // How a visit ended, where this was the end of reading.

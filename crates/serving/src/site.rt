@@ -8,6 +8,7 @@ use crate::watch::Watch;
 use clerks::{Hall, Unhindered};
 use house_floor::Guest;
 use house_history::Naming;
+use imap_stream::Rows;
 use serving_workers::Workplace;
 use workers_sync::Listening;
 
@@ -34,4 +35,6 @@ pub(crate) struct Site<B: Naming, H: Hall> {
     pub(crate) page: Option<Page>,
     /// What waits for clients whose sessions idle, and wakes their threads.
     pub(crate) watch: Watch,
+    /// What clients are told waits there.
+    pub(crate) rows: Rows,
 }

@@ -42,7 +42,7 @@ pub struct Served<B: Naming, L> {
 /// Room that a worker uses for each connection anew.
 #[derive(Drop)]
 pub struct Buffers {
-    /// For what comes; not empty.
+    /// For what comes; not empty. It grows where much comes at once (`converse` of `lane_work`).
     pub input: Vec<u8>,
     /// For what is said.
     pub output: Vec<u8>,
@@ -99,7 +99,7 @@ fn serve_one<B: Naming, R: Wait, G: Gate, S: Summons, I: Read, O: Sink>(
         producer.new.desk.permits.items }
     ensures receiver { IsReceiver context.now.channel.now producer.new.desk.receiver }
     ensures number { producer.new.desk.number ≡ producer.old.desk.number }
-    ensures room { length buffers.new.input.items ≡ length buffers.old.input.items }
+    ensures room { 0 < length buffers.new.input.items }
 
     // What a line tells before this connection came, since then, and since it is over; nothing was written to it yet.
     ensures mail { result ≡ false → (before since after : Told)
@@ -123,7 +123,7 @@ fn serve_one<B: Naming, R: Wait, G: Gate, S: Summons, I: Read, O: Sink>(
         &mut call.input,
         &mut call.output,
         &door.mark.stop,
-        buffers.input.as_mut_slice(),
+        &mut buffers.input,
         &mut buffers.output,
     );
     let how = how_it_ended(ending);
@@ -156,7 +156,7 @@ fn attend<B: Naming, R: Wait, G: Gate, S: Summons, L: Line>(
         producer.new.desk.permits.items }
     ensures receiver { IsReceiver context.now.channel.now producer.new.desk.receiver }
     ensures number { producer.new.desk.number ≡ producer.old.desk.number }
-    ensures room { length buffers.new.input.items ≡ length buffers.old.input.items }
+    ensures room { 0 < length buffers.new.input.items }
     ensures mail { result ≡ false → (before since after : Told)
         → Took before since (L.Input.remaining call.old.input)
         → IsUnwritten since (L.Output.taken call.old.output)
@@ -205,7 +205,7 @@ fn attend_next<B: Naming, R: Wait, G: Gate, S: Summons, L: Line>(
         producer.new.desk.permits.items }
     ensures receiver { IsReceiver context.now.channel.now producer.new.desk.receiver }
     ensures number { producer.new.desk.number ≡ producer.old.desk.number }
-    ensures room { length buffers.new.input.items ≡ length buffers.old.input.items }
+    ensures room { 0 < length buffers.new.input.items }
     ensures none { result ≡ None → (producer.new ≡ producer.old)
         × (L.told line.new ≡ L.told line.old) }
     ensures mail { result ≡ Some false

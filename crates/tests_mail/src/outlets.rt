@@ -154,6 +154,22 @@ fn offers(alloc: Global, length: usize, want: &[usize]) -> Result<bool, AllocErr
     Ok(told && sink.offers.as_slice() == want)
 }
 
+// The same of a buffer that has such a row in place of one of seven bytes, which is given back.
+fn offers_behind_a_trade(alloc: Global, length: usize, want: &[usize]) -> Result<bool, AllocError> {
+    let sink = Noting {
+        offers: Vec::new(alloc),
+        has_failed: false,
+    };
+    let mut out = Outgoing::new(alloc, Buffer::new(sink, vec![in alloc; 0; 7]?));
+    let first = out.trade(vec![in alloc; 0; length]?);
+    let pieces: &[&[u8]] = &[b"ab", b"cd", b"e", b"0123456789", b""];
+    let told = say_and_flush(pieces, &mut out)?;
+    let Some(sink) = out.into_sink() else {
+        return Ok(false);
+    };
+    Ok(first.len() == 7 && told && sink.offers.as_slice() == want)
+}
+
 #[test]
 fn a_vector_keeps_all_that_is_said(rt: HostRuntime) -> Result<(), AllocError> {
     let mut out = Vec::new(rt.alloc());
@@ -178,5 +194,13 @@ fn a_piece_that_is_longer_than_the_row_goes_as_it_is(rt: HostRuntime) -> Result<
     assert!(rt; offers(rt.alloc(), 4, &[4, 1, 10])?);
     assert!(rt; offers(rt.alloc(), 10, &[5, 10])?);
     assert!(rt; offers(rt.alloc(), 16, &[15])?);
+    Ok(())
+}
+
+#[test]
+fn a_row_is_traded(rt: HostRuntime) -> Result<(), AllocError> {
+    assert!(rt; offers_behind_a_trade(rt.alloc(), 0, &[2, 2, 1, 10])?);
+    assert!(rt; offers_behind_a_trade(rt.alloc(), 4, &[4, 1, 10])?);
+    assert!(rt; offers_behind_a_trade(rt.alloc(), 16, &[15])?);
     Ok(())
 }

@@ -6,6 +6,7 @@ ghost use Rattle.std.specs.Prelude.{◌≡◌, ◌<◌, ◌≤◌};
 use change_ring::Flags;
 use delivery_token::{CopyKey, Job, Refusal, Text, Verdict};
 use house_history::{Answer, Front, Letter, MailboxParts, Naming, Opened};
+use imap_stream::Rows;
 use lane_work::Dispatch;
 use locked_mailbox::LockedMailbox;
 use mailbox::{History, Limits, Mailbox};
@@ -82,6 +83,8 @@ struct Sender<B: Naming> {
 #[derive(Drop)]
 pub(crate) struct TestHouse<B: Naming> {
     pub(crate) shelf: Shelf<B>,
+    /// What its clients are told waits there.
+    pub(crate) rows: Rows,
     sender: Mutex<Sender<B>>,
 }
 
@@ -98,7 +101,12 @@ pub(crate) fn open_house<B: Naming>(
 {
     let (shelf, dispatch) = open_shelf(alloc, history, count, limits)?;
     let sender = Mutex::new(Sender { dispatch, next: 0 });
-    Ok(TestHouse { shelf, sender })
+    let rows = Rows::new(alloc)?;
+    Ok(TestHouse {
+        shelf,
+        rows,
+        sender,
+    })
 }
 
 impl<B: Naming> TestHouse<B> {

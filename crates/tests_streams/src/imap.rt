@@ -186,7 +186,7 @@ pub(crate) fn open<'x, B: Naming, R: Wait>(
         return None;
     };
     let store = store_of(rt, tally, 0, house, &[]);
-    match Visit::open(rt, alloc, store, folders, known(most), wire) {
+    match Visit::open(rt, alloc, &house.rows, store, folders, known(most), wire) {
         Ok(visit) => Some(visit),
         Err(_) => None,
     }
@@ -596,7 +596,8 @@ fn greets<'a, B: Naming, R: Wait>(
 ) -> Result<bool, AllocError> {
     let store = store_of(rt, tally, 0, house, &[]);
     let page = Watched::new(Page { rt, bytes });
-    let visit = Visit::open(rt, alloc, store, folders(alloc)?, known(None), page);
+    let folders = folders(alloc)?;
+    let visit = Visit::open(rt, alloc, &house.rows, store, folders, known(None), page);
     Ok(visit.is_ok())
 }
 

@@ -403,8 +403,8 @@ fn talk<B: Naming, R: Wait, S: Summons>(
         has_failed: false,
     };
     let mut out = Vec::from_slice(context.alloc, b"what stood there before")?;
-    let mut buffer = [0u8; 300];
     let most = case.buffer.clamp(1, 300);
+    let mut buffer = vec![in context.alloc; 0; most]?;
     let came = converse(
         context,
         producer,
@@ -412,7 +412,7 @@ fn talk<B: Naming, R: Wait, S: Summons>(
         &mut input,
         &mut output,
         stop,
-        &mut buffer[..most],
+        &mut buffer,
         &mut out,
     );
     Ok(came == case.want && has_front(output.bytes.as_slice(), case.replies, case.room))

@@ -3,4 +3,4 @@ use Rattle.std.specs.Io.KnownBytes.{Keeps}
 use Rattle.lane_work.proofs.reading.read_piece.Given as goal
 
 abbrev pub invariant-loop : goal.invariant-loop
-invariant-loop g l = (length l.buffer ≡ length l.fn.buffer) × Keeps (g.I.Read.remaining l.fn.input) (g.I.Read.remaining l.input)
+invariant-loop g l = (length l.buffer.items ≡ length l.fn.buffer.items) × Keeps (g.I.Read.remaining l.fn.input) (g.I.Read.remaining l.input)

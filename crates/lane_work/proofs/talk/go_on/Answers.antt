@@ -1,4 +1,4 @@
-use Rattle.std.proofs.Common.{rules, ◌++◌, ◌∙◌, ◌≡◌, ap, refl, sym, subst, map, take, false, Err, Ok, arith}
+use Rattle.std.proofs.Common.{rules, List, ℕ, ◌++◌, ◌∙◌, ◌≡◌, ap, refl, sym, subst, map, take, false, Err, Ok, arith}
 use Rattle.std.specs.Io.KnownBytes.{Appends, Consumes}
 use Rattle.std.proofs.KnownBytes.{Keeps-refl}
 use Rattle.shard_queue.specs.Reply.{received}
@@ -28,7 +28,7 @@ loop-init g c = (
   refl,
   refl,
   c.requires.live,
-  refl,
+  omega arith,
   λ done begun. goes_begin (premises_of c.args.context.now.office.now) c.args.producer.now.desk.number done (g.I.Read.remaining c.args.input.now) (g.O.Sink.taken c.args.output.now) c.args.machine.now c.args.out.now.items (g.N.Notebook.tells c.args.producer.now.book)
       (received c.args.producer.now.desk.receiver) (map put_by c.args.producer.now.desk.permits.items) begun,
   start_same (received c.args.producer.now.desk.receiver),
@@ -103,7 +103,7 @@ returns-then-not-load-clause-played g c done begun =
     let on = going house p done stream before rest after m c.clear.new.self.items keeps heard put here not in
     let none : c.in-Ok-read_piece.count ≡ 0 = search rules in
     ends_here house p done stream before rest after m c.clear.new.self.items keeps heard put here less c.args.machine.now.setting (s.failed c.send.new.w) (Ok Gone) c.clear.ensures.items v.6 (v.7 ∙ c.requires.host) c.in-Ok.ensures.live
-    (keeps_of rest less (subst (λ n. Consumes rest less (take n c.read_piece.new.buffer)) none c.in-Ok-read_piece.ensures.came)) (λ all. (on.1, on.0, c.in-Ok-read_piece.ensures.end none, all))
+    (keeps_of rest less (subst (λ n. Consumes rest less (take n c.read_piece.new.buffer.items)) none c.in-Ok-read_piece.ensures.came)) (λ all. (on.1, on.0, c.in-Ok-read_piece.ensures.end none, all))
 
 pub loop-preserved : goal.loop-preserved
 loop-preserved g c =
@@ -118,7 +118,7 @@ loop-preserved g c =
       c.in-Ok-Read.ensures.same.0 ∙ v.6,
       c.in-Ok-Read.ensures.same.1 ∙ v.7,
       c.in-Ok.ensures.live,
-      c.in-Ok-read_piece.ensures.len ∙ v.9,
+      (let e = c.in-Ok-read_piece.ensures.len in let w = c.widen.ensures in omega (arith, e, v.9, w)),
       λ done begun.
           let s = g.O.Sink in
           let house = premises_of c.args.context.now.office.now in
@@ -133,7 +133,8 @@ loop-preserved g c =
           let put = map put_by c.loop.producer.desk.permits.items in
           let keeps = g.N.Notebook.tells c.loop.producer.book in
           let out = c.clear.new.self.items in
-          let piece = take c.in-Ok-read_piece.count c.read_piece.new.buffer in
+          let piece = take c.in-Ok-read_piece.count c.deref.result.now in
+          let came = subst (λ (xs : List ℕ). Consumes rest less (take c.in-Ok-read_piece.count xs)) (sym c.deref.ensures.value) c.in-Ok-read_piece.ensures.came in
           let not = c.has_ended.ensures.going c.if-has_ended.false in
           let here = goes_sent house p done stream before rest (s.taken c.loop.output) after m c.loop.out.items out keeps heard put c.clear.ensures.items (subst (Appends (s.taken c.loop.output) after) c.as_slice.ensures.value c.in-Ok.ensures.ok) (v.10 done begun) in
           let was = stood house p done stream before rest after m out keeps heard put here not in
@@ -142,7 +143,7 @@ loop-preserved g c =
           let named = subst (λ n. TookPiece c.args.context.now.office.now.directory (rooms_of lanes) n done here.taken piece c.in-Ok-Read.field-0 c.take_piece.new.machine (here.told ++ c.take_piece.new.out.items) (g.N.Notebook.tells c.take_piece.new.producer.book) (received c.take_piece.new.producer.desk.receiver) (map put_by c.take_piece.new.producer.desk.permits.items)) v.2 took in
           let read = subst (λ (n : Next). TookPiece c.args.context.now.office.now.directory (rooms_of lanes) p done here.taken piece n c.take_piece.new.machine (here.told ++ c.take_piece.new.out.items) (g.N.Notebook.tells c.take_piece.new.producer.book) (received c.take_piece.new.producer.desk.receiver) (map put_by c.take_piece.new.producer.desk.permits.items)) c.in-Ok-Read.field-0-is named in
           goes_piece house p done stream before rest after m out keeps heard put here not less piece c.take_piece.new.machine c.take_piece.new.out.items (g.N.Notebook.tells c.take_piece.new.producer.book) (received c.take_piece.new.producer.desk.receiver) (map put_by c.take_piece.new.producer.desk.permits.items)
-          c.in-Ok-read_piece.ensures.came read,
+          came read,
       start_on (received c.args.producer.now.desk.receiver) (received c.loop.producer.desk.receiver) (received c.take_piece.new.producer.desk.receiver) v.11 c.in-Ok-Read.ensures.grew,
       λ seat was. c.in-Ok-Read.ensures.backed seat (v.12 seat was),
     )
@@ -164,7 +165,8 @@ returns-in-Ok-Shut-clause-played g c done begun =
     let put = map put_by c.loop.producer.desk.permits.items in
     let keeps = g.N.Notebook.tells c.loop.producer.book in
     let out = c.clear.new.self.items in
-    let piece = take c.in-Ok-read_piece.count c.read_piece.new.buffer in
+    let piece = take c.in-Ok-read_piece.count c.deref.result.now in
+    let came = subst (λ (xs : List ℕ). Consumes rest less (take c.in-Ok-read_piece.count xs)) (sym c.deref.ensures.value) c.in-Ok-read_piece.ensures.came in
     let not = c.has_ended.ensures.going c.if-has_ended.false in
     let here = goes_sent house p done stream before rest (s.taken c.loop.output) after m c.loop.out.items out keeps heard put c.clear.ensures.items (subst (Appends (s.taken c.loop.output) after) c.as_slice.ensures.value c.in-Ok.ensures.ok) (v.10 done begun) in
     let was = stood house p done stream before rest after m out keeps heard put here not in
@@ -174,7 +176,7 @@ returns-in-Ok-Shut-clause-played g c done begun =
     let shut = subst (λ (n : Next). TookPiece c.args.context.now.office.now.directory (rooms_of lanes) p done here.taken piece n c.take_piece.new.machine (here.told ++ c.take_piece.new.out.items) (g.N.Notebook.tells c.take_piece.new.producer.book) (received c.take_piece.new.producer.desk.receiver) (map put_by c.take_piece.new.producer.desk.permits.items)) c.in-Ok-Shut.field-0-is named in
     ends_shut house p done stream before rest after m out keeps heard put here not less (s.taken c.shut_down.new.output) (s.failed c.shut_down.new.output) c.args.machine.now.setting piece c.take_piece.new.machine c.take_piece.new.out.items
     (g.N.Notebook.tells c.take_piece.new.producer.book) (received c.take_piece.new.producer.desk.receiver) (map put_by c.take_piece.new.producer.desk.permits.items) c.shut_down.result (c.in-Ok-Shut.ensures.same.0 ∙ v.6) (c.in-Ok-Shut.ensures.same.1 ∙ v.7 ∙ c.requires.host)
-    c.in-Ok-read_piece.ensures.came shut c.shut_down.ensures.last
+    came shut c.shut_down.ensures.last
 
 pub returns-in-Err-NoMemory-clause-played : goal.returns-in-Err-NoMemory-clause-played
 returns-in-Err-NoMemory-clause-played g c done begun =
@@ -195,7 +197,8 @@ returns-in-Err-NoMemory-clause-played g c done begun =
     let put = map put_by c.loop.producer.desk.permits.items in
     let keeps = g.N.Notebook.tells c.loop.producer.book in
     let out = c.clear.new.self.items in
-    let piece = take c.in-Ok-read_piece.count c.read_piece.new.buffer in
+    let piece = take c.in-Ok-read_piece.count c.deref.result.now in
+    let came = subst (λ (xs : List ℕ). Consumes rest less (take c.in-Ok-read_piece.count xs)) (sym c.deref.ensures.value) c.in-Ok-read_piece.ensures.came in
     let not = c.has_ended.ensures.going c.if-has_ended.false in
     let here = goes_sent house p done stream before rest (s.taken c.loop.output) after m c.loop.out.items out keeps heard put c.clear.ensures.items (subst (Appends (s.taken c.loop.output) after) c.as_slice.ensures.value c.in-Ok.ensures.ok) (v.10 done begun) in
     let was = stood house p done stream before rest after m out keeps heard put here not in
@@ -206,7 +209,7 @@ returns-in-Err-NoMemory-clause-played g c done begun =
     subst (λ (f : TalkFault). IsPlayed house c.args.machine.now.setting p done stream less before last failed (g.N.Notebook.tells c.take_piece.new.producer.book) (received c.take_piece.new.producer.desk.receiver) (map put_by c.take_piece.new.producer.desk.permits.items) (Err f)) (sym c.give_up.ensures.fault)
     (ends_wanting house p done stream before rest after m out keeps heard put here not less last failed c.args.machine.now.setting piece c.take_piece.new.out.items
     (g.N.Notebook.tells c.take_piece.new.producer.book) (received c.take_piece.new.producer.desk.receiver) (map put_by c.take_piece.new.producer.desk.permits.items) v.6 (v.7 ∙ c.requires.host)
-    c.in-Ok-read_piece.ensures.came named given)
+    came named given)
 
 pub returns-in-Err-Torn-clause-played : goal.returns-in-Err-Torn-clause-played
 returns-in-Err-Torn-clause-played g c done begun =
@@ -224,7 +227,7 @@ returns-in-Err-Torn-clause-played g c done begun =
     let put = map put_by c.loop.producer.desk.permits.items in
     let keeps = g.N.Notebook.tells c.loop.producer.book in
     let out = c.clear.new.self.items in
-    let piece = take c.in-Ok-read_piece.count c.read_piece.new.buffer in
+    let piece = take c.in-Ok-read_piece.count c.read_piece.new.buffer.items in
     let not = c.has_ended.ensures.going c.if-has_ended.false in
     let here = goes_sent house p done stream before rest (s.taken c.loop.output) after m c.loop.out.items out keeps heard put c.clear.ensures.items (subst (Appends (s.taken c.loop.output) after) c.as_slice.ensures.value c.in-Ok.ensures.ok) (v.10 done begun) in
     ends_torn house p done stream before rest after m out keeps heard put here not less (s.failed c.send.new.w) c.args.machine.now.setting piece
