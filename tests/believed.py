@@ -3,9 +3,10 @@
 
     tests/believed.py                       each file that has some, how many, and how many lines they take with their comments
     tests/believed.py --parts               the same in the parts in which the page lists them: the headline, which is over any dialogues; what of LMTP and of IMAP
-                                            comes to it; and what the other promises need besides. A definition counts in the first part that cites it
+                                            comes to it; what README's sentence to a relay and the one to a client need besides; a server; and the others. A
+                                            definition counts in the first part that cites it
     tests/believed.py --page docs/DEFINITIONS.md    the same check that the gate makes: the page lists these files in these parts, each with its lines, and no other
-                                            of specs/, and the heads of its sections tell their sums
+                                            of specs/; the heads of its sections tell their sums; and each function that README's promise names is of some part
     tests/believed.py CRATE::FUNCTION ..    those of other functions
     tests/believed.py --apart               whether what public clauses say stands apart, as the gate checks too: each definition of specs/ is cited by a
                                             clause that another crate can see, those of specs/inner/ by none, and specs/rows/ has tables of worked examples,
@@ -25,13 +26,42 @@ TOP = os.path.dirname(os.path.dirname(os.path.abspath(__file__)))
 # Who carries the promise: the law over every list of events, a run of a script, a run of threads.
 ROOTS = ["exactly_once::exactly_once_delivery", "script::drive", "running_house::run_house"]
 
+# README's two sentences, of a house on one thread: what a relay may conclude, and what a client may.
+TO_A_RELAY = ["laws_relay::relays_may_conclude_over_any"]
+TO_A_CLIENT = ["laws_client::clients_keep_up", "laws_client::clients_know_flags", "laws_client::uids_stay"]
+
 # The parts of the page, each with how the heads of its sections begin and the functions whose clauses cite it. The last one has all other sections.
 PARTS = [
     ("The headline", ["exactly_once::exactly_once_over_any"]),
     ("LMTP", ["exactly_once::connections_may_speak_lmtp"]),
     ("IMAP", ["exactly_once::sessions_may_speak_imap"]),
+    ("To a relay", TO_A_RELAY),
+    ("To a client", TO_A_CLIENT),
+    ("Besides, to a client", ["laws_client::lists_are_current", "laws_client::appends_are_told", "laws_client::answers_are_cut"]),
+    (
+        "Of a server",
+        [
+            "lane_work::books_stand",
+            "lane_work::converse",
+            "laws_relay::served_relays_conclude",
+            "laws_relay::servers_conclude",
+            "laws_relay::lines_conclude",
+            "laws_relay::berths_conclude",
+            "session_thread::shown_since_select",
+            "laws_client::served_visits_are_lives",
+            "laws_client::served_lists_are_current",
+            "laws_client::served_texts_stay",
+            "serving::serve_house",
+        ],
+    ),
     ("", ROOTS),
 ]
+
+# The parts that README's two sentences rest on, whatever the dialogues are.
+SENTENCES = ["The headline", "To a relay", "To a client"]
+
+# A program's own function hands on what `drive` and `serve` say; no other crate can cite it.
+OF_A_PROGRAM = {"post_house::command"}
 
 # What the tables of worked examples begin with stands with the other words of its file.
 WITH_ITS_FILE = {("crates/laws_client/specs/Client.antt", "fresh")}
@@ -292,6 +322,20 @@ def parts():
             before.setdefault(path, set()).update(names)
 
 
+def of_sentences(found):
+    """The files that README's two sentences rest on, and their lines, by what came of the parts."""
+    files = [sizes for head, sizes in found if head in SENTENCES]
+    return len({path for sizes in files for path in sizes}), sum(sum(sizes.values()) for sizes in files)
+
+
+def named_in(page, head):
+    """The functions that a section of a page names, each with its crate."""
+    with open(page, encoding="utf-8") as text:
+        section = next(it for it in re.split(r"^## ", text.read(), flags=re.M) if it.startswith(head))
+    for names, crate in re.findall(r"((?:`\w+`(?:, | and |, and of all that a stopped server leaves )?)+)(?: of)? \(crate `(\w+)`", section):
+        yield from (f"{crate}::{name}" for name in re.findall(r"`(\w+)`", names))
+
+
 def listed_in(page):
     """The sections of a page that list files of specs/: the head of each, the lines that it tells, and the files with the lines that it tells of them, None
     where it tells none."""
@@ -323,6 +367,12 @@ def wrong_on(page):
     first = f"{sum(found[0][1].values()):,}", str(len(found[0][1]))
     if not told or told.groups() != first:
         yield f"doesn't tell that the headline is {first[0]} lines in {first[1]} files"
+    files, lines = of_sentences(found)
+    with open(page, encoding="utf-8") as text:
+        if f"rest on {lines:,} lines in {files} files" not in text.read():
+            yield f"doesn't tell that README's two sentences rest on {lines:,} lines in {files} files"
+    roots = {root for _, them in PARTS for root in them} | OF_A_PROGRAM
+    yield from (f"has no part for {name}, which README names" for name in named_in(os.path.join(TOP, "README.md"), "What is promised") if name not in roots)
     for (head, sizes), files in zip(found, listed):
         where = f"in its part `{head}`" if head else "in its last part"
         yield from (f"doesn't list {path} {where}" for path in sizes.keys() - files.keys())
@@ -339,10 +389,13 @@ def tell_apart():
 
 
 def tell_parts():
-    for head, sizes in parts():
+    found = list(parts())
+    for head, sizes in found:
         for path in sorted(sizes):
             print(f"{path}: {sizes[path]} lines")
         print(f"{head or 'The others'}: {len(sizes)} files, {sum(sizes.values())} lines")
+    files, lines = of_sentences(found)
+    print(f"README's two sentences, whatever is spoken: {files} files, {lines} lines")
     return 0
 
 

@@ -125,9 +125,8 @@ impl Berth<'_> {
         ensures ready { C.ready courier.new }
         ensures kept { (first : C) → C.kept first courier.old → C.kept first courier.new }
     {
-        let quiet = AtomicU64::new(0);
         for _ in rt.forever() {
-            if !self.go_on(rt, alloc, visit, courier, input, buffer, &quiet) {
+            if !self.go_on(rt, alloc, visit, courier, input, buffer) {
                 return;
             }
         }
@@ -144,7 +143,6 @@ impl Berth<'_> {
         courier: &mut C,
         input: &mut I,
         buffer: &mut Vec<u8>,
-        quiet: &AtomicU64,
     ) -> bool
         requires ready { C.ready courier.old }
         ensures ready { C.ready courier.new }
@@ -154,7 +152,7 @@ impl Berth<'_> {
             return false;
         }
         if visit.awaited() == After::Idle && input.wait() == Woken::Bell {
-            return self.show(rt, visit, quiet);
+            return self.show(rt, visit);
         }
         self.serve_read(alloc, visit, courier, input, buffer)
     }
@@ -164,12 +162,12 @@ impl Berth<'_> {
         &self,
         rt: &R,
         visit: &mut Visit<'v, B, R, G, W>,
-        quiet: &AtomicU64,
     ) -> bool {
         let is_ended = ends_by_a_look(visit);
         self.idles
             .store(visit.awaited() == After::Idle, Ordering::SeqCst);
         // It stays 0, and nobody wakes who waits there.
+        let quiet = AtomicU64::new(0);
         quiet.park_timeout(rt, 0, Duration::from_micros(REST));
         !is_ended
     }

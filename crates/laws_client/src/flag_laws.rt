@@ -81,17 +81,20 @@ pub fn flags_become_current()
 {}
 
 /// Over any record of a house that was new, of whatever events: the client of each session that is there is right about flags,
-/// by all that was printed to it since it was let in; and where nothing is pending all that it knows of flags is what they are. So it
-/// is, too, of all that the lines of a script did.
+/// by all that was printed to it since it was let in; and where nothing is pending all that it knows of flags is what they are.
 /// Of the house it is asked that numbers and names can be printed and messages have less than 2 GiB, which settings that are
 /// right see to.
 pub fn clients_know_flags()
     // Over any record of a new house that is printable: the client of a session there is right about flags; if nothing is pending, as they are.
     ensures record { ClientsKnowFlags }
 
-    // So it is of the record that exactly-once delivery has, of whatever events, and of what the lines of a script did.
+    // So it is of the record that exactly-once delivery has, of whatever events.
     ensures house { ClientsOfHousesKnowFlags }
-    ensures scripts { ClientsOfScriptsKnowFlags }
+{}
+
+/// So it is of all that the lines of a script did.
+pub fn clients_of_scripts_know_flags()
+    ensures { ClientsOfScriptsKnowFlags }
 {}
 
 /// One life, by computing: a session selects an empty mailbox, a copy comes there, a NOOP shows it, and its client sets a flag of

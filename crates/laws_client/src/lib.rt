@@ -8,16 +8,17 @@ mod record_laws;
 mod served_laws;
 
 pub use flag_laws::{
-    clients_know_flags, flags_are_heard, flags_are_told, flags_become_current, flags_have_moments,
-    houses_tell_flags, lives_tell_flags, one_life_knows_flags, turns_tell_flags,
+    clients_know_flags, clients_of_scripts_know_flags, flags_are_heard, flags_are_told,
+    flags_become_current, flags_have_moments, houses_tell_flags, lives_tell_flags,
+    one_life_knows_flags, turns_tell_flags,
 };
 pub use list_laws::{
     answers_are_followed, ends_tell_nothing, lines_are_followed, literals_are_passed_over,
     messages_are_told, talks_are_followed, turns_are_followed, uids_are_heard,
 };
 pub use record_laws::{
-    answers_are_cut, appends_are_told, calls_are_seen, clients_keep_up, lists_are_current,
-    lives_are_known, one_life_happens, turns_are_known, uids_stay,
+    answers_are_cut, appends_are_told, calls_are_seen, clients_keep_up, houses_can_be_printed,
+    lists_are_current, lives_are_known, one_life_happens, turns_are_known, uids_stay,
 };
 pub use served_laws::{
     served_clients_keep_up, served_clients_know_flags, served_lists_are_current,

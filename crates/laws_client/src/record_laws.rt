@@ -1,6 +1,6 @@
 //! Laws of what a client reads of a house, as functions that do nothing: what its session counts in every world, what its calls
 //! come to, its turns, and its whole life. Laws of what a client reads ask that the numbers can be printed (`HasSmallNumbers` of
-//! the settings) and that texts are short (`HasShortTexts` of the world): settings without a fault see to both (`clients_keep_up`).
+//! the settings) and that texts are short (`HasShortTexts` of the world): settings without a fault see to both (`houses_can_be_printed`, `clients_keep_up`).
 
 ghost use Rattle.laws_client.specs.Appends.{AppendsAreTold, AppendsWereTold};
 ghost use Rattle.laws_client.specs.AtEntries.{AnswersMakeCurrent, VerdictsMakeCurrent};
@@ -118,7 +118,7 @@ pub fn lists_are_current()
 /// since it was let in and all that was printed to it since, is right about what its session counts, wherever it is in a mailbox
 /// that it knows: since a SELECT or EXAMINE was answered OK. The world in which it was let in is the one before that entry. So it is,
 /// too, of a session that was let in and has ended by itself, up to its end. Of the house it is asked that numbers and names can be printed
-/// and messages have less than 2 GiB, which settings that are right see to; then no text was accepted that is too long to be told of.
+/// and messages have less than 2 GiB (`houses_can_be_printed`); then no text was accepted that is too long to be told of.
 pub fn clients_keep_up()
     // Over any record of a new house that is printable: the client of a session there keeps up with what it counts, by what it was told.
     ensures record { ClientsKeepUp }
@@ -131,9 +131,12 @@ pub fn clients_keep_up()
 
     // Where a message has less than 2 GiB, no text was accepted that is too long to be told of.
     ensures texts { TextsStayShort }
+{}
 
-    // A house of settings that are in range and without a fault is printable.
-    ensures settings { SettingsCanBePrinted }
+/// A house whose settings are in range and have no fault is printable, which `clients_keep_up` asks for: its numbers and names stand in lines, and its messages
+/// have less than 2 GiB.
+pub fn houses_can_be_printed()
+    ensures { SettingsCanBePrinted }
 {}
 
 /// What a client may conclude of the messages that it appended or had copied, by the answers that its session gave it, over any record of a house

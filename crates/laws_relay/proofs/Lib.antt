@@ -20,6 +20,7 @@ mod RecordFronts
 mod RecordJoined
 mod Printed
 mod Sessions
+mod Stilling
 mod Worlds
 mod Seats
 mod Scenes

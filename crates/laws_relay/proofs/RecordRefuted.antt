@@ -16,6 +16,7 @@ use Rattle.world.specs.World.{World, empty_world}
 use Rattle.house.specs.Setup.{terms_of}
 use Rattle.house_peers.specs.Caller.{Caller, greeted}
 use Rattle.laws_relay.specs.RecordLaws.{IsDone}
+use Rattle.laws_relay.specs.ImapSessions.{imap_sessions}
 use Rattle.laws_relay.specs.rows.RecordRows.{left, opened, setup, start}
 use Rattle.laws_relay.specs.Concluded.{MayConclude, StandsAsSent, StandsNowhere}
 
@@ -141,7 +142,7 @@ another_rest host directory w seat serial sent told rest may e =
 -- ---- whether more is to be said
 
 -- one that has its greeting still to print
-not_done : IsDone (opened start 0 0) 0 0 → ⊥
+not_done : IsDone imap_sessions (opened start 0 0) 0 0 → ⊥
 unfolding first_byte
 not_done h =
     let quiet = h (greeted (terms_of setup start.shut) 0 0) refl refl in
@@ -149,5 +150,5 @@ not_done h =
     omega (arith, x)
 
 -- and one that has left
-done_where_left : IsDone (left (opened start 0 0) 0) 0 0
+done_where_left : IsDone imap_sessions (left (opened start 0 0) 0) 0 0
 done_where_left b e s = absurd (let x : ◌≡◌ {A = Option Caller} None (Some b) = e in cc)

@@ -1,6 +1,5 @@
--- What a session's calls do to lanes and to what was heard: nothing.
+-- What a session's calls do to lanes and to what was heard, where it speaks IMAP: nothing.
 use Rattle.std.proofs.Common.{◌≡◌, ℕ, Bool, false, ◌+◌, List, [], ◌∷◌, refl, ap, ◌∙◌, Option, Some}
-use Rattle.delivery_token.specs.declared.log.Noted.{Noted}
 use Rattle.mailbox.specs.Events.{in_set}
 use Rattle.mailbox.specs.declared.clients.MailFault.{MailFault}
 use Rattle.mailbox.specs.declared.clients.MailFault.TheVariants.{Stranger, Lapped, Spent, NoMemory}
@@ -8,24 +7,17 @@ use Rattle.world.specs.World as world
 use Rattle.world.specs.World.{Config, World, Event, Put, PutEnd, Take, Deliver, Answer, Hear, Enter, Status, Read, Store, Expunge, Feed, Leave, Discard, Step, discard_spent, discards_them, enter_no_memory, enter_spent, enters, leave_spent, leaves, mail_lapped, mail_no_memory, mail_spent, mails}
 use Rattle.imap_session.specs.Exchange as calls
 use Rattle.imap_session.specs.Exchange.{Call, Look, Read as ReadCall, Count, Alter, Expunge as ExpungeCall, Feed as FeedCall, Leave as LeaveCall, Discard as DiscardCall, Enter as EnterCall, Entered, Looked, Found, Counted, Altered, Expunged, Fed, Left, Discarded, Refused, Starved}
-use Rattle.imap_session.specs.Store.{Met}
-use Rattle.house.proofs.Carried.{speaks_carried}
-use Rattle.house.specs.Printing.{Speaks}
-use Rattle.house.specs.Scene.{LeavesMailbox, Parts, SessionGoes, SessionIdles, SessionTalks, lingers, parts, remains, talks}
-use Rattle.house.specs.Setup.{Setup, session_seat}
-use Rattle.house_peers.specs.SeatedVisitor.{SeatedVisitor}
 use Rattle.house.specs.Meets.{Meets, IsRefused, IsTurnedAway}
+use Rattle.imap_session.proofs.Carried.{Carries, converses_carried, turns_carried, verdict_carried}
+use Rattle.laws_relay.specs.Sessions.{AreStill, IsStill}
+use Rattle.laws_relay.specs.ImapSessions.{imap_sessions}
 
 -- ---- steps
 
--- lanes and what was heard are the same
-abbrev pub Still : World → World → Type 0
-Still w v = (v.lane ≡ w.lane) × (v.heard ≡ w.heard)
-
-same_world : (w v : World) → v ≡ w → Still w v
+pub same_world : (w v : World) → v ≡ w → IsStill w v
 same_world w v e = (ap (λ (x : World). x.lane) e, ap (λ (x : World). x.heard) e)
 
-still_then : (w u v : World) → Still w u → Still u v → Still w v
+pub still_then : (w u v : World) → IsStill w u → IsStill u v → IsStill w v
 still_then w u v a b = (b.0 ∙ a.0, b.1 ∙ a.1)
 
 -- an event of a mailbox
@@ -38,7 +30,7 @@ IsOfMail (Answer s) = ⊥
 IsOfMail (Hear p) = ⊥
 IsOfMail event = Unit {0}
 
-still_step : (k : Config) (w : World) (e : Event) (v : World) → IsOfMail e → Step k w e v → Still w v
+still_step : (k : Config) (w : World) (e : Event) (v : World) → IsOfMail e → Step k w e v → IsStill w v
 still_step k w (Put p s c) v h step = absurd h
 still_step k w (PutEnd p s) v h step = absurd h
 still_step k w (Take s) v h step = absurd h
@@ -72,19 +64,19 @@ still_step k w (Discard m goes) v h (discard_spent there spent e) = rw e (refl, 
 
 -- ---- calls
 
-was_refused : (k : Config) (n : ℕ) (w : World) (fault : MailFault) (why : Type 0) (v : World) → IsRefused n w fault why v → Still w v
+was_refused : (k : Config) (n : ℕ) (w : World) (fault : MailFault) (why : Type 0) (v : World) → IsRefused n w fault why v → IsStill w v
 was_refused k n w Stranger why v m = same_world w v m.0
 was_refused k n w Lapped why v m = same_world w v m.0
 was_refused k n w Spent why v m = same_world w v m.0
 was_refused k n w NoMemory why v m = same_world w v m.0
 
-turned_away : (k : Config) (n m : ℕ) (w : World) (fault : MailFault) (v : World) → IsTurnedAway k n m w fault v → Still w v
+turned_away : (k : Config) (n m : ℕ) (w : World) (fault : MailFault) (v : World) → IsTurnedAway k n m w fault v → IsStill w v
 turned_away k n m w Stranger v t = same_world w v t.1
 turned_away k n m w Lapped v t = absurd t
 turned_away k n m w Spent v t = same_world w v t.1
 turned_away k n m w NoMemory v t = same_world w v t.1
 
-pub meets_still : (k : Config) (n : ℕ) (w : World) (call : Call) (answer : calls.Answer) (v : World) → Meets k n w call answer v → Still w v
+pub meets_still : (k : Config) (n : ℕ) (w : World) (call : Call) (answer : calls.Answer) (v : World) → Meets k n w call answer v → IsStill w v
 meets_still k n w (EnterCall i) (Entered opening) v m = still_step k w (world.Enter n i) v tt m.0
 meets_still k n w (EnterCall i) (Looked view) v m = absurd m
 meets_still k n w (EnterCall i) (Found row) v m = absurd m
@@ -185,36 +177,15 @@ meets_still k n w (DiscardCall i uids) Discarded v m = still_step k w (world.Dis
 meets_still k n w (DiscardCall i uids) (Starved j) v m = absurd m
 meets_still k n w (DiscardCall i uids) (Refused fault) v m = same_world w v m.0
 
--- ---- turns
+-- ---- what is said over them
 
-speaks_still : (k : Config) (place : ℕ) (whole : Bool) (seat n : ℕ) (heard : List Noted) (w mid : World) (before after : SeatedVisitor) (printed : List ℕ)
-    → Speaks (Meets k place) whole seat n heard before w mid after printed → Still w mid
-speaks_still k place whole seat n heard w mid before after printed s =
-    (speaks_carried {S = World} {T = Unit {0}} (Meets k place) (λ a call answer b. Unit {0}) (λ v x. Still w v)
-    (λ old new call answer x step r. (tt, tt, still_then w old new r (meets_still k place old call answer new step)))
-    whole seat n heard before w mid after printed tt s (refl, refl)).2
+each_still : (k : Config) (n : ℕ) (w : World) → Carries {S = World} {T = Unit {0}} (Meets k n) (λ a call answer b. Unit {0}) (λ v x. IsStill w v)
+each_still k n w old new call answer x step before = (tt, tt, still_then w old new before (meets_still k n old call answer new step))
 
-met_still : (k : Config) (place : ℕ) (w : World) (events : List calls.Event) (v : World) → Met (Meets k place) w events v → Still w v
-met_still k place w [] v e = same_world w v e
-met_still k place w (e ∷ es) v (mid, one, more) = still_then w mid v (meets_still k place w e.call e.answer mid one) (met_still k place mid es v more)
-
-pub leaves_still : (k : Setup) (place : ℕ) (w v : World) → LeavesMailbox k place w v → Still w v
-leaves_still k place w v l = meets_still k.config place w (calls.Leave false) l.0 v l.1
-
-parts_still : (k : Setup) (whole : Bool) (place : ℕ) (after : SeatedVisitor) (w v : World) (o : Option SeatedVisitor) → Parts k whole place after w v o → Still w v
-parts_still k whole place after w v o (parts ended said l e) = leaves_still k place w v l
-parts_still k whole place after w v o (remains on e f) = same_world w v e
-
-pub talks_still : (k : Setup) (whole : Bool) (place : ℕ) (heard : List Noted) (w : World) (before : SeatedVisitor) (v : World) (o : Option SeatedVisitor) (printed : List ℕ)
-    → SessionTalks k whole place heard w before v o printed → Still w v
-talks_still k whole place heard w before v o printed t =
-    still_then w t.mid v (speaks_still k.config place whole (session_seat k place) (place + 1) heard w t.mid before t.after printed t.speaks) (parts_still k whole place t.after t.mid v o t.left)
-
-pub goes_still : (k : Setup) (whole : Bool) (place : ℕ) (heard : List Noted) (w : World) (before : SeatedVisitor) (v : World) (o : Option SeatedVisitor) (printed : List ℕ)
-    → SessionGoes k whole place heard w before v o printed → Still w v
-goes_still k whole place heard w before v o printed (talks there t) = talks_still k whole place heard w before v o printed t
-goes_still k whole place heard w before v o printed (lingers gone l same silent) = same_world w v same
-
-pub idles_still : (k : Setup) (whole : Bool) (place : ℕ) (w : World) (before : SeatedVisitor) (v : World) (o : Option SeatedVisitor) (printed : List ℕ)
-    → SessionIdles k whole place w before v o printed → Still w v
-idles_still k whole place w before v o printed i = still_then w i.mid v (met_still k.config place w i.idles.turned.events i.mid i.idles.turned.met) (parts_still k whole place _ i.mid v o i.left)
+pub imap_is_still : AreStill imap_sessions
+imap_is_still = record {
+  meets = meets_still;
+  answers = λ k n at next waits still said w v a. (converses_carried {S = World} {T = Unit {0}} (Meets k n) (λ a call answer b. Unit {0}) (λ v x. IsStill w v) (each_still k n w) at a.sent w v said a.how next tt a.converses (refl, refl)).2;
+  hears = λ k n at next verdict how said w v a. (verdict_carried {S = World} {T = Unit {0}} (Meets k n) (λ a call answer b. Unit {0}) (λ v x. IsStill w v) (each_still k n w) at verdict w v [] said how next tt a (refl, refl)).2;
+  idles = λ k n at next shown said w v a. (turns_carried {S = World} {T = Unit {0}} (Meets k n) (λ a call answer b. Unit {0}) (λ v x. IsStill w v) (each_still k n w) at w v [] said shown next tt a (refl, refl)).2;
+}

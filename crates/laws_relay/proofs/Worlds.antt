@@ -5,7 +5,7 @@ use Rattle.world.specs.World.{Config, World, Event, Step}
 use Rattle.exactly_once.proofs.Grown.{heard_stays_heard}
 use Rattle.laws_relay.proofs.Moving.{IsNoPutOf, no_copy_grows, same_lanes, sent_by, step_puts}
 use Rattle.laws_relay.proofs.Seated.{SentGrows}
-use Rattle.laws_relay.proofs.Sessions.{Still}
+use Rattle.laws_relay.specs.Sessions.{IsStill}
 
 -- more was heard at each seat, and none of the first seats put a copy
 pub record Bears (connections : ℕ) (w v : World) : Type 0 where
@@ -21,7 +21,7 @@ bears_then connections w u v a b = record {
 pub bears_same : (connections : ℕ) (w : World) → Bears connections w w
 bears_same connections w = record { heard = λ seat r c. c; sent = λ seat l n these t h. h }
 
-pub bears_still : (connections : ℕ) (w v : World) → Still w v → Bears connections w v
+pub bears_still : (connections : ℕ) (w v : World) → IsStill w v → Bears connections w v
 bears_still connections w v s = record {
   heard = λ seat r c. subst (λ (heard : ℕ → List Noted). Contains (heard seat) r) (sym s.1) c;
   sent = λ seat l n. no_copy_grows seat w v (same_lanes seat w v s.0) n;

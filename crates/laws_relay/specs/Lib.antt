@@ -7,6 +7,8 @@ pub mod Conclusions
 pub mod Numbers
 pub mod Connections
 pub mod Concluded
+pub mod Sessions
+pub mod ImapSessions
 pub mod Record
 pub mod RecordLaws
 pub mod Entries

@@ -10,7 +10,9 @@ mod served_laws;
 pub use account_laws::{
     accounts_conclude, connections_of_accounts_are_known, reports_conclude, uids_are_alone,
 };
-pub use record_laws::relays_may_conclude;
+pub use record_laws::{
+    StillSessions, imap_sessions_may_visit, relays_may_conclude, relays_may_conclude_over_any,
+};
 pub use reply_laws::{connections_are_known, messages_are_known, replies_are_read};
 pub use served_laws::{
     berths_conclude, lines_conclude, served_relays_conclude, servers_conclude, workers_conclude,

@@ -14,6 +14,7 @@ use Rattle.shard_queue.specs.At.{set_at}
 use Rattle.exactly_once.specs.Promise.{Entry, Other, Replies, Silence, Verdict}
 use Rattle.laws_relay.specs.Concluded.{key_at}
 use Rattle.laws_relay.specs.Record.{came_for, has_vanished, told_to}
+use Rattle.laws_relay.specs.ImapSessions.{imap_sessions}
 
 abbrev pub setup : Setup
 setup = record {
@@ -64,40 +65,40 @@ entries =
     ∷ []
 
 -- each has its own bytes, also where another stands at its seat later
-came_first : came_for 0 0 start entries ≡ codes "LHLO a.example\r\nRSET\r\nNO"
+came_first : came_for imap_sessions 0 0 start entries ≡ codes "LHLO a.example\r\nRSET\r\nNO"
 came_first = refl
 
-came_at_the_other_seat : came_for 1 0 start entries ≡ codes "RSET\r\n"
+came_at_the_other_seat : came_for imap_sessions 1 0 start entries ≡ codes "RSET\r\n"
 came_at_the_other_seat = refl
 
-came_later : came_for 0 1 start entries ≡ codes "LHLO b.example\r\n"
+came_later : came_for imap_sessions 0 1 start entries ≡ codes "LHLO b.example\r\n"
 came_later = refl
 
-came_for_none : came_for 0 2 start entries ≡ []
+came_for_none : came_for imap_sessions 0 2 start entries ≡ []
 came_for_none = refl
 
 -- and its own replies, as they are said to it: with each CRLF, and without the marks of standard output
-told_first : told_to setup 0 0 start entries
+told_first : told_to imap_sessions setup 0 0 start entries
     ≡ codes "220 mx.example.org LMTP ready\r\n250-mx.example.org\r\n250-PIPELINING\r\n250-ENHANCEDSTATUSCODES\r\n250 8BITMIME\r\n250 2.0.0 OK\r\n250 2.1.5 Delivered\r\n"
 told_first = refl
 
-told_at_the_other_seat : told_to setup 1 0 start entries ≡ codes "220 mx.example.org LMTP ready\r\n250 2.0.0 OK\r\n"
+told_at_the_other_seat : told_to imap_sessions setup 1 0 start entries ≡ codes "220 mx.example.org LMTP ready\r\n250 2.0.0 OK\r\n"
 told_at_the_other_seat = refl
 
-told_later : told_to setup 0 1 start entries ≡ codes "220 mx.example.org LMTP ready\r\n"
+told_later : told_to imap_sessions setup 0 1 start entries ≡ codes "220 mx.example.org LMTP ready\r\n"
 told_later = refl
 
-told_none : told_to setup 0 2 start entries ≡ []
+told_none : told_to imap_sessions setup 0 2 start entries ≡ []
 told_none = refl
 
 -- whose peer was gone: not that of the one that came to the seat later
-vanished_first : has_vanished 0 0 start entries ≡ true
+vanished_first : has_vanished imap_sessions 0 0 start entries ≡ true
 vanished_first = refl
 
-stays_at_the_other_seat : has_vanished 1 0 start entries ≡ false
+stays_at_the_other_seat : has_vanished imap_sessions 1 0 start entries ≡ false
 stays_at_the_other_seat = refl
 
-stays_later : has_vanished 0 1 start entries ≡ false
+stays_later : has_vanished imap_sessions 0 1 start entries ≡ false
 stays_later = refl
 
 -- ---- keys

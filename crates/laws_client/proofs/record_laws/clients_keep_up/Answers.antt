@@ -1,4 +1,3 @@
-use Rattle.laws_client.proofs.Folded.{settings_can_be_printed}
 use Rattle.laws_client.proofs.RecordKeeping.{clients_keep_up, clients_kept_up, clients_of_houses_keep_up, texts_stay_short}
 use Rattle.laws_client.proofs.record_laws.clients_keep_up.Goals as goal
 
@@ -10,9 +9,6 @@ returns-clause-ended c = clients_kept_up
 
 pub returns-clause-house : goal.returns-clause-house
 returns-clause-house c = clients_of_houses_keep_up
-
-pub returns-clause-settings : goal.returns-clause-settings
-returns-clause-settings c = settings_can_be_printed
 
 pub returns-clause-texts : goal.returns-clause-texts
 returns-clause-texts c = texts_stay_short

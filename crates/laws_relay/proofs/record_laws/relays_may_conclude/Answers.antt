@@ -1,12 +1,14 @@
+use Rattle.laws_relay.specs.ImapSessions.{imap_sessions}
+use Rattle.laws_relay.proofs.Sessions.{imap_is_still}
 use Rattle.laws_relay.proofs.RecordConcluding as concluding
 use Rattle.laws_relay.proofs.Names as names
 use Rattle.laws_relay.proofs.record_laws.relays_may_conclude.Goals as goal
 
 pub returns-clause-recorded : goal.returns-clause-recorded
-returns-clause-recorded c = concluding.by_the_record
+returns-clause-recorded c = concluding.by_the_record imap_sessions imap_is_still
 
 pub returns-clause-played : goal.returns-clause-played
-returns-clause-played c = concluding.of_all_events
+returns-clause-played c = concluding.of_all_events imap_sessions imap_is_still
 
 pub returns-clause-scripted : goal.returns-clause-scripted
 returns-clause-scripted c = concluding.of_scripts
