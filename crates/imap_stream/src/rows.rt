@@ -28,6 +28,8 @@ impl Rows {
     }
 
     // A row. Where none is kept and memory is refused it has no bytes: what is said is sent at once then.
+    // Its frame stands apart: the stack of a thread that waits for its client is as deep as what it once said.
+    #[inline(never)]
     pub(crate) fn lend<R: Wait>(&self, rt: &R, alloc: Global) -> Vec<u8> {
         if let Some(row) = self.kept.pop(rt) {
             return row;
@@ -38,6 +40,7 @@ impl Rows {
     }
 
     // A row that was lent is there again. One too many is let go, as is one that has no bytes.
+    #[inline(never)]
     pub(crate) fn take_back<R: Wait>(&self, rt: &R, row: Vec<u8>) {
         if !row.is_empty() {
             let _ = self.kept.push(rt, row);

@@ -21,6 +21,7 @@ mod RecordJoined
 mod Printed
 mod Sessions
 mod Stilling
+mod SessionsRefuted
 mod Worlds
 mod Seats
 mod Scenes
