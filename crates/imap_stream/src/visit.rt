@@ -28,6 +28,9 @@ use workers_sync::{Courier, Gate, Lost};
 /// What a client is told that is dismissed.
 const FAREWELL: &[u8] = b"* BYE Shutting down\r\n";
 
+/// The most bytes of a greeting that wait to be sent: it goes as one piece.
+const GREETING: usize = 128;
+
 /// Why a visit came to a stop.
 #[derive(Clone, Copy, Debug, PartialEq, Eq)]
 pub enum VisitFault {
@@ -59,22 +62,28 @@ fn take_row<R: Wait, W: Sink + Drop>(rt: &R, rows: &Rows, out: &mut Outgoing<W>)
     let _ = out.trade(row);
 }
 
-// The row is the house's again. A client that is silent has none, so it costs no memory.
-fn give_row_back<R: Wait, W: Sink + Drop>(rt: &R, rows: &Rows, out: &mut Outgoing<W>)
+// What is said from here on is sent at once: the row in which it waited is given back. A client that is silent has none, so it costs no memory.
+fn leave_row<W: Sink + Drop>(out: &mut Outgoing<W>) -> Vec<u8>
     requires { IsReady out.old }
     ensures { IsFresh (taken_of out.old) out.new }
 {
     let none = Vec::new(out.alloc());
     out.begin();
-    let row = out.trade(none);
+    out.trade(none)
+}
+
+// The row is the house's again.
+fn give_row_back<R: Wait, W: Sink + Drop>(rt: &R, rows: &Rows, out: &mut Outgoing<W>)
+    requires { IsReady out.old }
+    ensures { IsFresh (taken_of out.old) out.new }
+{
+    let row = leave_row(out);
     rows.take_back(rt, row);
 }
 
 // The outlet of a client that was greeted on `output`, behind its greeting, of which nothing is left unsent.
-fn greeted<R: Wait, W: Sink + Drop>(
-    rt: &R,
+fn greeted<W: Sink + Drop>(
     alloc: Global,
-    rows: &Rows,
     connection: &ImapConnection,
     output: W,
 ) -> Result<Outgoing<W>, (W, VisitFault)>
@@ -87,7 +96,8 @@ fn greeted<R: Wait, W: Sink + Drop>(
         (greeting connection.now.session.profile) (W.taken stop.0)) }
     ensures failed { IfErr result (λ stop. W.failed stop.0 ≡ true) }
 {
-    let row = rows.lend(rt, alloc);
+    let mut row = Vec::new(alloc);
+    let _ = row.resize(GREETING, 0);
     let mut out = Outgoing::new(alloc, Buffer::new(output, row));
     let Ok(()) = connection.greet(&mut out) else {
         unreachable!()
@@ -98,7 +108,7 @@ fn greeted<R: Wait, W: Sink + Drop>(
         };
         return Err((output, VisitFault::Write));
     };
-    give_row_back(rt, rows, &mut out);
+    let _ = leave_row(&mut out);
     Ok(out)
 }
 
@@ -181,7 +191,7 @@ impl<'a, B: Naming, R: Wait, G: Gate, W: Sink + Drop> Visit<'a, B, R, G, W> {
         let Ok(connection) = ImapConnection::new(alloc, folders, admission) else {
             return Err((output, VisitFault::NoMemory));
         };
-        let out = greeted(rt, alloc, rows, &connection, output)?;
+        let out = greeted(alloc, &connection, output)?;
         Ok(Visit {
             rt,
             rows,
