@@ -63,6 +63,8 @@ fn take_row<R: Wait, W: Sink + Drop>(rt: &R, rows: &Rows, out: &mut Outgoing<W>)
 }
 
 // What is said from here on is sent at once: the row in which it waited is given back. A client that is silent has none, so it costs no memory.
+// Its frame stands apart, as does the greeting's: the stack of a thread that waits for its client is as deep as where its visit was opened.
+#[inline(never)]
 fn leave_row<W: Sink + Drop>(out: &mut Outgoing<W>) -> Vec<u8>
     requires { IsReady out.old }
     ensures { IsFresh (taken_of out.old) out.new }
@@ -82,6 +84,7 @@ fn give_row_back<R: Wait, W: Sink + Drop>(rt: &R, rows: &Rows, out: &mut Outgoin
 }
 
 // The outlet of a client that was greeted on `output`, behind its greeting, of which nothing is left unsent.
+#[inline(never)]
 fn greeted<W: Sink + Drop>(
     alloc: Global,
     connection: &ImapConnection,
