@@ -1,5 +1,6 @@
--- A copy that stands as it was sent, and what the definition refuses: none, one of another text, one key at two positions or in two mailboxes. And a connection that has still to print.
-use Rattle.std.proofs.Common.{◌≡◌, ℕ, zero, suc, ◌<◌, List, [], ◌∷◌, length, refl, Option, Some, None, ap, sym, ◌∙◌, arith}
+-- A copy that stands as it was sent, and what the definition refuses: none, one of another text, key, mailbox or flag, one key at two positions or in two mailboxes. And a connection
+-- that has still to print.
+use Rattle.std.proofs.Common.{◌≡◌, ℕ, zero, suc, true, false, ◌<◌, List, [], ◌∷◌, length, refl, Option, Some, None, ap, sym, ◌∙◌, arith}
 use Rattle.std.specs.Prelude.{Contains, codes, slice_index_or}
 use Rattle.change_ring.specs.Log.{no_flags}
 use Rattle.delivery_token.specs.Text.{Text, undated}
@@ -127,6 +128,45 @@ other_text h = by h.mailbox (h.copy, h.uid) h.here (ap (λ (c : Job). c.text) h.
     by : (m : ℕ) (a : Job × ℕ) → Contains (another.box m).accepted a → a.0.text ≡ undated (stored_text h.sender sent.lines) → ⊥
     by zero a c e = none_there a c
     by (suc zero) a (zero, l, same) e = differs _ (ap (λ (x : Job × ℕ). x.0.text.bytes) same ∙ ap (λ (w : Text). w.bytes) e)
+    by (suc zero) a (suc k, l, same) e = omega (arith, l)
+    by (suc (suc m)) a c e = none_there a c
+
+-- it has the key of the message's second recipient
+abbrev for_the_next : World
+for_the_next = holds [] ((record (copy_of 1 right) { key = record key { recipient = 1 } }, 7) ∷ [])
+
+under_another_key : StandsAsSent home for_the_next sent 0 key → ⊥
+under_another_key h = by h.mailbox (h.copy, h.uid) h.here (ap (λ (c : Job). c.key.recipient) h.is)
+  where
+    by : (m : ℕ) (a : Job × ℕ) → Contains (for_the_next.box m).accepted a → a.0.key.recipient ≡ 0 → ⊥
+    by zero a c e = none_there a c
+    by (suc zero) a (zero, l, same) e = let x : 1 ≡ 0 = ap (λ (x : Job × ℕ). x.0.key.recipient) same ∙ e in omega (arith, x)
+    by (suc zero) a (suc k, l, same) e = omega (arith, l)
+    by (suc (suc m)) a c e = none_there a c
+
+-- it stands in bob's mailbox, and is for the other one
+abbrev gone_astray : World
+gone_astray = holds [] ((copy_of 0 right, 7) ∷ [])
+
+in_anothers_mailbox : StandsAsSent home gone_astray sent 0 key → ⊥
+in_anothers_mailbox h = by h.mailbox (h.copy, h.uid) h.here (ap (λ (c : Job). c.mailbox) h.is)
+  where
+    by : (m : ℕ) (a : Job × ℕ) → Contains (gone_astray.box m).accepted a → a.0.mailbox ≡ m → ⊥
+    by zero a c e = none_there a c
+    by (suc zero) a (zero, l, same) e = let x : 0 ≡ 1 = ap (λ (x : Job × ℕ). x.0.mailbox) same ∙ e in omega (arith, x)
+    by (suc zero) a (suc k, l, same) e = omega (arith, l)
+    by (suc (suc m)) a c e = none_there a c
+
+-- it was read before anybody could
+abbrev read_already : World
+read_already = holds [] ((record (copy_of 1 right) { flags = record no_flags { seen = true } }, 7) ∷ [])
+
+with_a_flag : StandsAsSent home read_already sent 0 key → ⊥
+with_a_flag h = by h.mailbox (h.copy, h.uid) h.here (ap (λ (c : Job). c.flags.seen) h.is)
+  where
+    by : (m : ℕ) (a : Job × ℕ) → Contains (read_already.box m).accepted a → a.0.flags.seen ≡ false → ⊥
+    by zero a c e = none_there a c
+    by (suc zero) a (zero, l, same) e = let x : true ≡ false = ap (λ (x : Job × ℕ). x.0.flags.seen) same ∙ e in cc
     by (suc zero) a (suc k, l, same) e = omega (arith, l)
     by (suc (suc m)) a c e = none_there a c
 
