@@ -11,8 +11,8 @@ same_pair a b seat serial message recipient uid =
 
 pub returns : goal.returns
 returns c = slice_eq-Decides (λ a b.
-    let tests = Decides-and _ _ (Decides-and _ _ (Decides-eqb a.0.seat b.0.seat) (Decides-and _ _ (Decides-eqb a.0.serial b.0.serial) (Decides-and _ _ (Decides-eqb a.0.message b.0.message) (Decides-eqb a.0.recipient b.0.recipient)))) (Decides-eqb a.1 b.1) in (
-      λ h. let e = tests.0 h in same_pair a b e.0.0 e.0.1.0 e.0.1.1.0 e.0.1.1.1 e.1,
-      λ e. tests.1 ((ap (λ p. p.0.seat) e, (ap (λ p. p.0.serial) e, (ap (λ p. p.0.message) e, ap (λ p. p.0.recipient) e))), ap (λ p. p.1) e),
+    let tests = Decides-and _ _ (Decides-and _ _ (Decides-eqb a.0.serial b.0.serial) (Decides-and _ _ (Decides-eqb a.0.message b.0.message) (Decides-and _ _ (Decides-eqb a.0.seat b.0.seat) (Decides-eqb a.0.recipient b.0.recipient)))) (Decides-eqb a.1 b.1) in (
+      λ h. let e = tests.0 h in same_pair a b e.0.1.1.0 e.0.0 e.0.1.0 e.0.1.1.1 e.1,
+      λ e. tests.1 ((ap (λ p. p.0.serial) e, (ap (λ p. p.0.message) e, (ap (λ p. p.0.seat) e, ap (λ p. p.0.recipient) e))), ap (λ p. p.1) e),
     ))
     c.args.some.now c.args.others.now c.eq.result c.eq.ensures
