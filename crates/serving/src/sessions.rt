@@ -176,7 +176,10 @@ fn open_visit<'a, B: Naming, R: Wait, W: Sink + Drop>(
         bells,
     );
     let (alloc, rows) = (floor.alloc, gateway.rows);
-    Visit::open(rt, alloc, rows, store, folders, admission, output).ok()
+    let Ok(visit) = Visit::open(rt, alloc, rows, store, folders, admission, output) else {
+        return None;
+    };
+    Some(visit)
 }
 
 // How a visit ended, where this was the end of reading.
