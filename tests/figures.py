@@ -26,7 +26,7 @@ LIMITS = {
     "per mille of clauses that begin with a line over 100 columns": 1,
     "lines of proofs": 104000,
     "lines of docs/PROVING.md": 300,
-    "lines of code, definitions and proofs": 202000,
+    "lines of code, definitions and proofs": 202100,
     "files that name an option (ring_max)": 50,
     "files that name a setting of serve (lmtp_port)": 35,
     "files that name a refusal of a copy (MailboxFull)": 39,
