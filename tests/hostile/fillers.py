@@ -44,7 +44,7 @@ class Filler(Peer):
     """A relay that brings large messages, whatever it is answered."""
 
     def __init__(self, house, number):
-        self.number, self.chance, self.count, self.sizes = number, random.Random(number), 0, {}
+        self.number, self.chance, self.count, self.refused, self.sizes = number, random.Random(number), 0, 0, {}
         super().__init__(house)
 
     def open(self):
@@ -56,7 +56,9 @@ class Filler(Peer):
         answers = self.talk.deliver(["alice"], sized_data(name, size))
         if answers == [DELIVERED]:
             self.sizes[name] = size
-        elif answers != [OUT_OF_MEMORY]:
+        elif answers == [OUT_OF_MEMORY]:
+            self.refused += 1
+        else:
             raise Wrong(f"a message was answered {answers!r}")
 
     def leave(self):
@@ -125,9 +127,9 @@ class Filled:
         self.fillers, self.emptier = [Filler(self.house, number) for number in range(FILLERS)], Emptier(self.house)
 
     def go_on(self, seconds):
-        """Small mail comes again until it is taken, as a relay does it; it is read and removed."""
+        """Small mail comes again until it is taken, as a relay does it; it is read and removed. On a machine with other work it takes longer till a filler is refused."""
         until = time.monotonic() + seconds
-        while time.monotonic() < until:
+        while time.monotonic() < until or (not any(one.refused for one in self.fillers) and time.monotonic() < until + PATIENCE):
             started, self.number = time.monotonic(), self.number + 1
             data = sized_data(f"small-{self.number}", 1_000)
             while (answers := self.relay.deliver(["bob"], data)) == [OUT_OF_MEMORY] and time.monotonic() < started + PATIENCE:
