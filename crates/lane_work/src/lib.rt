@@ -47,6 +47,7 @@ pub use notebook::{Notebook, Unkept};
 pub use outcome::{Ending, TalkFault};
 pub use permit_laws::{closed_channels_tell, closed_lanes_tell};
 pub use producer::{Context, Producer};
+pub use reading::Buffers;
 pub use rooms::{
     Hands, PermitRooms, Rooms, make_hands, make_lists, make_permit_rooms, make_rooms, spend_hands,
     spend_lists, spend_permit_rooms, spend_rooms,

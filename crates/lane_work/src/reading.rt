@@ -1,7 +1,7 @@
-//! One read of a stream, tried again where it was interrupted, and the buffer that grows with what comes. What becomes of the bytes is for the
-//! modules beside this one.
+//! One read of a stream, tried again where it was interrupted, and the buffers of a connection, of which one grows with what comes. What becomes of
+//! the bytes is for the modules beside this one.
 
-ghost use Rattle.std.specs.Prelude.{◌≡◌, ◌<◌, ◌≤◌, IfOk, OnErr, length, take};
+ghost use Rattle.std.specs.Prelude.{◌≡◌, ◌<◌, ◌≤◌, ◌*◌, IfOk, OnErr, length, max, min, take, vec_capacity};
 ghost use Rattle.std.specs.Io.KnownBytes.{Consumes, IsAtEnd, Keeps};
 
 use std::io::{ErrorKind, Read};
@@ -9,6 +9,15 @@ use std::sync::Wait;
 
 /// The most bytes that are read at once.
 const MOST: usize = 131_072;
+
+/// Room that a worker uses for each connection anew.
+#[derive(Drop)]
+pub struct Buffers {
+    /// For what comes; not empty. It grows where much comes at once (`converse`).
+    pub input: Vec<u8>,
+    /// For what is said.
+    pub output: Vec<u8>,
+}
 
 // A reader failed, and not because it was interrupted.
 #[derive(Clone, Copy, Debug, PartialEq, Eq)]
@@ -42,9 +51,14 @@ pub(crate) fn read_piece<R: Wait, I: Read>(
 }
 
 // Makes the buffer twice as long, up to `MOST`, where a read of so many bytes filled it: so a connection over which little comes costs little. Where memory is refused it stays
-// as it is.
+// as it is; where there is room it isn't.
 pub(crate) fn widen(count: usize, buffer: &mut Vec<u8>)
-    ensures { length buffer.old.items ≤ length buffer.new.items }
+    ensures longer { length buffer.old.items ≤ length buffer.new.items }
+    ensures most { length buffer.new.items ≤ max (length buffer.old.items) 131_072 }
+    ensures few { count < length buffer.old.items → buffer.new ≡ buffer.old }
+    ensures grows { length buffer.old.items ≤ count → length buffer.old.items < 131_072
+        → min (2 * length buffer.old.items) 131_072 ≤ vec_capacity buffer.old
+        → length buffer.new.items ≡ min (2 * length buffer.old.items) 131_072 }
 {
     let len = buffer.len();
     if count < len || MOST <= len {

@@ -1,7 +1,7 @@
 //! One connection over a reader and a sink, from its greeting to its end. What is done with the bytes of
 //! one read stands in `piece`, what is said last in `shutting`.
 
-ghost use Rattle.std.specs.Prelude.{◌≡◌, ◌<◌, ◌≤◌, ◌∷◌, List, [], map, length, Err, IfOk, OnOk, false, true};
+ghost use Rattle.std.specs.Prelude.{◌≡◌, ◌<◌, ◌≤◌, ◌∷◌, List, [], map, length, Err, IfOk, OnOk, false, max, true};
 ghost use Rattle.lmtp_machine.specs.declared.reply.Reply.TheVariants.{Greeting};
 ghost use Rattle.lmtp_machine.specs.Conversation.{opened};
 ghost use Rattle.lmtp_machine.specs.LmtpMachine.{StandsFor};
@@ -23,7 +23,7 @@ use crate::notebook::Notebook;
 use crate::outcome::{Ending, TalkFault};
 use crate::piece::{Next, take_piece};
 use crate::producer::{Context, Producer};
-use crate::reading::{read_piece, widen};
+use crate::reading::{Buffers, read_piece, widen};
 use crate::shutting::{give_up, shut_down};
 use crate::worker::Stop;
 use house_history::Naming;
@@ -70,8 +70,7 @@ fn go_on<B: Naming, R: Wait, G: Gate, S: Summons, N: Notebook, I: Read, O: Sink>
     input: &mut I,
     output: &mut O,
     stop: &AtomicBool,
-    buffer: &mut Vec<u8>,
-    out: &mut Vec<u8>,
+    buffers: &mut Buffers,
 ) -> Result<Ending, TalkFault>
     requires permits { AreInForce context.now.office.now.directory
         context.now.office.now.lanes.items producer.old.desk.number
@@ -82,7 +81,7 @@ fn go_on<B: Naming, R: Wait, G: Gate, S: Summons, N: Notebook, I: Read, O: Sink>
     requires quiet { machine.old.pending ≡ [] }
     requires host { machine.old.host ≡ context.now.office.now.host.items }
     requires live { O.failed output.old ≡ false }
-    requires room { 0 < length buffer.old.items }
+    requires room { 0 < length buffers.old.input.items }
     ensures permits { AreInForce context.now.office.now.directory
         context.now.office.now.lanes.items producer.old.desk.number
         producer.new.desk.permits.items }
@@ -95,12 +94,14 @@ fn go_on<B: Naming, R: Wait, G: Gate, S: Summons, N: Notebook, I: Read, O: Sink>
         → length (received producer.old.desk.receiver) < length (received
         producer.new.desk.receiver) }
     ensures owner { N.owner producer.new.book ≡ N.owner producer.old.book }
-    ensures len { length buffer.old.items ≤ length buffer.new.items }
+    ensures longer { length buffers.old.input.items ≤ length buffers.new.input.items }
+    ensures most { length buffers.new.input.items
+        ≤ max (length buffers.old.input.items) 131_072 }
     ensures live { OnOk result (O.failed output.new ≡ false) }
     ensures failed { result ≡ Err TalkFault.Write → O.failed output.new ≡ true }
     ensures played { (done : List Judged)
         → Stands context.now.office.now.directory context.now.office.now.directory
-        (rooms_of context.now.office.now.lanes.items) producer.old.desk.number done [] false machine.old out.old.items
+        (rooms_of context.now.office.now.lanes.items) producer.old.desk.number done [] false machine.old buffers.old.output.items
         (N.tells producer.old.book) (received producer.old.desk.receiver)
         (map put_by producer.old.desk.permits.items)
         → IsPlayed (premises_of context.now.office.now) machine.old.setting
@@ -111,24 +112,31 @@ fn go_on<B: Naming, R: Wait, G: Gate, S: Summons, N: Notebook, I: Read, O: Sink>
     ensures backed { KeepsBacked producer.old.desk producer.new.desk }
 {
     for _ in context.rt.forever() {
-        let Ok(()) = send(output, out.as_slice()) else {
+        let Ok(()) = send(output, buffers.output.as_slice()) else {
             return Err(TalkFault::Write);
         };
-        out.clear();
+        buffers.output.clear();
         if machine.has_ended() {
             return Ok(Ending::Quit);
         }
-        let Ok(count) = read_piece(context.rt, input, buffer) else {
+        let Ok(count) = read_piece(context.rt, input, &mut buffers.input) else {
             return Err(TalkFault::Read);
         };
         // Who stops the house shuts the side that is read, so that a peer's end may be the house's.
         if count == 0 && !stop.load(Ordering::SeqCst) {
             return Ok(Ending::Gone);
         }
-        match take_piece(context, producer, machine, &buffer[..count], stop, out) {
-            Ok(Next::Read) => widen(count, buffer),
-            Ok(Next::Shut) => return shut_down(machine, output, out),
-            Err(Stop::NoMemory) => return Err(give_up(output, out.as_slice())),
+        match take_piece(
+            context,
+            producer,
+            machine,
+            &buffers.input[..count],
+            stop,
+            &mut buffers.output,
+        ) {
+            Ok(Next::Read) => widen(count, &mut buffers.input),
+            Ok(Next::Shut) => return shut_down(machine, output, &mut buffers.output),
+            Err(Stop::NoMemory) => return Err(give_up(output, buffers.output.as_slice())),
             Err(Stop::Torn) => return Err(TalkFault::Torn),
         }
     }
@@ -136,10 +144,10 @@ fn go_on<B: Naming, R: Wait, G: Gate, S: Summons, N: Notebook, I: Read, O: Sink>
 }
 
 /// Plays one connection of a worker over a stream, from the greeting to its end: what was said is sent,
-/// bytes are read into `buffer` and taken turn by turn, over and over. Replies are collected in `out`, and
-/// all that one read leads to are sent together. Both buffers are lent by whoever calls it, to be used for
-/// the next connection too; `buffer` has one byte or more, a read that fills it makes it twice as long, up to 131,072, unless memory is refused, and what `out` has is dropped. The
-/// sink, which hasn't failed, is flushed by nobody here.
+/// bytes are read into `buffers.input` and taken turn by turn, over and over. Replies are collected in `buffers.output`, and
+/// all that one read leads to are sent together. Both are lent by whoever calls it, to be used for
+/// the next connection too. The first has one byte or more, and a read that fills it makes it twice as long, up to 131,072, unless memory is
+/// refused; what the second has is dropped. The sink, which hasn't failed, is flushed by nobody here.
 ///
 /// The messages that are submitted are put on the worker's lanes, and nothing behind a message is taken
 /// before its verdicts were said (`lane_work`).
@@ -159,8 +167,7 @@ pub fn converse<B: Naming, R: Wait, G: Gate, S: Summons, N: Notebook, I: Read, O
     input: &mut I,
     output: &mut O,
     stop: &AtomicBool,
-    buffer: &mut Vec<u8>,
-    out: &mut Vec<u8>,
+    buffers: &mut Buffers,
 ) -> Result<Ending, TalkFault>
     // The desk has its own permit on each lane, over only where the office marks the shard as shut; its receiver is of `channel`.
     requires permits { AreInForce context.now.office.now.directory
@@ -171,7 +178,7 @@ pub fn converse<B: Naming, R: Wait, G: Gate, S: Summons, N: Notebook, I: Read, O
         ≡ length context.now.office.now.lanes.items }
     requires host { length context.now.office.now.host.items < 256 }
     requires live { O.failed output.old ≡ false }
-    requires room { 0 < length buffer.old.items }
+    requires room { 0 < length buffers.old.input.items }
 
     // The same holds after, so that the next connection may follow; no end was counted that wasn't heard.
     ensures permits { AreInForce context.now.office.now.directory
@@ -188,9 +195,11 @@ pub fn converse<B: Naming, R: Wait, G: Gate, S: Summons, N: Notebook, I: Read, O
         → length (received producer.old.desk.receiver) < length (received
         producer.new.desk.receiver) }
 
-    // The book stays its owner's, and `buffer` doesn't get shorter.
+    // The book stays its owner's. The buffer for what comes doesn't get shorter, and grows to 131,072 bytes at most.
     ensures owner { N.owner producer.new.book ≡ N.owner producer.old.book }
-    ensures len { length buffer.old.items ≤ length buffer.new.items }
+    ensures longer { length buffers.old.input.items ≤ length buffers.new.input.items }
+    ensures most { length buffers.new.input.items
+        ≤ max (length buffers.old.input.items) 131_072 }
 
     // Without an error the sink hasn't failed; after `Write` it has.
     ensures live { OnOk result (O.failed output.new ≡ false) }
@@ -212,13 +221,13 @@ pub fn converse<B: Naming, R: Wait, G: Gate, S: Summons, N: Notebook, I: Read, O
     // copy of which the books tell Stored stands there, in the mailbox that its RCPT line named, with the text that came.
     ensures backed { KeepsBacked producer.old.desk producer.new.desk }
 {
-    out.clear();
+    buffers.output.clear();
     let Ok(mut machine) = open(
         context.alloc,
         context.office,
         producer.desk.number,
         serial,
-        out,
+        &mut buffers.output,
     ) else {
         return Err(TalkFault::NoMemory);
     };
@@ -229,7 +238,6 @@ pub fn converse<B: Naming, R: Wait, G: Gate, S: Summons, N: Notebook, I: Read, O
         input,
         output,
         stop,
-        buffer,
-        out,
+        buffers,
     )
 }

@@ -73,7 +73,9 @@ impl<W: Sink> Outgoing<W> {
     /// The buffer waits in this row of bytes from here on, where it is here and all that was said was sent; the row that it had is given back.
     pub fn trade(&mut self, row: Vec<u8>) -> Vec<u8>
         requires ready { IsReady self.old }
-        ensures { IfSome self.old.buffer (λ b. self.new ≡ record self.old {
+        ensures row { IfSome self.old.buffer (λ b. (length result.items ≡ b.limit)
+            × (vec_capacity result ≡ b.memory)) }
+        ensures trades { IfSome self.old.buffer (λ b. self.new ≡ record self.old {
           buffer = Some (record b {
             limit = length row.items;
             memory = vec_capacity row;

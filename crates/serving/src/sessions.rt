@@ -215,9 +215,45 @@ fn admit_client<'a, B: Naming, R: Wait>(
     room: &mut Option<ClientVisit<'a, B, R>>,
 )
     requires live { ⟦<Watched<Timely<TcpStream>> as Sink>⟧.failed output ≡ false }
+    ensures { IfSome room.new (IsVisitOf gateway.now.floor.now gateway.now.compatible
+        gateway.now.user (⟦<Watched<Timely<TcpStream>> as Sink>⟧.taken output)) }
 {
     let output = Signed::new(output, gateway.sign);
     *room = open_visit(rt, gateway, output);
+}
+
+// The client of this visit, which is of the berth's user, from its first byte to its end; and how it ended.
+fn attend_client<'a, B: Naming, R: Wait, C: Courier>(
+    rt: &'a R,
+    ear: &mut Ear,
+    courier: &mut C,
+    gateway: &Gateway<'a, B>,
+    stream: &TcpStream,
+    visit: &mut ClientVisit<'a, B, R>,
+    buffer: &mut Vec<u8>,
+) -> Happened
+    requires ready { C.ready courier.old }
+    requires visit { (before : Option (List ℕ)) × IsVisitOf gateway.now.floor.now
+        gateway.now.compatible gateway.now.user before visit.old }
+    ensures ready { C.ready courier.new }
+    ensures kept { (first : C) → C.kept first courier.old → C.kept first courier.new }
+{
+    let visitor = visitor_of(gateway);
+    let berth = Berth {
+        idles: &*ear.idles,
+        stop: &gateway.door.mark.stop,
+    };
+    let mut input = Incoming::new(
+        rt,
+        stream,
+        visitor,
+        gateway.watch,
+        ear.berth,
+        &ear.bell,
+        &mut ear.waits,
+    );
+    berth.attend(rt, gateway.floor.alloc, visit, courier, &mut input, buffer);
+    how_it_ended(gateway, visitor, input.end())
 }
 
 // One client, from the greeting to its end; and how it ended.
@@ -242,22 +278,7 @@ fn serve_client<'a, B: Naming, R: Wait, C: Courier>(
     let Some(visit) = &mut *room else {
         return Happened::OutOfMemory;
     };
-    let visitor = visitor_of(gateway);
-    let berth = Berth {
-        idles: &*ear.idles,
-        stop: &gateway.door.mark.stop,
-    };
-    let mut input = Incoming::new(
-        rt,
-        stream,
-        visitor,
-        gateway.watch,
-        ear.berth,
-        &ear.bell,
-        &mut ear.waits,
-    );
-    berth.attend(rt, gateway.floor.alloc, visit, courier, &mut input, buffer);
-    how_it_ended(gateway, visitor, input.end())
+    attend_client(rt, ear, courier, gateway, stream, visit, buffer)
 }
 
 // A client that is one too many is told so, unless the house stops; and how it ended.

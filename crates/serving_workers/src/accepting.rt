@@ -13,7 +13,9 @@ ghost use Rattle.serving_workers.specs.Lines.{Closed, IsFresh, IsUnwritten, Told
 use crate::door::Door;
 use crate::line::{Call, Line};
 use house_history::{Answer, Letter, Naming};
-use lane_work::{Context, Desk, Dispatch, Ending, Producer, Summons, TalkFault, converse, end_all};
+use lane_work::{
+    Buffers, Context, Desk, Dispatch, Ending, Producer, Summons, TalkFault, converse, end_all,
+};
 use line_io::Sink;
 use server_report::{Happened, LogBook};
 use shard_queue::{Ended, ReceiverPermit};
@@ -37,15 +39,6 @@ pub struct Served<B: Naming, L> {
     pub mail: bool,
     /// Where its connections came in, if it is a worker.
     pub line: Option<L>,
-}
-
-/// Room that a worker uses for each connection anew.
-#[derive(Drop)]
-pub struct Buffers {
-    /// For what comes; not empty. It grows where much comes at once (`converse` of `lane_work`).
-    pub input: Vec<u8>,
-    /// For what is said.
-    pub output: Vec<u8>,
 }
 
 /// What a worker takes mail in with.
@@ -123,8 +116,7 @@ fn serve_one<B: Naming, R: Wait, G: Gate, S: Summons, I: Read, O: Sink>(
         &mut call.input,
         &mut call.output,
         &door.mark.stop,
-        &mut buffers.input,
-        &mut buffers.output,
+        buffers,
     );
     let how = how_it_ended(ending);
     producer.book.tell_connection(number, serial, how);

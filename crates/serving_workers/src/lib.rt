@@ -11,7 +11,7 @@ mod parcels;
 mod threads;
 mod workplace;
 
-pub use accepting::{Buffers, Outfit, Served};
+pub use accepting::{Outfit, Served};
 pub use closing::{Finished, Rest, close_all};
 pub use door::Door;
 pub use line::{Call, Line, Lines, Listens, SocketLine, SocketLines};

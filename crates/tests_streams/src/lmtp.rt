@@ -12,8 +12,8 @@ use budget::Budget;
 use envelope::Directory;
 use house_history::{Answer, Letter, Naming, Opened};
 use lane_work::{
-    Context, Desk, Dispatch, Ending, LanePermit, Office, Producer, Summons, TalkFault, Unkept,
-    converse,
+    Buffers, Context, Desk, Dispatch, Ending, LanePermit, Office, Producer, Summons, TalkFault,
+    Unkept, converse,
 };
 use line_io::Sink;
 use mailbox::Limits;
@@ -402,9 +402,11 @@ fn talk<B: Naming, R: Wait, S: Summons>(
         room: case.room,
         has_failed: false,
     };
-    let mut out = Vec::from_slice(context.alloc, b"what stood there before")?;
     let most = case.buffer.clamp(1, 300);
-    let mut buffer = vec![in context.alloc; 0; most]?;
+    let mut buffers = Buffers {
+        input: vec![in context.alloc; 0; most]?,
+        output: Vec::from_slice(context.alloc, b"what stood there before")?,
+    };
     let came = converse(
         context,
         producer,
@@ -412,8 +414,7 @@ fn talk<B: Naming, R: Wait, S: Summons>(
         &mut input,
         &mut output,
         stop,
-        &mut buffer,
-        &mut out,
+        &mut buffers,
     );
     Ok(came == case.want && has_front(output.bytes.as_slice(), case.replies, case.room))
 }

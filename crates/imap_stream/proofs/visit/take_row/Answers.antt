@@ -5,4 +5,4 @@ pub trade-requires : goal.trade-requires
 trade-requires g c = record { ready = ready_begun _ _ c.requires c.begin.ensures }
 
 pub returns : goal.returns
-returns g c = fresh_traded _ _ c.trade.new.self _ _ c.requires c.begin.ensures c.trade.ensures
+returns g c = fresh_traded _ _ c.trade.new.self _ _ c.requires c.begin.ensures c.trade.ensures.trades

@@ -1,4 +1,4 @@
-use Rattle.std.proofs.Common.{◌≡◌, ◌≤◌, length, map, [], List, false}
+use Rattle.std.proofs.Common.{◌≡◌, ◌≤◌, length, map, [], List, false, max}
 use Rattle.shard_queue.specs.Reply.{IsReceiver, received}
 use Rattle.shard_queue.specs.Shared.{IsStartOf}
 use Rattle.lane_work.specs.Copies.{rooms_of}
@@ -20,9 +20,10 @@ invariant-loop g l =
     × (l.machine.pending ≡ [])
     × (l.machine.setting ≡ l.fn.machine.setting) × (l.machine.host ≡ l.fn.machine.host)
     × (g.O.Sink.failed l.output ≡ false)
-    × (length l.fn.buffer.items ≤ length l.buffer.items)
+    × (length l.fn.buffers.input.items ≤ length l.buffers.input.items)
+    × (length l.buffers.input.items ≤ max (length l.fn.buffers.input.items) 131_072)
     × ((done : List Judged)
-    → Stands l.context.office.now.directory l.context.office.now.directory (rooms_of l.context.office.now.lanes.items) l.fn.producer.desk.number done [] false l.fn.machine l.fn.out.items (g.N.Notebook.tells l.fn.producer.book) (received l.fn.producer.desk.receiver) (map put_by l.fn.producer.desk.permits.items)
-    → Goes (premises_of l.context.office.now) l.fn.producer.desk.number done (g.I.Read.remaining l.fn.input) (g.I.Read.remaining l.input) (g.O.Sink.taken l.fn.output) (g.O.Sink.taken l.output) l.machine l.out.items (g.N.Notebook.tells l.producer.book) (received l.producer.desk.receiver) (map put_by l.producer.desk.permits.items))
+    → Stands l.context.office.now.directory l.context.office.now.directory (rooms_of l.context.office.now.lanes.items) l.fn.producer.desk.number done [] false l.fn.machine l.fn.buffers.output.items (g.N.Notebook.tells l.fn.producer.book) (received l.fn.producer.desk.receiver) (map put_by l.fn.producer.desk.permits.items)
+    → Goes (premises_of l.context.office.now) l.fn.producer.desk.number done (g.I.Read.remaining l.fn.input) (g.I.Read.remaining l.input) (g.O.Sink.taken l.fn.output) (g.O.Sink.taken l.output) l.machine l.buffers.output.items (g.N.Notebook.tells l.producer.book) (received l.producer.desk.receiver) (map put_by l.producer.desk.permits.items))
     × IsStartOf (received l.fn.producer.desk.receiver) (received l.producer.desk.receiver)
     × KeepsBacked l.fn.producer.desk l.producer.desk
