@@ -1,3 +1,4 @@
+pub mod Attending
 pub mod Flushing
 pub mod Sending
 pub mod Showing

@@ -1,16 +1,13 @@
 -- What was said is sent: from the parts of a visit to the visit.
-use Rattle.std.proofs.Common.{◌≡◌, ◌≢◌, ℕ, ◌<◌, ◌⊎◌, inl, inr, true, false, List, [], ◌++◌, length, take, refl, sym, subst}
+use Rattle.std.proofs.Common.{◌≡◌, ℕ, ◌<◌, ◌⊎◌, inl, inr, true, false, List, [], ◌++◌, length, take, sym, subst}
 use Rattle.std.specs.Prelude.{IfErr, OnErr, OnOk, Result, Ok, Err}
 use Rattle.workers_sync.specs.Carried.{Carried}
 use Rattle.workers_sync.specs.declared.courier.Lost.{Lost}
 use Rattle.std.specs.Io.KnownBytes.{Appends}
 use Rattle.imap_session.specs.Dialogue.{Dialogue, StandsFor}
 use Rattle.session_thread.specs.Life.{Moment, moment}
-use Rattle.imap_session.specs.declared.standing.After.{After}
 use Rattle.imap_stream.specs.declared.visit.VisitFault.{VisitFault}
-use Rattle.imap_stream.specs.declared.visit.VisitFault.TheVariants.{NoMemory, Torn, Write}
-use Rattle.imap_stream.specs.Visits.{Hears, HearsInPart, LeadsTo, SendsAll, SendsFirst, ShowsAll, ShowsInPart, Tells, Visit, is_over}
-use Rattle.imap_stream.specs.inner.Visits.{Looks, cut, cut_in_part, in_part, whole}
+use Rattle.imap_stream.specs.Visits.{Hears, HearsInPart, LeadsTo, SendsAll, SendsFirst, Tells, Visit}
 
 -- each dialogue was led by P, behind what stood in the room before
 abbrev pub Led : (Moment → Moment → Type 0) → Visit → List ℕ → List ℕ → Visit → Type 0
@@ -76,15 +73,3 @@ hears_what_went (Err why) Was Now piece room now old seen new before said same i
 pub sends_first : (old seen new : Visit) (said : List ℕ) → seen ≡ old → TookFirst seen said new → new.failed ≡ true → new.closed ≡ true → SendsFirst old said new
 sends_first old seen new said is took failed over = subst (λ (o : Visit). SendsFirst o said new) is
     (record { sent = took.0; few = took.1; took = took.2; failed = failed; over = over })
-
-was_cut : (old new : Visit) → Tells ShowsAll SendsFirst old new ⊎ Tells (ShowsInPart new.room) SendsFirst old new → Looks old new
-was_cut old new (inl all) = cut all
-was_cut old new (inr part) = cut_in_part part
-
--- a look, by what it answered
-pub looked : (r : Result After VisitFault) (old new : Visit) → IfErr r (λ fault. fault ≢ Torn) → OnOk r (is_over old ≡ false → Tells ShowsAll SendsAll old new) → (r ≡ Err NoMemory → Tells (ShowsInPart new.room) SendsAll old new)
-    → (r ≡ Err Write → Tells ShowsAll SendsFirst old new ⊎ Tells (ShowsInPart new.room) SendsFirst old new) → is_over old ≡ false → Looks old new
-looked (Ok x) old new untorn ok short failed goes = whole (ok goes)
-looked (Err NoMemory) old new untorn ok short failed goes = in_part (short refl)
-looked (Err Write) old new untorn ok short failed goes = was_cut old new (failed refl)
-looked (Err Torn) old new untorn ok short failed goes = absurd (untorn refl)

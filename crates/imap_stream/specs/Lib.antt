@@ -1,2 +1,3 @@
+pub mod Attending
 pub mod Visits
 pub mod inner

@@ -1,1 +1,2 @@
+pub mod Attending
 pub mod Visits

@@ -8,6 +8,6 @@ mod rows;
 mod turns;
 mod visit;
 
-pub use berth::{Berth, Wakes, Woken};
+pub use berth::{Berth, Parting, Wakes, Woken};
 pub use rows::Rows;
 pub use visit::{Visit, VisitFault};

@@ -224,7 +224,7 @@ impl<'a, B: Naming, R: Wait, G: Gate, W: Sink + Drop> Visit<'a, B, R, G, W> {
     }
 
     // Whether bytes of the client are taken.
-    fn takes_bytes(&self) -> bool
+    pub(crate) fn takes_bytes(&self) -> bool
         ensures is { result ≡ takes_bytes self.now }
         ensures goes { result ≡ true → self.now.link.session.ended ≡ false }
         ensures unsent { result ≡ true → self.now.link.session.mailing.sent ≡ None }

@@ -24,6 +24,8 @@ use Rattle.session_thread.specs.Life as life
 use Rattle.session_thread.specs.Life.{HasShown, HasTurn, Moment, Says, SaysFirst, SaysInPart, Speaks, TellsVerdict, moment}
 use Rattle.imap_stream.specs.Visits.{GoesOnShowing, Hears, HearsInPart, IsGreeted, LeadsTo, SendsAll, SendsFirst, ShowsAll, ShowsInPart, Tells, Visit, is_over}
 use Rattle.imap_stream.specs.Visits as visit
+use Rattle.imap_stream.specs.Attending.{Calls, no_call, one_more}
+use Rattle.imap_stream.specs.Attending as visits
 use Rattle.laws_client.specs.Clients.{Told, bytes_in}
 use Rattle.laws_client.specs.Commands.{IsPrinted}
 use Rattle.laws_client.specs.Lives.{IsSentFor}
@@ -31,8 +33,7 @@ use Rattle.laws_client.specs.RecordTurns.{VerdictsArePrinted, told_line, told_of
 use Rattle.laws_client.specs.Talks.{Happening, leads_to}
 use Rattle.laws_client.specs.Talks as talk
 use Rattle.laws_client.specs.Served.{ServedLives, comes, turns}
-use Rattle.laws_client.specs.ServedVisits.{Beginning, HasCalled, HasLived, VisitorsKeepUp, VisitorsStand, VisitsBegin, VisitsGoOn, said_in}
-use Rattle.laws_client.specs.ServedVisits as visits
+use Rattle.laws_client.specs.ServedVisits.{AttendedClientsLive, Beginning, CallsGoOn, HasLived, VisitorsKeepUp, VisitorsStand, VisitsBegin, VisitsGoOn, said_in}
 use Rattle.laws_client.proofs.Folded.{folders_plain, settings_can_be_printed}
 use Rattle.laws_client.proofs.Served.{never, served_lives_are_known, still}
 use Rattle.laws_client.proofs.ServedFlags.{served_lives_tell_flags}
@@ -435,6 +436,23 @@ visits_go_on beginning heard piece told old new L over (visits.looked_and_cut no
     looking beginning heard piece told new none (went_on Wholly ShowsAll beginning heard [] told old new t.said L over t.leads looks_leads (λ goes. tt) (sent_first old t.said new t.sends))
 visits_go_on beginning heard piece told old new L over (visits.looked_in_part_and_cut none t) =
     looking beginning heard piece told new none (went_on Wholly (ShowsInPart new.room) beginning heard [] told old new t.said L over t.leads (looks_in_part new.room) (λ goes. tt) (sent_first old t.said new t.sends))
+
+calls_went : (beginning : Beginning) (before : List ℕ) (told : List Told) (old : Visit) {heard : List ℕ} {new : Visit} → HasLived beginning before told old → Calls old heard new
+    → (more : List Told) × HasLived beginning (before ++ heard) (told ++ more) new
+calls_went beginning before told old lived no_call =
+    ([], subst (λ (bs : List ℕ). HasLived beginning bs (told ++ []) old) (sym (append-nil before)) (subst (λ (ts : List Told). HasLived beginning before ts old) (sym (append-nil told)) lived))
+calls_went beginning before told old lived (one_more so_far piece now next earlier over call) =
+    let first = calls_went beginning before told old lived earlier in
+    let last = visits_go_on beginning (before ++ so_far) piece (told ++ first.0) now next first.1 over call in
+    (first.0 ++ last.0, subst (λ (bs : List ℕ). HasLived beginning bs (told ++ (first.0 ++ last.0)) next) (append_assoc before so_far piece)
+        (subst (λ (ts : List Told). HasLived beginning ((before ++ so_far) ++ piece) ts next) (append_assoc told first.0 last.0) last.1))
+
+pub calls_go_on : CallsGoOn
+calls_go_on beginning before heard told old new lived calls = calls_went beginning before told old lived calls
+
+pub attended_clients_live : AttendedClientsLive
+attended_clients_live admission folders store taken before after how old new legal greeted attended =
+    calls_went (record { first = begun_with admission folders; store = store; taken = taken }) [] [] old (visits_begin admission folders store taken old legal greeted) attended.calls
 
 pub visitors_stand : VisitorsStand
 visitors_stand config admission user range faultless = record { tags = (tt, tt, tt); names = folders_plain (directory_for config) user (settings_can_be_printed config range faultless).names }

@@ -2,8 +2,6 @@
 use Rattle.std.specs.Prelude.{◌≡◌, ℕ, true, false, List, [], ◌++◌, take, flat_map, Option, None}
 use Rattle.std.specs.Io.KnownBytes.{Appends}
 use Rattle.house_history.specs.Legal.{Legal}
-use Rattle.workers_sync.specs.Carried.{Carried}
-use Rattle.workers_sync.specs.declared.courier.Lost.{Lost}
 use Rattle.settings.specs.Settings.{IsInRange, config_fault, directory_for}
 use Rattle.settings.specs.declared.config.Config.{Config}
 use Rattle.imap_session.specs.declared.standing.Profile.{Profile}
@@ -12,7 +10,9 @@ use Rattle.imap_session.specs.Commands.{greeting}
 use Rattle.imap_session.specs.Dialogue.{Dialogue, StandsFor}
 use Rattle.imap_session.specs.Folders.{folders_of}
 use Rattle.session_thread.specs.Locks.{LockedStore}
-use Rattle.imap_stream.specs.Visits.{Hears, HearsInPart, IsGreeted, SendsAll, SendsFirst, ShowsAll, ShowsInPart, Tells, Visit, is_over}
+use Rattle.imap_stream.specs.declared.berth.Parting.{Parting}
+use Rattle.imap_stream.specs.Attending.{Attended, Calls, HasCalled}
+use Rattle.imap_stream.specs.Visits.{IsGreeted, Visit, is_over}
 use Rattle.laws_client.specs.Clients.{IsRightAbout, Told, bytes_in, hears_all}
 use Rattle.laws_client.specs.RecordTurns.{Stands}
 use Rattle.laws_client.specs.Served.{ServedLives, counted_by}
@@ -51,22 +51,21 @@ abbrev pub VisitsBegin : Type 0
 VisitsBegin = (admission : Admission) (folders : List Folder) (store : LockedStore) (taken : Option (List ℕ)) (visit : Visit) → Legal store.history → IsGreeted admission folders store taken visit
     → HasLived (record { first = begun_with admission folders; store = store; taken = taken }) [] [] visit
 
--- What a call does of a visit that isn't over: it hears this piece, as `hear`, or has a look, as `look`. It may stop within, and its output may fail; then the visit is over, but for
--- want of memory in a look.
-pub data HasCalled (piece : List ℕ) (old new : Visit) : Type 0 where
-  heard : (carried : List Carried) → Tells (Hears piece carried) SendsAll old new → new.closed ≡ old.closed → HasCalled piece old new
-  heard_in_part : (why : Lost) → Tells (HearsInPart new.room piece why) SendsAll old new → new.closed ≡ true → HasCalled piece old new
-  heard_and_cut : (carried : List Carried) → Tells (Hears piece carried) SendsFirst old new → HasCalled piece old new
-  heard_in_part_and_cut : (why : Lost) → Tells (HearsInPart new.room piece why) SendsFirst old new → HasCalled piece old new
-  looked : piece ≡ [] → Tells ShowsAll SendsAll old new → new.closed ≡ old.closed → HasCalled piece old new
-  looked_in_part : piece ≡ [] → Tells (ShowsInPart new.room) SendsAll old new → new.closed ≡ old.closed → HasCalled piece old new
-  looked_and_cut : piece ≡ [] → Tells ShowsAll SendsFirst old new → HasCalled piece old new
-  looked_in_part_and_cut : piece ≡ [] → Tells (ShowsInPart new.room) SendsFirst old new → HasCalled piece old new
-
 -- Whoever makes the call, and whatever others did since the one before: the visit goes on, and its client was told something more, or nothing.
 abbrev pub VisitsGoOn : Type 0
 VisitsGoOn = (beginning : Beginning) (heard piece : List ℕ) (told : List Told) (old new : Visit) → HasLived beginning heard told old → is_over old ≡ false → HasCalled piece old new
     → (more : List Told) × HasLived beginning (heard ++ piece) (told ++ more) new
+
+-- So go calls of a visit, one after another.
+abbrev pub CallsGoOn : Type 0
+CallsGoOn = (beginning : Beginning) (before heard : List ℕ) (told : List Told) (old new : Visit) → HasLived beginning before told old → Calls old heard new
+    → (more : List Told) × HasLived beginning (before ++ heard) (told ++ more) new
+
+-- A client that was greeted, and then attended by a berth's thread: the calls that were made are such a life, of just the bytes that were heard.
+abbrev pub AttendedClientsLive : Type 0
+AttendedClientsLive = (admission : Admission) (folders : List Folder) (store : LockedStore) (taken before after : Option (List ℕ)) (how : Parting) (old new : Visit) → Legal store.history
+    → IsGreeted admission folders store taken old → (attended : Attended before after how old new)
+    → (told : List Told) × HasLived (record { first = begun_with admission folders; store = store; taken = taken }) attended.heard told attended.last
 
 -- What a session has to know at first it knows, of whichever user it is, where nothing is wrong with the settings: the names of its mailboxes stand in lines.
 abbrev pub VisitorsStand : Type 0

@@ -4,7 +4,7 @@
 
 ghost use Rattle.laws_client.specs.ServedFlags.{ServedFlagsAreCurrent, ServedFlagsAreFound, ServedFlagsHaveMoments, ServedLivesTellFlags, ServedTurnTellsFlags};
 ghost use Rattle.laws_client.specs.ServedStays.{ServedSessionsStay};
-ghost use Rattle.laws_client.specs.ServedVisits.{VisitorsKeepUp, VisitorsStand, VisitsBegin, VisitsGoOn};
+ghost use Rattle.laws_client.specs.ServedVisits.{AttendedClientsLive, CallsGoOn, VisitorsKeepUp, VisitorsStand, VisitsBegin, VisitsGoOn};
 ghost use Rattle.laws_client.specs.Served.{CursorsStaySmall, FeedsReachTheEnd, ServedCommandsMakeCurrent, ServedCommandsReachTheEnd, ServedDoneReachesTheEnd, ServedListsAreCurrent, ServedLivesAreKnown, ServedTextsStay, ServedTurnIsKnown};
 
 /// Between a SELECT and what ends it such a session stays in that mailbox, with the handle that it was given there: of that only the cursor's
@@ -78,6 +78,10 @@ pub fn served_visits_are_lives()
     // A visit whose client was greeted begins such a life, and each call of a visit that isn't over goes on with it.
     ensures begin { VisitsBegin }
     ensures go_on { VisitsGoOn }
+
+    // So do all calls of a visit together, one after another: those by which a berth attends a client that was greeted, from the first byte on.
+    ensures calls { CallsGoOn }
+    ensures attended { AttendedClientsLive }
 
     // What it asks of the session's mailboxes is so where nothing is wrong with the settings.
     ensures stand { VisitorsStand }

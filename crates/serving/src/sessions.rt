@@ -26,7 +26,7 @@ use envelope::Directory;
 use house_floor::{Floor, Post, inbox_numbered, most_of};
 use house_history::{Letter, Naming};
 use imap_session::{admission_of, folders_of};
-use imap_stream::{Berth, Rows, Visit};
+use imap_stream::{Berth, Parting, Rows, Visit};
 use lane_work::{Context, Desk, LaneCourier, Summons, end_all};
 use line_io::{Sink, Watched};
 use server_report::{Happened, LogBook, Presence};
@@ -182,11 +182,11 @@ fn open_visit<'a, B: Naming, R: Wait, W: Sink + Drop>(
     Some(visit)
 }
 
-// How a visit ended, where this was the end of reading.
+// How a visit ended, for the log, of which the berth says this.
 fn how_it_ended<B: Naming>(
     gateway: &Gateway<'_, B>,
     visitor: Visitor<'_>,
-    read: Happened,
+    parting: Parting,
 ) -> Happened {
     if visitor.has_lapsed() {
         return Happened::Lapsed;
@@ -194,7 +194,12 @@ fn how_it_ended<B: Naming>(
     if gateway.door.is_shut() {
         return Happened::Shut;
     }
-    read
+    match parting {
+        Parting::Gone => Happened::Gone,
+        Parting::Broken => Happened::Broken,
+        Parting::Over => Happened::Quit,
+        Parting::Stopped => Happened::Shut,
+    }
 }
 
 // Room for a visit; None where memory is refused. The visit is opened once that is there, so that it is moved once.
@@ -252,8 +257,9 @@ fn attend_client<'a, B: Naming, R: Wait, C: Courier>(
         &ear.bell,
         &mut ear.waits,
     );
-    berth.attend(rt, gateway.floor.alloc, visit, courier, &mut input, buffer);
-    how_it_ended(gateway, visitor, input.end())
+    let parting = berth.attend(rt, gateway.floor.alloc, visit, courier, &mut input, buffer);
+    input.end();
+    how_it_ended(gateway, visitor, parting)
 }
 
 // One client, from the greeting to its end; and how it ended.

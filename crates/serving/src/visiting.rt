@@ -178,7 +178,7 @@ impl<'s> Visitor<'s> {
     }
 }
 
-/// What comes of a client. Before each read the log is told where its session has begun to idle; and it is kept how reading ended.
+/// What comes of a client. Before each read the log is told where its session has begun to idle.
 #[derive(Drop)]
 pub(crate) struct Incoming<'s, 't, R: Wait> {
     rt: &'s R,
@@ -192,7 +192,6 @@ pub(crate) struct Incoming<'s, 't, R: Wait> {
     // Whether the watch looks at what comes since the last read.
     is_looked_at: bool,
     idled: bool,
-    end: Happened,
 }
 
 impl<'s, 't, R: Wait> Incoming<'s, 't, R> {
@@ -216,16 +215,14 @@ impl<'s, 't, R: Wait> Incoming<'s, 't, R> {
             waits,
             is_looked_at: false,
             idled: false,
-            end: Happened::Quit,
         }
     }
 
-    /// How reading ended; and where the peer has not ended it, that the session did. It isn't looked at any more.
-    pub(crate) fn end(&self) -> Happened {
+    /// Nothing more is read: the watch looks at it no more.
+    pub(crate) fn end(&self) {
         if self.is_looked_at {
             self.watch.let_go(self.stream);
         }
-        self.end
     }
 
     // Tells where the session has begun to idle.
@@ -236,24 +233,13 @@ impl<'s, 't, R: Wait> Incoming<'s, 't, R> {
         }
         self.idled = idles;
     }
-
-    // Notes how a read ended.
-    fn note(&mut self, read: &io::Result<usize>) {
-        match read {
-            Ok(0) => self.end = Happened::Gone,
-            Ok(_) => self.end = Happened::Quit,
-            Err(_) => self.end = Happened::Broken,
-        }
-    }
 }
 
 impl<'s, 't, R: Wait> Read for Incoming<'s, 't, R> {
     fn read(&mut self, buffer: &mut [u8]) -> io::Result<usize> {
         self.look();
         let mut stream = self.stream;
-        let read = stream.read(buffer);
-        self.note(&read);
-        read
+        stream.read(buffer)
     }
 }
 

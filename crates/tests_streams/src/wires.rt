@@ -41,7 +41,7 @@ impl<I: Read> Read for Prompt<'_, I> {
     }
 }
 
-impl<I> Wakes for Prompt<'_, I> {
+impl<I: Read> Wakes for Prompt<'_, I> {
     fn wait(&mut self) -> Woken {
         Woken::Peer
     }

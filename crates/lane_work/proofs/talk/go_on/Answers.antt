@@ -1,4 +1,5 @@
-use Rattle.std.proofs.Common.{clamps, rules, List, ℕ, ◌++◌, ◌∙◌, ◌≡◌, ap, refl, sym, subst, map, take, false, Err, Ok, arith}
+use Rattle.std.proofs.Common.{rules, List, ℕ, ◌++◌, ◌∙◌, ◌≡◌, ap, refl, sym, subst, map, take, false, Err, Ok, arith}
+use Rattle.std.proofs.lemmas.Int.{clamps}
 use Rattle.std.specs.Io.KnownBytes.{Appends, Consumes}
 use Rattle.std.proofs.KnownBytes.{Keeps-refl}
 use Rattle.shard_queue.specs.Reply.{received}
