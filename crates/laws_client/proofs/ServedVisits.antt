@@ -443,9 +443,11 @@ calls_went beginning before told old lived no_call =
     ([], subst (λ (bs : List ℕ). HasLived beginning bs (told ++ []) old) (sym (append-nil before)) (subst (λ (ts : List Told). HasLived beginning before ts old) (sym (append-nil told)) lived))
 calls_went beginning before told old lived (one_more so_far piece now next earlier over call) =
     let first = calls_went beginning before told old lived earlier in
-    let last = visits_go_on beginning (before ++ so_far) piece (told ++ first.0) now next first.1 over call in
-    (first.0 ++ last.0, subst (λ (bs : List ℕ). HasLived beginning bs (told ++ (first.0 ++ last.0)) next) (append_assoc before so_far piece)
-        (subst (λ (ts : List Told). HasLived beginning ((before ++ so_far) ++ piece) ts next) (append_assoc told first.0 last.0) last.1))
+    let last = visits_go_on beginning (before ++ so_far) piece (told ++ first.0) now next first.1 over call in (
+      first.0 ++ last.0,
+      subst (λ (bs : List ℕ). HasLived beginning bs (told ++ (first.0 ++ last.0)) next) (append_assoc before so_far piece)
+          (subst (λ (ts : List Told). HasLived beginning ((before ++ so_far) ++ piece) ts next) (append_assoc told first.0 last.0) last.1),
+    )
 
 pub calls_go_on : CallsGoOn
 calls_go_on beginning before heard told old new lived calls = calls_went beginning before told old lived calls

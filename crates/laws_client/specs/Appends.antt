@@ -48,7 +48,8 @@ before_lf (b ∷ bytes) = if b == 10 then [] else b ∷ before_lf bytes
 abbrev pub last_line : List ℕ → List ℕ
 last_line bytes = reverse (before_lf (drop 2 (reverse bytes)))
 
--- The last line has these words behind this tag, which is one as a client may choose it (RFC 9051, 9). It is the last line alone: a text that a FETCH tells may have any line.
+-- The last line has these words behind this tag, which is one as a client may choose it (RFC
+-- 9051, 9). It is the last line alone: a text that a FETCH tells may have any line.
 pub record EndsWith (tag words bytes : List ℕ) : Type 0 where
   pub chosen : is_word_of is_tag tag ≡ true
   pub last : last_line bytes ≡ tag ++ codes " " ++ words
@@ -67,16 +68,20 @@ TellsOfNone bytes = (tag words : List ℕ) → EndsWith tag words bytes → tell
 
 -- ---- which message it was
 
--- With these bytes, and a CRLF behind them, a client sends this as the line of a command: they are it; or behind the line so far, which announces a literal, comes that, which stands in its
+-- With these bytes, and a CRLF behind them, a client sends this as the line of a command: they are
+-- it; or behind the line so far, which announces a literal, comes that, which stands in its
 -- place as the quoted string that says the same, and the rest of the line (RFC 9051, 4.3); or behind AUTHENTICATE comes its response (6.2.2).
 pub data IsSpelled : (bytes line : List ℕ) → Type 0 where
   as_it_stands : (line : List ℕ) → IsSpelled line line
-  with_literal : (bytes line : List ℕ) (found : ℕ × Literal) (text rest : List ℕ) → IsSpelled bytes line → announced line ≡ Some found → length text ≡ found.1.size
+  with_literal : (bytes line : List ℕ) (found : ℕ × Literal) (text rest : List ℕ) → IsSpelled bytes line → announced line ≡ Some found
+      → length text ≡ found.1.size
       → IsSpelled (bytes ++ crlf ++ text ++ rest) (take found.0 line ++ quoted text ++ rest)
-  with_response : (bytes line tag : List ℕ) (a : Authenticate) (response : List ℕ) → IsSpelled bytes line → read line ≡ Ok (tag, commands.Authenticate a)
+  with_response : (bytes line tag : List ℕ) (a : Authenticate) (response : List ℕ) → IsSpelled bytes line
+      → read line ≡ Ok (tag, commands.Authenticate a)
       → IsSpelled (bytes ++ crlf ++ response) (line ++ codes " " ++ response_in response)
 
--- A client sent this message so, to a session with these mailboxes (RFC 9051, 6.3.12): an APPEND under its tag, which names its mailbox, with its flags and the date that it has, or none; its text, as the literal that was
+-- A client sent this message so, to a session with these mailboxes (RFC 9051, 6.3.12): an APPEND under its tag, which
+-- names its mailbox, with its flags and the date that it has, or none; its text, as the literal that was
 -- announced; and the CRLF behind that.
 pub record IsSentAs (folders : List Folder) (sent : List ℕ) (message : Sent) : Type 0 where
   pub front : List ℕ
@@ -92,8 +97,10 @@ pub record IsSentAs (folders : List Folder) (sent : List ℕ) (message : Sent) :
   pub size : length message.append.text.bytes ≡ append.literal.size
   pub whole : sent ≡ front ++ (bytes ++ crlf) ++ message.append.text.bytes ++ crlf ++ behind
 
--- A client had this message copied so (RFC 9051, 6.4.7; RFC 6851): by a COPY or MOVE under its tag, which names the mailbox of the copy. It is of this batch, which has those
--- of the messages named in a view that were found, in their order; where they were named by their numbers all of them were. Before it are those whose copies are stored, and
+-- A client had this message copied so (RFC 9051, 6.4.7; RFC 6851): by a COPY or MOVE under its
+-- tag, which names the mailbox of the copy. It is of this batch, which has those
+-- of the messages named in a view that were found, in their order; where they were named by
+-- their numbers all of them were. Before it are those whose copies are stored, and
 -- behind it those that are left.
 pub record IsCopyOf (folders : List Folder) (sent : List ℕ) (message : Sent) (batch : Batch) : Type 0 where
   pub front : List ℕ
@@ -137,11 +144,13 @@ abbrev pub SaysCopied : (moves : Bool) → (uidvalidity : ℕ) → Batch → (ta
 SaysCopied true uidvalidity batch tag bytes = SaysMoved uidvalidity batch tag bytes
 SaysCopied false uidvalidity batch tag bytes = EndsWith tag (copied_words uidvalidity batch) bytes
 
--- Of the messages of a batch, where these copies are stored: the next of those that are left is on its way, and nothing is said; or the session has no number left for it, and
+-- Of the messages of a batch, where these copies are stored: the next of those that are left
+-- is on its way, and nothing is said; or the session has no number left for it, and
 -- there is a NO; or none is left, and it is done.
 pub data SaysOfBatch (uidvalidity : ℕ) (batch : Batch) (tag bytes : List ℕ) : Type 0 where
   awaits_next : (row : Row) (left : List Row) → batch.left ≡ row ∷ left → bytes ≡ [] → SaysOfBatch uidvalidity batch tag bytes
-  has_no_number : (row : Row) (left : List Row) → batch.left ≡ row ∷ left → bytes ≡ tagged tag (response_text texts.MailboxSpent) → SaysOfBatch uidvalidity batch tag bytes
+  has_no_number : (row : Row) (left : List Row) → batch.left ≡ row ∷ left → bytes ≡ tagged tag (response_text texts.MailboxSpent)
+      → SaysOfBatch uidvalidity batch tag bytes
   all_stored : batch.left ≡ [] → SaysCopied batch.moves uidvalidity batch tag bytes → SaysOfBatch uidvalidity batch tag bytes
 
 -- of an APPEND the OK tells its UID
@@ -154,7 +163,8 @@ abbrev pub SaysRefused : (copies : List ℕ) → (tag words : List ℕ) → List
 SaysRefused [] tag words bytes = bytes ≡ tagged tag words
 SaysRefused (uid ∷ uids) tag words bytes = (bytes ≡ tagged tag words) ⊎ ((fault : MailFault) × (bytes ≡ refusal_text tag fault))
 
--- Where the message was stored: the OK that tells its UID, behind this UIDVALIDITY, or what comes of its batch; or one line, where the store refuses to count its mailbox, to show what
+-- Where the message was stored: the OK that tells its UID, behind this UIDVALIDITY, or what comes
+-- of its batch; or one line, where the store refuses to count its mailbox, to show what
 -- is pending, or to remove copies. Where it was refused: a NO.
 abbrev pub SaysVerdict : (uidvalidity : ℕ) → Origin → (tag : List ℕ) → Verdict → List ℕ → Type 0
 SaysVerdict uidvalidity origin tag (Stored uid) bytes =
@@ -172,7 +182,8 @@ pub record Author : Type 0 where
   pub folders : List Folder
   pub sent : List ℕ
 
--- An earlier copy of a batch: of its message behind those of which these copies were stored. That was submitted before the last one, under the same tag, for the same
+-- An earlier copy of a batch: of its message behind those of which these copies were
+-- stored. That was submitted before the last one, under the same tag, for the same
 -- mailbox, and was stored under this UID, as the session's seat has heard. It stands so, once, with the text and the flags of its message.
 pub record IsEarlier (k : Setup) (w : World) (author : Author) (last : Sent) (batch : Batch) (copies : List ℕ) (uid : ℕ) : Type 0 where
   pub noted : Noted
@@ -210,9 +221,11 @@ pub record AnswersNoted (k : Setup) (w : World) (author : Author) (bytes : List 
   pub came : CameAs author.folders author.sent message
   pub chosen : is_word_of is_tag message.tag ≡ true
   pub says : SaysVerdict k.config.uidvalidity message.origin message.tag noted.verdict bytes
-  -- a copy that was stored under a UID stands exactly once in the history of the mailbox that was named, under that UID, and with the text and the flags of that message
+  -- a copy that was stored under a UID stands exactly once in the history of the mailbox
+  -- that was named, under that UID, and with the text and the flags of that message
   pub stands : (uid : ℕ) → noted.verdict ≡ Stored uid → StandsOnce (pairs (w.box noted.mailbox).accepted) noted.key uid
-  pub stored : (uid : ℕ) → noted.verdict ≡ Stored uid → (noted.mailbox ≡ message.append.mailbox) × Contains (w.box noted.mailbox).accepted (copy_under noted.key message, uid)
+  pub stored : (uid : ℕ) → noted.verdict ≡ Stored uid → (noted.mailbox ≡ message.append.mailbox)
+      × Contains (w.box noted.mailbox).accepted (copy_under noted.key message, uid)
   -- and so does each copy of its batch that was stored before
   pub earlier : EarlierStand k w author message message.origin
 
@@ -234,7 +247,8 @@ AreAnswered k w author (one ∷ told) (verdict ∷ verdicts) = IsAnswered k w au
 abbrev pub as_it_is : Option Noted → Option Noted
 as_it_is verdict = verdict
 
--- These words, under this tag, are the OK for one copy of this session: of a message that its client appended under that tag. They tell the house's UIDVALIDITY and the UID under which it
+-- These words, under this tag, are the OK for one copy of this session: of a message that its client
+-- appended under that tag. They tell the house's UIDVALIDITY and the UID under which it
 -- stands, once, as its seat has heard: in the mailbox that was named, with the text and the flags that were sent.
 pub record TellsKept (k : Setup) (w : World) (author : Author) (tag said : List ℕ) (noted : Noted) : Type 0 where
   pub message : Sent
@@ -252,8 +266,10 @@ pub record TellsKept (k : Setup) (w : World) (author : Author) (tag said : List 
   pub mailbox : noted.mailbox ≡ message.append.mailbox
   pub copy : Contains (w.box noted.mailbox).accepted (copy_under noted.key message, uid)
 
--- These words, under this tag, are the OK for the messages that a client of this session had copied by a COPY under that tag. They tell the house's UIDVALIDITY, these messages'
--- UIDs and those of all copies, in one order. The last of the copies stands once under its UID, as its seat has heard: in the mailbox that was named, with the text and the flags
+-- These words, under this tag, are the OK for the messages that a client of this session had
+-- copied by a COPY under that tag. They tell the house's UIDVALIDITY, these messages'
+-- UIDs and those of all copies, in one order. The last of the copies stands once under its UID,
+-- as its seat has heard: in the mailbox that was named, with the text and the flags
 -- of its message. And each before it stands so, under the UID that is told of it.
 pub record TellsCopied (k : Setup) (w : World) (author : Author) (tag said : List ℕ) (noted : Noted) : Type 0 where
   pub message : Sent
@@ -277,7 +293,8 @@ pub record TellsCopied (k : Setup) (w : World) (author : Author) (tag said : Lis
 
 -- the session with this serial at a place, behind a record
 abbrev pub author_at : Setup → List Entry → (place serial : ℕ) → Author
-author_at k entries place serial = record { place = place; serial = serial; folders = folders_of k.directory (user_by_then place [] entries); sent = sent_by_then place [] entries }
+author_at k entries place serial =
+    record { place = place; serial = serial; folders = folders_of k.directory (user_by_then place [] entries); sent = sent_by_then place [] entries }
 
 -- What is known of all that a session told its client: of the messages that it appended or had copied.
 pub record TellsOfAppends (k : Setup) (w : World) (author : Author) (told : List Told) : Type 0 where
@@ -287,23 +304,27 @@ pub record TellsOfAppends (k : Setup) (w : World) (author : Author) (told : List
   -- on messages in the order in which they were submitted, so none is told twice
   pub in_order : AllPairs (λ a b. Below a.key b.key) (filter_map as_it_is verdicts)
   -- So where an answer ends with `OK [APPENDUID ` behind any tag, that is for one copy of this session, which stands so;
-  pub kept : (before after : List Told) (one : Told) (tag words : List ℕ) → told ≡ before ++ one ∷ after → EndsWith tag words (bytes_in one) → tells_uid words ≡ true
+  pub kept : (before after : List Told) (one : Told) (tag words : List ℕ) → told ≡ before ++ one ∷ after
+      → EndsWith tag words (bytes_in one) → tells_uid words ≡ true
       → (noted : Noted) × TellsKept k w author tag words noted
   -- where it ends with `OK [COPYUID `, that is for the messages that its client had copied by one command, whose copies stand so;
   pub copied : (before after : List Told) (one : Told) (tag words : List ℕ) → told ≡ before ++ one ∷ after → EndsWith tag words (bytes_in one)
       → tells_copy words ≡ true → (noted : Noted) × TellsCopied k w author tag words noted
   -- and two answers of the first kind are for two copies, of which the first was appended first.
-  pub apart : (before mid after : List Told) (one two : Told) (tag words other_tag other_words : List ℕ) → told ≡ before ++ one ∷ (mid ++ two ∷ after) → EndsWith tag words (bytes_in one) → tells_uid words ≡ true
+  pub apart : (before mid after : List Told) (one two : Told) (tag words other_tag other_words : List ℕ)
+      → told ≡ before ++ one ∷ (mid ++ two ∷ after) → EndsWith tag words (bytes_in one) → tells_uid words ≡ true
       → EndsWith other_tag other_words (bytes_in two) → tells_uid other_words ≡ true
       → (a : Noted) × (b : Noted) × TellsKept k w author tag words a × TellsKept k w author other_tag other_words b × Below a.key b.key
 
 -- Over whatever record of a house that was new, of whoever is there: it keeps up, and this is known of what it was told.
 abbrev pub AppendsAreTold : Type 0
 AppendsAreTold = (k : Setup) (entries : List Entry) (t : Scene) (place : ℕ) (v : SeatedVisitor) → IsPrintable k → IsRecord k entries (empty_scene k) t
-    → t.visitor place ≡ Some v → v.gone ≡ false → (keeps : KeepsUp k entries place v t) × TellsOfAppends k t.world (author_at k entries place v.serial) keeps.told
+    → t.visitor place ≡ Some v → v.gone ≡ false → (keeps : KeepsUp k entries place v t)
+    × TellsOfAppends k t.world (author_at k entries place v.serial) keeps.told
 
 -- And of a session that was let in there last, whose client isn't gone, and that has ended by itself, as by LOGOUT: behind all that happened since
 abbrev pub AppendsWereTold : Type 0
 AppendsWereTold = (k : Setup) (entries : List Entry) (t : Scene) (place : ℕ) → IsPrintable k → IsRecord k entries (empty_scene k) t
     → stays_by_then place false entries ≡ true → t.visitor place ≡ None
-    → (kept : KeptUp k entries place t) × TellsOfAppends k t.world (author_at k entries place (serial_by_then place 0 (empty_scene k) entries)) kept.told
+    → (kept : KeptUp k entries place t)
+    × TellsOfAppends k t.world (author_at k entries place (serial_by_then place 0 (empty_scene k) entries)) kept.told

@@ -31,18 +31,24 @@ pub record AnswersAt (k : Setup) (entries : List Entry) (entry : Entry) (place :
   -- what it was told before is what was printed before, and what was still to be printed
   pub printed : first_words k (user_by_then place [] entries) ++ flat_map bytes_in earlier ≡ shown_by_then place [] entries ++ before.session.unsaid
   -- where it knows where it is, and the last of that is the OK of a command that shows all, its list is the mailbox as it is behind the entry
-  pub current : (front : List Told) (line tag bytes ending : List ℕ) (command : Command) (client : Client) (s : Session) → more ≡ front ++ Answer line bytes ∷ [] → read line ≡ Ok (tag, command) → shows_all command ≡ true
-      → bytes ≡ ending ++ tagged tag (response_text (texts.Completed (verb_of command))) → hears_all None (earlier ++ front) ≡ Some client → entry.after.world.session place ≡ Some s
+  pub current : (front : List Told) (line tag bytes ending : List ℕ) (command : Command) (client : Client) (s : Session)
+      → more ≡ front ++ Answer line bytes ∷ [] → read line ≡ Ok (tag, command) → shows_all command ≡ true
+      → bytes ≡ ending ++ tagged tag (response_text (texts.Completed (verb_of command))) → hears_all None (earlier ++ front) ≡ Some client
+      → entry.after.world.session place ≡ Some s
       → (list : List Known) × (hears_all None keeps.told ≡ Some (knowing (Some list))) × IsRight (messages_of (entry.after.world.box s.mailbox)) list
   -- So it is where the last of that came to no command, and its last line is an OK: that of a DONE, or of a message that was stored
-  pub done : (front : List Told) (tag words bytes : List ℕ) (client : Client) (s : Session) → more ≡ front ++ Words bytes ∷ [] → EndsWith tag (codes "OK " ++ words) bytes
+  pub done : (front : List Told) (tag words bytes : List ℕ) (client : Client) (s : Session) → more ≡ front ++ Words bytes ∷ []
+      → EndsWith tag (codes "OK " ++ words) bytes
       → hears_all None (earlier ++ front) ≡ Some client → entry.after.world.session place ≡ Some s
       → (list : List Known) × (hears_all None keeps.told ≡ Some (knowing (Some list))) × IsRight (messages_of (entry.after.world.box s.mailbox)) list
 
 -- over whatever record of a house that was new, at an entry with which bytes of a client came
 abbrev pub AnswersMakeCurrent : Type 0
-AnswersMakeCurrent = (k : Setup) (entries : List Entry) (s t : Scene) (session : ℕ) (bytes : Bor (List ℕ)) (piece : Piece) (before v : SeatedVisitor) → IsPrintable k → IsRecord k entries (empty_scene k) s
-    → IsEntry k s (record { event = Say session bytes; after = t; piece = piece }) → s.visitor (place_of session) ≡ Some before → t.visitor (place_of session) ≡ Some v
+AnswersMakeCurrent =
+    (k : Setup) (entries : List Entry) (s t : Scene) (session : ℕ) (bytes : Bor (List ℕ)) (piece : Piece) (before v : SeatedVisitor)
+    → IsPrintable k → IsRecord k entries (empty_scene k) s
+    → IsEntry k s (record { event = Say session bytes; after = t; piece = piece }) → s.visitor (place_of session) ≡ Some before
+    → t.visitor (place_of session) ≡ Some v
     → AnswersAt k entries (record { event = Say session bytes; after = t; piece = piece }) (place_of session) before v
 
 -- the session at a place puts the copy of a message that its client appended, or its seat hears a verdict
@@ -53,6 +59,9 @@ IsOnCopy k place event = ⊥
 
 -- and at such an entry, where its client is there
 abbrev pub VerdictsMakeCurrent : Type 0
-VerdictsMakeCurrent = (k : Setup) (entries : List Entry) (s t : Scene) (place : ℕ) (event : house.Event) (piece : Piece) (before v : SeatedVisitor) → IsPrintable k → IsRecord k entries (empty_scene k) s
-    → IsEntry k s (record { event = event; after = t; piece = piece }) → IsOnCopy k place event → s.visitor place ≡ Some before → before.gone ≡ false → t.visitor place ≡ Some v
+VerdictsMakeCurrent =
+    (k : Setup) (entries : List Entry) (s t : Scene) (place : ℕ) (event : house.Event) (piece : Piece) (before v : SeatedVisitor)
+    → IsPrintable k → IsRecord k entries (empty_scene k) s
+    → IsEntry k s (record { event = event; after = t; piece = piece }) → IsOnCopy k place event → s.visitor place ≡ Some before
+    → before.gone ≡ false → t.visitor place ≡ Some v
     → AnswersAt k entries (record { event = event; after = t; piece = piece }) place before v

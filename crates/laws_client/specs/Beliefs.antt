@@ -17,11 +17,13 @@ Each P (uid ∷ view) (message ∷ list) = P uid message × Each P view list
 abbrev pub IsOf : ℕ → Known → Type 0
 IsOf uid message = (n : ℕ) → message.uid ≡ Some n → n ≡ uid
 
--- The client is right about the messages that its session counts: each has its position in the list, and no other, and where the client knows a UID it is the one at that position.
+-- The client is right about the messages that its session counts: each has its position in the
+-- list, and no other, and where the client knows a UID it is the one at that position.
 abbrev pub IsRight : List ℕ → List Known → Type 0
 IsRight view list = Each IsOf view list
 
--- A client that was between two lines read these bytes and is between two lines again. It was told no number that it can't have, its list is as long as the view, and what it
+-- A client that was between two lines read these bytes and is between two lines again. It was
+-- told no number that it can't have, its list is as long as the view, and what it
 -- knows of each message of the view is so.
 pub record Follows (P : ℕ → Known → Type 0) (before : List Known) (bytes : List ℕ) (view : List ℕ) : Type 0 where
   pub after : List Known

@@ -1,4 +1,5 @@
--- What a mail client knows of the selected mailbox by the bytes that it reads (RFC 9051, 2.2.2, 4.3, 7.1, 7.4 and 7.5), and by nothing else. It knows how
+-- What a mail client knows of the selected mailbox by the bytes that it reads (RFC
+-- 9051, 2.2.2, 4.3, 7.1, 7.4 and 7.5), and by nothing else. It knows how
 -- lines are spelled that any server sends; it knows nothing of how this one comes to write them.
 use Rattle.std.specs.Prelude.{ℕ, zero, suc, ◌+◌, ◌-◌, ◌*◌, Bool, false, List, [], ◌∷◌, ◌++◌, length, reverse, codes, Option, Some, None, nat_le, ◌==◌, ◌&&◌, not, if◌then◌else◌}
 use Rattle.std.specs.List.{list_all}
@@ -44,7 +45,8 @@ abbrev pub more : ℕ → List Known
 more zero = []
 more (suc n) = unknown ∷ more n
 
--- `* n EXISTS` (7.4.1): there are n messages now, those that it has and new ones behind them. It is never told of fewer than it has: they leave by EXPUNGE
+-- `* n EXISTS` (7.4.1): there are n messages now, those that it has and new ones
+-- behind them. It is never told of fewer than it has: they leave by EXPUNGE
 abbrev pub exists : ℕ → List Known → Messages
 exists n list = if nat_le (length list) n then Some (list ++ more (n - length list)) else None
 
@@ -74,7 +76,8 @@ abbrev pub into_first : ℕ → List (List ℕ) → List (List ℕ)
 into_first b [] = (b ∷ []) ∷ []
 into_first b (word ∷ rest) = (b ∷ word) ∷ rest
 
--- The words of a line, of which a bracket is open or not: it is cut at each space outside of brackets. Within them may stand names of header fields (6.4.5), which may be
+-- The words of a line, of which a bracket is open or not: it is cut at each space outside of
+-- brackets. Within them may stand names of header fields (6.4.5), which may be
 -- named as items are.
 abbrev pub words_from : Bool → List ℕ → List (List ℕ)
 words_from inside [] = [] ∷ []
@@ -136,7 +139,8 @@ abbrev pub uid_in : List (List ℕ) → Known → Known
 uid_in [] message = message
 uid_in (word ∷ rest) message = with_uid (number (closing word).1) message
 
--- What the items of a FETCH tell: a word UID, and the number behind it; a word FLAGS, and the names in the parentheses behind it. All else is passed over.
+-- What the items of a FETCH tell: a word UID, and the number behind it; a word
+-- FLAGS, and the names in the parentheses behind it. All else is passed over.
 abbrev pub items : List (List ℕ) → Known → Known
 items [] message = message
 items (word ∷ rest) message =
@@ -198,7 +202,8 @@ abbrev pub literal_of : List ℕ → Option ℕ
 literal_of [] = None
 literal_of (b ∷ line) = if b == 125 then count_of [] line else None
 
--- What comes behind the end of a line, or behind the count of a literal, which stays in its line with the CR and LF behind it: so where the literal ends the line it isn't counted again
+-- What comes behind the end of a line, or behind the count of a literal, which stays in its line
+-- with the CR and LF behind it: so where the literal ends the line it isn't counted again
 abbrev pub line_ends : Option ℕ → Messages → List ℕ → Client
 line_ends (Some n) messages line = record { messages = messages; line = 10 ∷ 13 ∷ line; literal = n }
 line_ends None messages line = knowing (told (reverse line) messages)

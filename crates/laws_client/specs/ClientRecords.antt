@@ -117,7 +117,8 @@ first_standing k user = (greeted (admitted_in k user) (folders_of k.directory us
 abbrev pub first_words : Setup → (user : List ℕ) → List ℕ
 first_words k user = greeting (first_standing k user).profile
 
--- The client of a session that is there: of all that it sent since it was let in and of all that was printed to it, turn by turn, it knows what its session counts.
+-- The client of a session that is there: of all that it sent since it was let in and of
+-- all that was printed to it, turn by turn, it knows what its session counts.
 pub record KeepsUp (k : Setup) (entries : List Entry) (place : ℕ) (v : SeatedVisitor) (t : Scene) : Type 0 where
   -- the world in which it was let in, which came from the empty one
   pub began : World
@@ -135,7 +136,8 @@ pub record KeepsUp (k : Setup) (entries : List Entry) (place : ℕ) (v : SeatedV
   -- where it is in a mailbox it is right about what its session counts there
   pub right : IsRightAbout (view_of t.world place) (hears_all None told)
   -- and where nothing is pending there, its list is the mailbox as it is
-  pub all : (s : Session) → t.world.session place ≡ Some s → pending (t.world.box s.mailbox) s ≡ [] → IsRightAbout (messages_of (t.world.box s.mailbox)) (hears_all None told)
+  pub all : (s : Session) → t.world.session place ≡ Some s → pending (t.world.box s.mailbox) s ≡ []
+      → IsRightAbout (messages_of (t.world.box s.mailbox)) (hears_all None told)
 
 -- The client of a session that has ended by itself, as by LOGOUT: so it was to the end, of all that it was told.
 pub record KeptUp (k : Setup) (entries : List Entry) (place : ℕ) (t : Scene) : Type 0 where
@@ -175,16 +177,20 @@ ClientsKeptUp = (k : Setup) (entries : List Entry) (t : Scene) (place : ℕ) →
 
 -- so it is of the record that `ExactlyOnce` has: of whatever events happened in the house
 abbrev pub ClientsOfHousesKeepUp : Type 0
-ClientsOfHousesKeepUp = (k : Setup) (events : List house.Event) (t : Scene) (printed : List ℕ) (once : ExactlyOnce k events t printed) (place : ℕ) (v : SeatedVisitor) → IsPrintable k
+ClientsOfHousesKeepUp =
+    (k : Setup) (events : List house.Event) (t : Scene) (printed : List ℕ) (once : ExactlyOnce k events t printed) (place : ℕ)
+    (v : SeatedVisitor) → IsPrintable k
     → t.visitor place ≡ Some v → v.gone ≡ false → KeepsUp k once.entries place v t
 
 -- No text that was accepted is too long to be told of: what a connection takes is limited, and so is what a session does
 abbrev pub TextsStayShort : Type 0
-TextsStayShort = (k : Setup) (entries : List Entry) (t : Scene) → k.max_message < 2 ^ 31 → IsRecord k entries (empty_scene k) t → HasShortTexts t.world
+TextsStayShort = (k : Setup) (entries : List Entry) (t : Scene) → k.max_message < 2 ^ 31 → IsRecord k entries (empty_scene k) t
+    → HasShortTexts t.world
 
 -- From one moment of a record to a later one the world moves on by its events.
 abbrev pub RecordsMoveOn : Type 0
-RecordsMoveOn = (k : Setup) (entries : List Entry) (s t : Scene) → IsRecord k entries s t → (events : List WorldEvent) × Steps k.config s.world events t.world
+RecordsMoveOn = (k : Setup) (entries : List Entry) (s t : Scene) → IsRecord k entries s t → (events : List WorldEvent)
+    × Steps k.config s.world events t.world
 
 -- and any settings that are right can be printed
 abbrev pub SettingsCanBePrinted : Type 0

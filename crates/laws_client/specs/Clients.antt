@@ -53,7 +53,8 @@ answered (Entering tag) bytes client = if has_ok true tag bytes then Some (reads
 answered (Leaving tag) bytes client = if has_ok true tag bytes then None else reads_on bytes client
 answered Neither bytes client = reads_on bytes client
 
--- what it is told: the answer to a line that it sent as a command, with its literals in it, or words that come without one, as in an IDLE or behind a message
+-- what it is told: the answer to a line that it sent as a command, with its literals
+-- in it, or words that come without one, as in an IDLE or behind a message
 pub data Told : Type 0 where
   Answer : (line : List ℕ) → (bytes : List ℕ) → Told
   Words : (bytes : List ℕ) → Told
@@ -71,7 +72,8 @@ abbrev pub hears_all : Option Client → List Told → Option Client
 hears_all client [] = client
 hears_all client (one ∷ more) = hears_all (hears client one) more
 
--- Where it knows that it is in a mailbox it is between two lines, it was told no number that it can't have, its list is as long as this view, and each UID that it knows is the one at that position.
+-- Where it knows that it is in a mailbox it is between two lines, it was told no number that it can't
+-- have, its list is as long as this view, and each UID that it knows is the one at that position.
 abbrev pub IsRightAbout : List ℕ → Option Client → Type 0
 IsRightAbout view None = Unit {0}
 IsRightAbout view (Some client) = (list : List Known) × (client ≡ knowing (Some list)) × IsRight view list
@@ -86,5 +88,6 @@ StaysThere (Words bytes ∷ told) = StaysThere told
 
 -- From a SELECT or EXAMINE that was answered OK on, it knows where it is, for as long as it asks for neither of the four.
 abbrev pub KnowsWhereItIs : Type 0
-KnowsWhereItIs = (before : Option Client) (line tag bytes : List ℕ) (told : List Told) → asked (read line) ≡ Entering tag → has_ok true tag bytes ≡ true → StaysThere told
+KnowsWhereItIs = (before : Option Client) (line tag bytes : List ℕ) (told : List Told) → asked (read line) ≡ Entering tag
+    → has_ok true tag bytes ≡ true → StaysThere told
     → (client : Client) × (hears_all before (Answer line bytes ∷ told) ≡ Some client)

@@ -13,7 +13,8 @@ use Rattle.imap_session.specs.Exchange.{Argument, Folder, Message, PendingLitera
 use Rattle.laws_client.specs.Fetches.{AreToldParts, IsNumbered}
 use Rattle.laws_client.specs.ListTurns.{IsPlain, IsTag}
 
--- The command stays in the mailbox that is selected. SELECT and EXAMINE enter one, CLOSE and UNSELECT leave it (RFC 9051, 6.3.2, 6.3.3, 6.4.1 and 6.4.2).
+-- The command stays in the mailbox that is selected. SELECT and EXAMINE enter one,
+-- CLOSE and UNSELECT leave it (RFC 9051, 6.3.2, 6.3.3, 6.4.1 and 6.4.2).
 abbrev pub stays : Command → Bool
 stays (commands.Select name) = false
 stays (commands.Examine name) = false
@@ -65,8 +66,10 @@ whole_in (Some a) idling line = whole_behind a.purpose a.text line
 whole_in None (Some tag) line = None
 whole_in None None line = Some line
 
--- What a client sent as a command when this line came to a session that stands so: the line, or where it goes on behind a literal the whole of it, with that as a quoted string in its place
--- (RFC 9051, 4.3), and behind AUTHENTICATE that with its response (6.2.2). Nothing where the line ends an IDLE or stands behind a message, and where it is given up, since it is too
+-- What a client sent as a command when this line came to a session that stands so: the line, or where
+-- it goes on behind a literal the whole of it, with that as a quoted string in its place
+-- (RFC 9051, 4.3), and behind AUTHENTICATE that with its response (6.2.2). Nothing where the line
+-- ends an IDLE or stands behind a message, and where it is given up, since it is too
 -- long or memory was refused to it.
 abbrev pub whole_line : Standing → List ℕ → Option (List ℕ)
 whole_line now line = whole_in now.mailing.begun now.idling line
@@ -76,7 +79,8 @@ abbrev pub MayCome : Option (List ℕ) → Standing → List ℕ → Type 0
 MayCome None now view = Unit {0}
 MayCome (Some whole) now view = MayAnswer now view (read whole)
 
--- The tag that the session keeps is one: of an IDLE, which any line ends, or of a command that goes on behind a literal. And what came as a command may be asked.
+-- The tag that the session keeps is one: of an IDLE, which any line ends, or of a
+-- command that goes on behind a literal. And what came as a command may be asked.
 abbrev pub IsFollowed : Standing → List ℕ → List ℕ → Type 0
 IsFollowed now view line = IfSome (kept_tag now) IsTag × MayCome (whole_line now line) now view
 

@@ -38,18 +38,23 @@ pub record IsAnswered (k : Config) (n : ℕ) (now : Standing) (line : List ℕ) 
 
 -- a NOOP that is answered OK (RFC 9051, 6.1.2)
 abbrev pub NoopMakesCurrent : Type 0
-NoopMakesCurrent = (k : Config) (events : List Event) (n : ℕ) (now : Standing) (line whole tag : List ℕ) (w : World) (turn : Turn) (v : World) → IsWorld k events w → IsAnswered k n now line w turn v
+NoopMakesCurrent = (k : Config) (events : List Event) (n : ℕ) (now : Standing) (line whole tag : List ℕ) (w : World) (turn : Turn)
+    (v : World) → IsWorld k events w → IsAnswered k n now line w turn v
     → whole_line now line ≡ Some whole → read whole ≡ Ok (tag, Noop) → has_ok true tag turn.bytes ≡ true → IsCurrent v n
 
 -- DONE, where the IDLE that it ends is answered OK (RFC 2177)
 abbrev pub DoneMakesCurrent : Type 0
-DoneMakesCurrent = (k : Config) (events : List Event) (n : ℕ) (now : Standing) (line tag : List ℕ) (w : World) (turn : Turn) (v : World) → IsWorld k events w → IsAnswered k n now line w turn v
+DoneMakesCurrent = (k : Config) (events : List Event) (n : ℕ) (now : Standing) (line tag : List ℕ) (w : World) (turn : Turn) (v : World)
+    → IsWorld k events w → IsAnswered k n now line w turn v
     → now.mailing.begun ≡ None → now.idling ≡ Some tag → is_done line ≡ true → has_ok true tag turn.bytes ≡ true → IsCurrent v n
 
--- Whatever the command: where the last call of a turn was for all that is pending, and was answered. So it is at the end of NOOP, CHECK, LIST, LSUB, STATUS, EXPUNGE, UID EXPUNGE, UID FETCH, UID STORE and UID SEARCH.
+-- Whatever the command: where the last call of a turn was for all that is pending, and was answered. So it is at
+-- the end of NOOP, CHECK, LIST, LSUB, STATUS, EXPUNGE, UID EXPUNGE, UID FETCH, UID STORE and UID SEARCH.
 abbrev pub FeedsMakeCurrent : Type 0
-FeedsMakeCurrent = (k : Config) (events : List Event) (n : ℕ) (w : World) (calls : List Happened) (met : List ℕ) (changes : List Change) (v : World) → IsWorld k events w
-    → Met (λ (w : World) (call : Call) (answer : Answer) (v : World). Meets k n w call answer v) w (calls ++ record { call = Feed unlimited; answer = Fed met changes } ∷ []) v → IsCurrent v n
+FeedsMakeCurrent = (k : Config) (events : List Event) (n : ℕ) (w : World) (calls : List Happened) (met : List ℕ) (changes : List Change)
+    (v : World) → IsWorld k events w
+    → Met (λ (w : World) (call : Call) (answer : Answer) (v : World). Meets k n w call answer v) w
+    (calls ++ record { call = Feed unlimited; answer = Fed met changes } ∷ []) v → IsCurrent v n
 
 -- These commands show all that is pending, last of all (RFC 9051, 5.2 and 7.4.1): of FETCH, STORE and SEARCH only the forms by UID.
 abbrev pub shows_all : Command → Bool
@@ -67,14 +72,23 @@ shows_all command = false
 
 -- Such a command whose answer's last line says that it is done
 abbrev pub DoneCommandsMakeCurrent : Type 0
-DoneCommandsMakeCurrent = (k : Config) (events : List Event) (n : ℕ) (now : Standing) (line whole tag : List ℕ) (command : Command) (w : World) (turn : Turn) (v : World) (front : List ℕ) → IsWorld k events w → IsAnswered k n now line w turn v
-    → whole_line now line ≡ Some whole → read whole ≡ Ok (tag, command) → shows_all command ≡ true → turn.bytes ≡ front ++ tagged tag (response_text (texts.Completed (verb_of command))) → IsCurrent v n
+DoneCommandsMakeCurrent =
+    (k : Config) (events : List Event) (n : ℕ) (now : Standing) (line whole tag : List ℕ) (command : Command) (w : World) (turn : Turn)
+    (v : World) (front : List ℕ) → IsWorld k events w → IsAnswered k n now line w turn v
+    → whole_line now line ≡ Some whole → read whole ≡ Ok (tag, command) → shows_all command ≡ true
+    → turn.bytes ≡ front ++ tagged tag (response_text (texts.Completed (verb_of command))) → IsCurrent v n
 
--- In a session's life: a client that knows where it is sends such a line. When it has read the answer to its end it still knows, and its list is the mailbox as it is.
+-- In a session's life: a client that knows where it is sends such a line. When it has read
+-- the answer to its end it still knows, and its list is the mailbox as it is.
 abbrev pub ListsAreCurrent : Type 0
-ListsAreCurrent = (k : Config) (events : List Event) (n : ℕ) (first : Standing) (began : World) (sent : List ℕ) (told : List Told) (now : Standing) (w : World) (client : Client)
+ListsAreCurrent = (k : Config) (events : List Event) (n : ℕ) (first : Standing) (began : World) (sent : List ℕ) (told : List Told)
+    (now : Standing) (w : World) (client : Client)
     (line whole tag : List ℕ) (command : Command) (answers : List Answer) (turn : Turn) (v : World) (front : List ℕ) (s : Session)
-    → HasSmallNumbers k → IsWorld k events began → HasShortTexts v → Stands first → Lives k n first began sent told now w → hears_all None told ≡ Some client
-    → turn_of now line answers ≡ Some turn → Met (λ (w : World) (call : Call) (answer : Answer) (v : World). Meets k n w call answer v) w turn.events v
-    → whole_line now line ≡ Some whole → read whole ≡ Ok (tag, command) → shows_all command ≡ true → turn.bytes ≡ front ++ tagged tag (response_text (texts.Completed (verb_of command)))
-    → v.session n ≡ Some s → (list : List Known) × (hears_all None (told ++ Answer_to whole turn.bytes ∷ []) ≡ Some (knowing (Some list))) × IsRight (messages_of (v.box s.mailbox)) list
+    → HasSmallNumbers k → IsWorld k events began → HasShortTexts v → Stands first → Lives k n first began sent told now w
+    → hears_all None told ≡ Some client
+    → turn_of now line answers ≡ Some turn
+    → Met (λ (w : World) (call : Call) (answer : Answer) (v : World). Meets k n w call answer v) w turn.events v
+    → whole_line now line ≡ Some whole → read whole ≡ Ok (tag, command) → shows_all command ≡ true
+    → turn.bytes ≡ front ++ tagged tag (response_text (texts.Completed (verb_of command)))
+    → v.session n ≡ Some s → (list : List Known) × (hears_all None (told ++ Answer_to whole turn.bytes ∷ []) ≡ Some (knowing (Some list)))
+    × IsRight (messages_of (v.box s.mailbox)) list

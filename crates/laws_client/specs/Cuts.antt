@@ -17,7 +17,8 @@ use Rattle.laws_client.specs.ClientRecords.{IsPrintable, KeepsUp, KeptUp, first_
 
 -- ---- a client that cuts
 
--- The line that has begun, last byte first, without what stands in literals; how many bytes of a literal are still to come; all bytes since the last tagged
+-- The line that has begun, last byte first, without what stands in literals; how many
+-- bytes of a literal are still to come; all bytes since the last tagged
 -- line; and the answers that were cut, each with the tagged line that ends it.
 pub record Cutter : Type 0 where
   pub line : List ℕ
@@ -49,7 +50,8 @@ cut_end None line begun answers = cut_line (is_tagged (reverse line)) begun answ
 -- a byte of a line: an LF behind a CR ends it
 abbrev pub cut_in_line : (line : List ℕ) → (b : ℕ) → (begun : List ℕ) → List (List ℕ) → Cutter
 cut_in_line [] b begun answers = amid (b ∷ []) begun answers
-cut_in_line (last ∷ line) b begun answers = if (b == 10) && (last == 13) then cut_end (literal_of line) line begun answers else amid (b ∷ last ∷ line) begun answers
+cut_in_line (last ∷ line) b begun answers =
+    if (b == 10) && (last == 13) then cut_end (literal_of line) line begun answers else amid (b ∷ last ∷ line) begun answers
 
 -- a byte of a literal is counted, and not read
 abbrev pub cut_byte : (literal : ℕ) → (line : List ℕ) → (b : ℕ) → (begun : List ℕ) → List (List ℕ) → Cutter
@@ -66,7 +68,8 @@ cuts cutter (b ∷ bytes) = cuts (cut_byte cutter.literal cutter.line b (cutter.
 -- A client reads it from one line's end to another's, and cuts behind it or not at all: it has one tagged line, which is its last, or none.
 pub data IsOneAnswer (bytes : List ℕ) : Type 0 where
   opens : ((begun : List ℕ) (answers : List (List ℕ)) → cuts (between begun answers) bytes ≡ between (begun ++ bytes) answers) → IsOneAnswer bytes
-  ends : ((begun : List ℕ) (answers : List (List ℕ)) → cuts (between begun answers) bytes ≡ between [] (answers ++ (begun ++ bytes) ∷ [])) → IsOneAnswer bytes
+  ends : ((begun : List ℕ) (answers : List (List ℕ)) → cuts (between begun answers) bytes ≡ between [] (answers ++ (begun ++ bytes) ∷ []))
+      → IsOneAnswer bytes
 
 -- it ends with a tagged line
 abbrev pub has_any : List (List ℕ) → Bool
@@ -80,7 +83,8 @@ is_ended bytes = has_any (cuts (between [] []) bytes).answers
 abbrev pub cut_between : (begun : List ℕ) → List (List ℕ) → List Told → Cutter
 cut_between begun answers [] = between begun answers
 cut_between begun answers (one ∷ told) =
-    if is_ended (bytes_in one) then cut_between [] (answers ++ (begun ++ bytes_in one) ∷ []) told else cut_between (begun ++ bytes_in one) answers told
+    if is_ended (bytes_in one) then cut_between [] (answers ++ (begun ++ bytes_in one) ∷ []) told
+    else cut_between (begun ++ bytes_in one) answers told
 
 -- ---- whose answers they are
 
@@ -100,9 +104,11 @@ leaves_open (commands.Copy copy) = true
 leaves_open (commands.Authenticate a) = is_plain a.mechanism && not (is_some a.initial)
 leaves_open command = false
 
--- The answer to a command ends with the tagged line of the command's own tag. Where it has no tagged line the session has said BYE, or it is IDLE, APPEND, COPY, MOVE, or AUTHENTICATE PLAIN without a response.
+-- The answer to a command ends with the tagged line of the command's own tag. Where it has no tagged line the
+-- session has said BYE, or it is IDLE, APPEND, COPY, MOVE, or AUTHENTICATE PLAIN without a response.
 abbrev pub IsAnswered : (tag : List ℕ) → Command → List ℕ → Type 0
-IsAnswered tag command bytes = ((is_ended bytes ≡ true) × EndsItself tag bytes) ⊎ ((is_ended bytes ≡ false) × ((leaves_open command ≡ true) ⊎ SaysBye bytes))
+IsAnswered tag command bytes =
+    ((is_ended bytes ≡ true) × EndsItself tag bytes) ⊎ ((is_ended bytes ≡ false) × ((leaves_open command ≡ true) ⊎ SaysBye bytes))
 
 -- ---- all that was told
 
@@ -115,16 +121,19 @@ pub record CutsSo (profile : Profile) (told : List Told) (printed : List ℕ) : 
   -- each answer has one tagged line at most, and it is its last
   pub each : EachIsOne told
   -- that of the command which it answers
-  pub own : (before after : List Told) (line tag bytes : List ℕ) (command : Command) → told ≡ before ++ Answer line bytes ∷ after → read line ≡ Ok (tag, command) → IsAnswered tag command bytes
+  pub own : (before after : List Told) (line tag bytes : List ℕ) (command : Command) → told ≡ before ++ Answer line bytes ∷ after
+      → read line ≡ Ok (tag, command) → IsAnswered tag command bytes
   -- so a client that cuts behind each tagged line cuts between these answers, and nowhere else
   pub cut : cuts (between [] []) printed ≡ cut_between (greeting profile) [] told
 
 -- Over whatever record of a house that was new, of whoever is there: in all that was printed to it and is still to be printed
 abbrev pub AnswersAreCut : Type 0
 AnswersAreCut = (k : Setup) (entries : List Entry) (t : Scene) (place : ℕ) (v : SeatedVisitor) → IsPrintable k → IsRecord k entries (empty_scene k) t
-    → t.visitor place ≡ Some v → v.gone ≡ false → (keeps : KeepsUp k entries place v t) × CutsSo (first_standing k (user_by_then place [] entries)).profile keeps.told (shown_by_then place [] entries ++ v.session.unsaid)
+    → t.visitor place ≡ Some v → v.gone ≡ false → (keeps : KeepsUp k entries place v t)
+    × CutsSo (first_standing k (user_by_then place [] entries)).profile keeps.told (shown_by_then place [] entries ++ v.session.unsaid)
 
 -- And of a session that was let in there last, whose client isn't gone, and that has ended by itself: in all that was printed to it
 abbrev pub AnswersWereCut : Type 0
 AnswersWereCut = (k : Setup) (entries : List Entry) (t : Scene) (place : ℕ) → IsPrintable k → IsRecord k entries (empty_scene k) t
-    → stays_by_then place false entries ≡ true → t.visitor place ≡ None → (kept : KeptUp k entries place t) × CutsSo (first_standing k (user_by_then place [] entries)).profile kept.told (shown_by_then place [] entries)
+    → stays_by_then place false entries ≡ true → t.visitor place ≡ None → (kept : KeptUp k entries place t)
+    × CutsSo (first_standing k (user_by_then place [] entries)).profile kept.told (shown_by_then place [] entries)

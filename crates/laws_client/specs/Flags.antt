@@ -21,7 +21,8 @@ counted p = view_at p.log p.cursor
 abbrev pub flags_at : ℕ → List Change → Option Flags
 flags_at uid log = option_map (λ (row : Row). row.flags) (row_with uid (rows_of log))
 
--- These are the names of flags that the message had at some moment which isn't before the session's cursor. A client may know newer flags than those at the cursor, by its
+-- These are the names of flags that the message had at some moment which isn't before the
+-- session's cursor. A client may know newer flags than those at the cursor, by its
 -- own STORE or a FETCH, and may then be told older ones first; but never such that are older than what it was shown.
 pub record FlagsOf (log : List Change) (cursor uid : ℕ) (names : List (List ℕ)) : Type 0 where
   -- the moment, as the number of changes that were logged by then

@@ -75,7 +75,8 @@ SeesAll view (event ∷ events) new = (mid : List ℕ) × Sees view event mid ×
 
 -- ---- what a session says
 
--- Whatever the store answers, a client is as right after each text of the exchange as before; and no mailbox is entered or left in it. The lines of changes are no texts of the
+-- Whatever the store answers, a client is as right after each text of the exchange as before;
+-- and no mailbox is entered or left in it. The lines of changes are no texts of the
 -- exchange: of them nothing is asked.
 abbrev pub Says : List ℕ → List ℕ → Exchange → Type 0
 Says tag view (Done words how) = Leaves view (tagged tag words)

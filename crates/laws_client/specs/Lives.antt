@@ -20,18 +20,21 @@ IsSentFor (Literal kept literal) bytes = bytes ≡ literal
 IsSentFor (Turned answers) bytes = bytes ≡ []
 IsSentFor (Heard verdict answers) bytes = bytes ≡ []
 
--- Session n stood so when it came into this world. Since then these bytes of its client were answered, and it was told all this, piece by piece; and now it stands so in that world.
+-- Session n stood so when it came into this world. Since then these bytes of its client were
+-- answered, and it was told all this, piece by piece; and now it stands so in that world.
 pub data Lives (k : Config) (n : ℕ) (first : Standing) (began : World) : List ℕ → List Told → Standing → World → Type 0 where
   comes : Lives k n first began [] [] first began
   turns : {sent : List ℕ} {told : List Told} {now : Standing} {w : World} → Lives k n first began sent told now w
       → (happening : Happening) (bytes : List ℕ) (turn : Turn) (v : World) → IsSentFor happening bytes → VerdictsArePrinted happening
-      → leads_to now happening ≡ Some turn → Met (λ (w : World) (call : Call) (answer : StoreAnswer) (v : World). Meets k n w call answer v) w turn.events v
+      → leads_to now happening ≡ Some turn
+      → Met (λ (w : World) (call : Call) (answer : StoreAnswer) (v : World). Meets k n w call answer v) w turn.events v
       → Lives k n first began (sent ++ bytes) (told ++ told_of now happening turn.bytes ∷ []) turn.standing v
   others : {sent : List ℕ} {told : List Told} {now : Standing} {w : World} → Lives k n first began sent told now w
       → (event : Event) (v : World) → IsOfOthers n event → Step k w event v → Lives k n first began sent told now v
 
 -- Whatever its client sends and whatever others do, it is right about what the session counts at each moment.
 abbrev pub LivesAreKnown : Type 0
-LivesAreKnown = (k : Config) (events : List Event) (n : ℕ) (first : Standing) (began : World) (sent : List ℕ) (told : List Told) (now : Standing) (w : World)
+LivesAreKnown = (k : Config) (events : List Event) (n : ℕ) (first : Standing) (began : World) (sent : List ℕ) (told : List Told)
+    (now : Standing) (w : World)
     → HasSmallNumbers k → IsWorld k events began → HasShortTexts w → Stands first
     → Lives k n first began sent told now w → IsRightAbout (view_of w n) (hears_all None told)

@@ -15,11 +15,14 @@ ViewsAreNumbered = (k : Config) (events : List Event) (w : World) (n : ℕ) → 
 
 -- what others do leaves it as it was
 abbrev pub OthersLeaveViews : Type 0
-OthersLeaveViews = (k : Config) (events : List Event) (w : World) (event : Event) (v : World) (n : ℕ) → IsWorld k events w → Step k w event v → IsOfOthers n event → view_of v n ≡ view_of w n
+OthersLeaveViews = (k : Config) (events : List Event) (w : World) (event : Event) (v : World) (n : ℕ) → IsWorld k events w
+    → Step k w event v → IsOfOthers n event → view_of v n ≡ view_of w n
 
--- A UID that a session counts is the name of one copy for good: whatever happens later, the same copy stands under it in its mailbox's history, and no other
+-- A UID that a session counts is the name of one copy for good: whatever happens
+-- later, the same copy stands under it in its mailbox's history, and no other
 abbrev pub UidsStay : Type 0
-UidsStay = (k : Config) (events : List Event) (w : World) (later : List Event) (v : World) (n uid : ℕ) (s : Session) → IsWorld k events w → Steps k w later v
+UidsStay = (k : Config) (events : List Event) (w : World) (later : List Event) (v : World) (n uid : ℕ) (s : Session) → IsWorld k events w
+    → Steps k w later v
     → w.session n ≡ Some s → Contains (view_of w n) uid → NamesTheSame uid (w.box s.mailbox) (v.box s.mailbox)
 
 -- and a message that is gone doesn't come back: one that is there later, under a UID that was given, was there already
@@ -29,13 +32,16 @@ GoneStayGone = (k : Config) (events : List Event) (w : World) (later : List Even
 
 -- each UID that a session counts was given
 abbrev pub CountedAreGiven : Type 0
-CountedAreGiven = (k : Config) (events : List Event) (w : World) (n uid : ℕ) (s : Session) → IsWorld k events w → w.session n ≡ Some s → Contains (view_of w n) uid → uid < next_uid k (w.box s.mailbox)
+CountedAreGiven = (k : Config) (events : List Event) (w : World) (n uid : ℕ) (s : Session) → IsWorld k events w → w.session n ≡ Some s
+    → Contains (view_of w n) uid → uid < next_uid k (w.box s.mailbox)
 
 -- ---- calls of a session
 
--- What a call comes to: the session's client may be shown what it shows, it reads the row of the UID that was asked for, and it counts what can be printed
+-- What a call comes to: the session's client may be shown what it shows, it reads
+-- the row of the UID that was asked for, and it counts what can be printed
 abbrev pub CallsAreSeen : Type 0
-CallsAreSeen = (k : Config) (events : List Event) (w : World) (n : ℕ) (call : Call) (answer : Answer) (v : World) → HasSmallNumbers k → IsWorld k events w → HasShortTexts w
+CallsAreSeen = (k : Config) (events : List Event) (w : World) (n : ℕ) (call : Call) (answer : Answer) (v : World) → HasSmallNumbers k
+    → IsWorld k events w → HasShortTexts w
     → Meets k n w call answer v → Sees (view_of w n) (record { call = call; answer = answer }) (view_of v n)
 
 -- a session that enters counts all that is there
@@ -45,4 +51,5 @@ EntriesAreCounted = (k : Config) (events : List Event) (w : World) (n m : ℕ) (
 
 -- and one that leaves counts nothing
 abbrev pub LeaversCountNothing : Type 0
-LeaversCountNothing = (k : Config) (w : World) (n : ℕ) (remove : Bool) (gone : ℕ) (v : World) → Meets k n w (Leave remove) (Left gone) v → view_of v n ≡ []
+LeaversCountNothing =
+    (k : Config) (w : World) (n : ℕ) (remove : Bool) (gone : ℕ) (v : World) → Meets k n w (Leave remove) (Left gone) v → view_of v n ≡ []

@@ -31,11 +31,14 @@ pub record Stands (now : Standing) : Type 0 where
   pub tags : AreTags now
   pub names : AreNames now.folders
 
--- Whatever happens, and whatever is refused on the way: a client that was right about what its session counts before a turn hears what is said in it, and is right about what the session counts then
+-- Whatever happens, and whatever is refused on the way: a client that was right about what its session
+-- counts before a turn hears what is said in it, and is right about what the session counts then
 abbrev pub TurnIsKnown : Type 0
-TurnIsKnown = (k : Config) (events : List Event) (w : World) (n : ℕ) (now : Standing) (happening : Happening) (turn : Turn) (v : World) (client : Option Client)
+TurnIsKnown = (k : Config) (events : List Event) (w : World) (n : ℕ) (now : Standing) (happening : Happening) (turn : Turn) (v : World)
+    (client : Option Client)
     → HasSmallNumbers k → IsWorld k events w → HasShortTexts v → Stands now → VerdictsArePrinted happening
-    → leads_to now happening ≡ Some turn → Met (λ (w : World) (call : Call) (answer : StoreAnswer) (v : World). Meets k n w call answer v) w turn.events v
+    → leads_to now happening ≡ Some turn
+    → Met (λ (w : World) (call : Call) (answer : StoreAnswer) (v : World). Meets k n w call answer v) w turn.events v
     → IsRightAbout (view_of w n) client → IsRightAbout (view_of v n) (hears client (told_of now happening turn.bytes))
 
 -- and the session stands as before

@@ -46,7 +46,8 @@ HasSmallCursor selection = IfSome selection.entered (λ here. here.handle.at ≤
 
 -- ---- a turn
 
--- Whatever happens, whatever is refused, and whatever others do between two holds of a lock: a client that was right about what its session counts before a turn hears what is said
+-- Whatever happens, whatever is refused, and whatever others do between two holds of a lock: a
+-- client that was right about what its session counts before a turn hears what is said
 -- in it, and is right about what the session counts then.
 abbrev pub ServedTurnIsKnown : Type 0
 ServedTurnIsKnown = (old new : LockedStore) (shown : List Change) (now : Standing) (happening : Happening) (turn : Turn) (client : Option Client)
@@ -60,7 +61,8 @@ CursorsStaySmall = (old new : LockedStore) (events : List Event) → Met Holds o
 
 -- ---- a life
 
--- A session stood so when it came. Since then these bytes of its client were answered, and it was told all this, piece by piece; and now it stands so, in the mailbox that it has
+-- A session stood so when it came. Since then these bytes of its client were answered, and it
+-- was told all this, piece by piece; and now it stands so, in the mailbox that it has
 -- entered. What others do needs no case of its own: each hold of a lock may find whatever they have done meanwhile.
 pub data ServedLives (first : Standing) (began : LockedStore) : List ℕ → List Told → Standing → LockedStore → Type 0 where
   comes : ServedLives first began [] [] first began
@@ -87,36 +89,47 @@ IsAtEnd selection here = here.handle.at ≡ length (changes_in here.mailbox sele
 
 -- Then what the session counts is all that is there: so a client that is right about it has a list of the mailbox as it is.
 abbrev pub ServedListsAreCurrent : Type 0
-ServedListsAreCurrent = (selection : LockedStore) (here : Entry) → selection.entered ≡ Some here → IsAtEnd selection here → counted_by selection ≡ messages_in here.mailbox selection.history
+ServedListsAreCurrent =
+    (selection : LockedStore) (here : Entry) → selection.entered ≡ Some here → IsAtEnd selection here
+    → counted_by selection ≡ messages_in here.mailbox selection.history
 
 -- And the cursor is there where fewer changes were shown than were asked for, or all that are pending were, as at the end of NOOP (RFC 9051, 6.1.2).
 abbrev pub FeedsReachTheEnd : Type 0
 FeedsReachTheEnd = (old new : LockedStore) (limit : ℕ) (view : List ℕ) (changes shown : List Change)
-    → WasShown old shown → Holds old (Feed limit) (Fed view changes) new → (length changes < limit) ⊎ (limit ≡ unlimited) → IfSome new.entered (IsAtEnd new)
+    → WasShown old shown → Holds old (Feed limit) (Fed view changes) new → (length changes < limit) ⊎ (limit ≡ unlimited)
+    → IfSome new.entered (IsAtEnd new)
 
 -- So it is behind a command that `shows_all` names whose answer's last line says that it is done.
 abbrev pub ServedCommandsReachTheEnd : Type 0
-ServedCommandsReachTheEnd = (old new : LockedStore) (shown : List Change) (now : Standing) (line whole tag : List ℕ) (command : Command) (selected : Selected) (answers : List Answer) (turn : Turn) (front : List ℕ)
+ServedCommandsReachTheEnd =
+    (old new : LockedStore) (shown : List Change) (now : Standing) (line whole tag : List ℕ) (command : Command) (selected : Selected)
+    (answers : List Answer) (turn : Turn) (front : List ℕ)
     → WasShown old shown → now.selected ≡ Some selected → turn_of now line answers ≡ Some turn → Met Holds old turn.events new
-    → whole_line now line ≡ Some whole → read whole ≡ Ok (tag, command) → shows_all command ≡ true → turn.bytes ≡ front ++ tagged tag (response_text (texts.Completed (verb_of command)))
+    → whole_line now line ≡ Some whole → read whole ≡ Ok (tag, command) → shows_all command ≡ true
+    → turn.bytes ≡ front ++ tagged tag (response_text (texts.Completed (verb_of command)))
     → IfSome new.entered (IsAtEnd new)
 
 -- and behind a DONE, where the IDLE that it ends is answered OK (RFC 2177)
 abbrev pub ServedDoneReachesTheEnd : Type 0
-ServedDoneReachesTheEnd = (old new : LockedStore) (shown : List Change) (now : Standing) (line tag : List ℕ) (selected : Selected) (answers : List Answer) (turn : Turn)
+ServedDoneReachesTheEnd =
+    (old new : LockedStore) (shown : List Change) (now : Standing) (line tag : List ℕ) (selected : Selected) (answers : List Answer) (turn : Turn)
     → WasShown old shown → Stands now → now.selected ≡ Some selected → turn_of now line answers ≡ Some turn → Met Holds old turn.events new
     → now.mailing.begun ≡ None → now.idling ≡ Some tag → is_done line ≡ true → has_ok true tag turn.bytes ≡ true
     → IfSome new.entered (IsAtEnd new)
 
--- In a session's life: a client that knows where it is sends one of the lines of `shows_all`. When it has read the answer to its end it still knows, and its list is the mailbox as its session found it last.
+-- In a session's life: a client that knows where it is sends one of the lines of `shows_all`. When it has read
+-- the answer to its end it still knows, and its list is the mailbox as its session found it last.
 abbrev pub ServedCommandsMakeCurrent : Type 0
-ServedCommandsMakeCurrent = (first : Standing) (began : LockedStore) (sent : List ℕ) (told : List Told) (now : Standing) (selection : LockedStore) (client : Client)
+ServedCommandsMakeCurrent =
+    (first : Standing) (began : LockedStore) (sent : List ℕ) (told : List Told) (now : Standing) (selection : LockedStore) (client : Client)
     (line whole tag : List ℕ) (command : Command) (answers : List Answer) (turn : Turn) (next : LockedStore) (front : List ℕ) (here : Entry)
     → began.entered ≡ None → Stands first → Legal next.history → ServedLives first began sent told now selection → hears_all None told ≡ Some client
     → turn_of now line answers ≡ Some turn → Met Holds selection turn.events next
-    → whole_line now line ≡ Some whole → read whole ≡ Ok (tag, command) → shows_all command ≡ true → turn.bytes ≡ front ++ tagged tag (response_text (texts.Completed (verb_of command)))
+    → whole_line now line ≡ Some whole → read whole ≡ Ok (tag, command) → shows_all command ≡ true
+    → turn.bytes ≡ front ++ tagged tag (response_text (texts.Completed (verb_of command)))
     → next.entered ≡ Some here
-    → (list : List Known) × (hears_all None (told ++ Answer_to whole turn.bytes ∷ []) ≡ Some (knowing (Some list))) × IsRight (messages_in here.mailbox next.history) list
+    → (list : List Known) × (hears_all None (told ++ Answer_to whole turn.bytes ∷ []) ≡ Some (knowing (Some list)))
+    × IsRight (messages_in here.mailbox next.history) list
 
 -- ---- texts
 

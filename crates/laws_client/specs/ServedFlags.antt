@@ -50,7 +50,8 @@ ServedFlagsHaveMoments = (old new : LockedStore) (call : Call) (answer : Answer)
 
 -- ---- turns and lives
 
--- Whatever happens in a turn, and whatever others do between two holds of a lock: a client that was right about flags hears what is said, and is right about flags then.
+-- Whatever happens in a turn, and whatever others do between two holds of a lock: a client
+-- that was right about flags hears what is said, and is right about flags then.
 abbrev pub ServedTurnTellsFlags : Type 0
 ServedTurnTellsFlags = (old new : LockedStore) (shown : List Change) (now : Standing) (happening : Happening) (turn : Turn) (client : Option Client)
     → WasShown old shown → HasSmallCursor old → Stands now → VerdictsArePrinted happening → Legal new.history

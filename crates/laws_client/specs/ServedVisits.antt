@@ -33,7 +33,8 @@ said_in profile told = greeting profile ++ flat_map bytes_in told
 pub record HasLived (beginning : Beginning) (heard : List ℕ) (told : List Told) (visit : Visit) : Type 0 where
   pub dialogue : Dialogue
   pub stands : StandsFor visit.link dialogue
-  -- These bytes were answered, and with those behind them a line has begun. The others were lost: they came behind the end of the session, or the visit ended before they were answered.
+  -- These bytes were answered, and with those behind them a line has begun. The others were lost:
+  -- they came behind the end of the session, or the visit ended before they were answered.
   pub answered : List ℕ
   pub lost : List ℕ
   pub all : heard ≡ (answered ++ dialogue.begun) ++ lost
@@ -48,30 +49,38 @@ pub record HasLived (beginning : Beginning) (heard : List ℕ) (told : List Told
 
 -- A client that was greeted has begun its visit, however its session was to begin.
 abbrev pub VisitsBegin : Type 0
-VisitsBegin = (admission : Admission) (folders : List Folder) (store : LockedStore) (taken : Option (List ℕ)) (visit : Visit) → Legal store.history → IsGreeted admission folders store taken visit
+VisitsBegin = (admission : Admission) (folders : List Folder) (store : LockedStore) (taken : Option (List ℕ)) (visit : Visit)
+    → Legal store.history → IsGreeted admission folders store taken visit
     → HasLived (record { first = begun_with admission folders; store = store; taken = taken }) [] [] visit
 
 -- Whoever makes the call, and whatever others did since the one before: the visit goes on, and its client was told something more, or nothing.
 abbrev pub VisitsGoOn : Type 0
-VisitsGoOn = (beginning : Beginning) (heard piece : List ℕ) (told : List Told) (old new : Visit) → HasLived beginning heard told old → is_over old ≡ false → HasCalled piece old new
+VisitsGoOn = (beginning : Beginning) (heard piece : List ℕ) (told : List Told) (old new : Visit) → HasLived beginning heard told old
+    → is_over old ≡ false → HasCalled piece old new
     → (more : List Told) × HasLived beginning (heard ++ piece) (told ++ more) new
 
 -- So go calls of a visit, one after another.
 abbrev pub CallsGoOn : Type 0
-CallsGoOn = (beginning : Beginning) (before heard : List ℕ) (told : List Told) (old new : Visit) → HasLived beginning before told old → Calls old heard new
+CallsGoOn = (beginning : Beginning) (before heard : List ℕ) (told : List Told) (old new : Visit) → HasLived beginning before told old
+    → Calls old heard new
     → (more : List Told) × HasLived beginning (before ++ heard) (told ++ more) new
 
 -- A client that was greeted, and then attended by a berth's thread: the calls that were made are such a life, of just the bytes that were heard.
 abbrev pub AttendedClientsLive : Type 0
-AttendedClientsLive = (admission : Admission) (folders : List Folder) (store : LockedStore) (taken before after : Option (List ℕ)) (how : Parting) (old new : Visit) → Legal store.history
+AttendedClientsLive =
+    (admission : Admission) (folders : List Folder) (store : LockedStore) (taken before after : Option (List ℕ)) (how : Parting)
+    (old new : Visit) → Legal store.history
     → IsGreeted admission folders store taken old → (attended : Attended before after how old new)
     → (told : List Told) × HasLived (record { first = begun_with admission folders; store = store; taken = taken }) attended.heard told attended.last
 
--- What a session has to know at first it knows, of whichever user it is, where nothing is wrong with the settings: the names of its mailboxes stand in lines.
+-- What a session has to know at first it knows, of whichever user it is, where nothing
+-- is wrong with the settings: the names of its mailboxes stand in lines.
 abbrev pub VisitorsStand : Type 0
-VisitorsStand = (config : Config) (admission : Admission) (user : List ℕ) → IsInRange config → config_fault config ≡ None → Stands (begun_with admission (folders_of (directory_for config) user))
+VisitorsStand = (config : Config) (admission : Admission) (user : List ℕ) → IsInRange config → config_fault config ≡ None
+    → Stands (begun_with admission (folders_of (directory_for config) user))
 
 -- So at each moment of a visit its client is right about what the session counts, and about flags.
 abbrev pub VisitorsKeepUp : Type 0
-VisitorsKeepUp = (beginning : Beginning) (heard : List ℕ) (told : List Told) (visit : Visit) → beginning.store.entered ≡ None → Stands beginning.first → HasLived beginning heard told visit
+VisitorsKeepUp = (beginning : Beginning) (heard : List ℕ) (told : List Told) (visit : Visit) → beginning.store.entered ≡ None
+    → Stands beginning.first → HasLived beginning heard told visit
     → IsRightAbout (counted_by visit.selection) (hears_all None told) × IsRightOnFlags (place_of visit.selection) (hears_all None told)

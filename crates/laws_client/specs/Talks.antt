@@ -6,7 +6,8 @@ use Rattle.imap_session.specs.Commands.{idle_turn, turn_of, turn_of_long_line, t
 use Rattle.laws_client.specs.Commands.{IsPrinted, MayCome, whole_line}
 use Rattle.laws_client.specs.ListTurns.{SeesAll}
 
--- A line came, or one that was too long, or the session had a turn while it idles; or bytes of a literal came, to which memory was refused or not, or the
+-- A line came, or one that was too long, or the session had a turn while it idles;
+-- or bytes of a literal came, to which memory was refused or not, or the
 -- verdict on a message. With the store's answers.
 pub data Happening : Type 0 where
   Line : (line : List ℕ) → List Answer → Happening
@@ -33,5 +34,6 @@ MayHappen now view (Heard verdict answers) = IsPrinted verdict
 abbrev pub Talks : Standing → List ℕ → List Happening → List ℕ → List ℕ → Type 0
 Talks now view [] bytes new = (bytes ≡ []) × (new ≡ view)
 Talks now view (happening ∷ more) bytes new =
-    (turn : Turn) × (mid : List ℕ) × (rest : List ℕ) × MayHappen now view happening × (leads_to now happening ≡ Some turn) × SeesAll view turn.events mid
+    (turn : Turn) × (mid : List ℕ) × (rest : List ℕ) × MayHappen now view happening × (leads_to now happening ≡ Some turn)
+    × SeesAll view turn.events mid
     × (bytes ≡ turn.bytes ++ rest) × Talks turn.standing mid more rest new

@@ -28,7 +28,8 @@ IsOfOthers n (Feed session limit) = n ≢ session
 IsOfOthers n (Leave session removing) = n ≢ session
 IsOfOthers n event = Unit {0}
 
--- What a session is told of the mailbox that it enters: it counts all messages that are there, they are as many as is told, each number can be printed, and the UIDVALIDITY is
+-- What a session is told of the mailbox that it enters: it counts all messages that are there,
+-- they are as many as is told, each number can be printed, and the UIDVALIDITY is
 -- always the same (RFC 9051, 2.3.1.1).
 pub record IsOpened (k : Config) (opening : Opening) (b : Box) (view : List ℕ) : Type 0 where
   pub all : view ≡ messages_of b
@@ -40,7 +41,8 @@ pub record IsOpened (k : Config) (opening : Opening) (b : Box) (view : List ℕ)
 
 -- ---- a client that comes again
 
--- Under this UID stood one copy in the mailbox's history as it was, and the same stands there now, and no other. So a FETCH tells the same text of it.
+-- Under this UID stood one copy in the mailbox's history as it was, and the same
+-- stands there now, and no other. So a FETCH tells the same text of it.
 pub record NamesTheSame (uid : ℕ) (before now : Box) : Type 0 where
   pub copy : Job
   pub was : Contains before.accepted (copy, uid)

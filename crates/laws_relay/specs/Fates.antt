@@ -15,7 +15,8 @@ use Rattle.laws_relay.specs.Handed.{Handed}
 
 -- ---- what happens on a connection
 
--- Lines are heard while the dialogue listens, and memory is refused only to a message's text; verdicts come where so many are awaited; and a server shuts down only while it listens.
+-- Lines are heard while the dialogue listens, and memory is refused only to a message's text;
+-- verdicts come where so many are awaited; and a server shuts down only while it listens.
 abbrev pub MayHappen : Phase → Event → Type 0
 MayHappen phase Opened = ⊥
 MayHappen phase (Line line) = IsListening phase
@@ -83,7 +84,8 @@ AreNamed directory (line ∷ lines) (mailbox ∷ mailboxes) = Names directory li
 abbrev pub IsSender : List ℕ → List ℕ → Type 0
 IsSender line sender = (path : Path) × (read line ≡ Ok (Mail path)) × (sender ≡ sender_text path)
 
--- The submission is of this message: its mailboxes are those that the accepted RCPT lines name, in their order, and its text is the return path of the MAIL line and then the lines of the data,
+-- The submission is of this message: its mailboxes are those that the accepted RCPT lines name, in
+-- their order, and its text is the return path of the MAIL line and then the lines of the data,
 -- without the dots that were put before them.
 pub record IsSubmitted (directory : Directory) (message : Handed) (submission : Submission) : Type 0 where
   pub names : AreNamed directory message.recipients submission.mailboxes
@@ -111,7 +113,8 @@ AreRefusals replies = list_all (λ reply. not (is_code (codes "250") reply)) rep
 abbrev pub AreFarewells : List (List ℕ) → Type 0
 AreFarewells replies = list_all (is_code (codes "421")) replies ≡ true
 
--- Each message has its fate, in their order, and its replies tell it: one reply for each verdict, and for each recipient where it was refused as a whole. Only the last may be without an answer.
+-- Each message has its fate, in their order, and its replies tell it: one reply for each verdict, and
+-- for each recipient where it was refused as a whole. Only the last may be without an answer.
 pub data HaveFates (host : List ℕ) (directory : Directory) : List Handed → List Fate → Type 0 where
   none : HaveFates host directory [] []
   judged : {messages : List Handed} {fates : List Fate} (message : Handed) (submission : Submission) (verdicts : List Verdict)
@@ -165,8 +168,10 @@ abbrev pub all_told : List Fate → List (List Verdict)
 all_told [] = []
 all_told (fate ∷ fates) = told_of fate ++ all_told fates
 
--- The messages that a relay knows are the ones whose end was heard, what was submitted of them, and the verdicts on that, one after the other, with none left over on either side; and at most one more, which wasn't heard to its end.
-pub record AreKnown (host : List ℕ) (directory : Directory) (messages : List Handed) (ends : List (List Submission)) (submissions : List Submission) (answers : List (List Verdict)) : Type 0 where
+-- The messages that a relay knows are the ones whose end was heard, what was submitted of them, and the verdicts on that,
+-- one after the other, with none left over on either side; and at most one more, which wasn't heard to its end.
+pub record AreKnown (host : List ℕ) (directory : Directory) (messages : List Handed) (ends : List (List Submission))
+    (submissions : List Submission) (answers : List (List Verdict)) : Type 0 where
   pub fates : List Fate
   pub each : HaveFates host directory messages fates
   pub ends_are : all_ends fates ≡ ends
@@ -182,7 +187,8 @@ was_stored Unheard i = false
 
 -- ---- what is read of a front
 
--- What a relay knows by a front of the replies, and by all of them: the first messages are the same, the last of them may have fewer replies, the first of those that it has by all; and the others aren't known.
+-- What a relay knows by a front of the replies, and by all of them: the first messages are the same, the last of
+-- them may have fewer replies, the first of those that it has by all; and the others aren't known.
 pub data AreCut : List Handed → List Handed → Type 0 where
   none : {whole : List Handed} → AreCut [] whole
   same : {front whole : List Handed} (message : Handed) → AreCut front whole → AreCut (message ∷ front) (message ∷ whole)

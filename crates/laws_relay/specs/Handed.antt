@@ -1,4 +1,5 @@
--- What a relay handed over on a connection, by the lines that it sent and the replies that it read (RFC 2033, 4.2; RFC 5321, 3.3), and by nothing else: no seat, no key,
+-- What a relay handed over on a connection, by the lines that it sent and the replies that
+-- it read (RFC 2033, 4.2; RFC 5321, 3.3), and by nothing else: no seat, no key,
 -- no verdict and none of the server's words, but a reply's code.
 use Rattle.std.specs.Prelude.{ℕ, Bool, List, [], ◌∷◌, ◌++◌, codes, length, take, drop, ◌||◌, if◌then◌else◌, slice_index_or}
 use Rattle.std.specs.Str.{bytes_eq, str_eq_ignore_ascii_case as is_same}
@@ -29,7 +30,8 @@ is_end line = bytes_eq line (codes ".")
 
 -- ---- what it knows
 
--- A message that it handed over: the MAIL line, the RCPT lines that were answered 250, the lines of the data without the dot that ends it, and the replies that it read for it: one for each of those
+-- A message that it handed over: the MAIL line, the RCPT lines that were answered 250, the lines of the
+-- data without the dot that ends it, and the replies that it read for it: one for each of those
 -- RCPT lines, in their order, or fewer where what was told ends before.
 pub record Handed : Type 0 where
   pub mail : List ℕ
@@ -53,7 +55,8 @@ after_reply AsksData (Begun mail recipients) line reply =
 after_reply AsksDrop (Begun mail recipients) line reply = if is_code (codes "250") reply then Between else Begun mail recipients
 after_reply _ relay line reply = relay
 
--- What it handed over, in order, from where it stands on, by the lines that it sent and the replies that it read. Each command has one reply; the lines of data have none, and the dot has one for
+-- What it handed over, in order, from where it stands on, by the lines that it sent and the replies that
+-- it read. Each command has one reply; the lines of data have none, and the dot has one for
 -- each recipient that was accepted. Behind the last reply it knows of no message more, but of one whose data it was sending.
 abbrev pub handed : Relay → (sent replies : List (List ℕ)) → List Handed
 handed relay [] replies = []

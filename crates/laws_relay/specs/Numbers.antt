@@ -24,15 +24,20 @@ no_submission = record { keys = []; mailboxes = []; text = undated [] }
 pub record AreNumbered (directory : Directory) (messages : List Handed) (fates : List Fate) : Type 0 where
   -- the k-th message, where it was submitted, is of the submission of this number
   pub of_message : (k : ℕ) → was_submitted (slice_index_or fates k Unheard) ≡ true
-      → (number_of fates k < length (all_submitted fates)) × IsSubmitted directory (slice_index_or messages k no_message) (slice_index_or (all_submitted fates) (number_of fates k) no_submission)
+      → (number_of fates k < length (all_submitted fates))
+      × IsSubmitted directory (slice_index_or messages k no_message) (slice_index_or (all_submitted fates) (number_of fates k) no_submission)
   -- and its verdicts are those of this number, or none of this number was told
   pub of_verdicts : (k i : ℕ) → was_submitted (slice_index_or fates k Unheard) ≡ true
-      → was_stored (slice_index_or fates k Unheard) i ≡ slice_index_or (map is_stored (slice_index_or (all_told fates) (number_of fates k) [])) i false
+      → was_stored (slice_index_or fates k Unheard) i ≡ slice_index_or
+      (map is_stored (slice_index_or (all_told fates) (number_of fates k) [])) i false
   -- different messages have different numbers, in their order
   pub rises : (k m : ℕ) → k < m → was_submitted (slice_index_or fates k Unheard) ≡ true → number_of fates k < number_of fates m
   -- and each submission is of a message that was handed over
-  pub each : (n : ℕ) → n < length (all_submitted fates) → (k : ℕ) × (k < length messages) × (was_submitted (slice_index_or fates k Unheard) ≡ true) × (number_of fates k ≡ n)
+  pub each : (n : ℕ) → n < length (all_submitted fates) → (k : ℕ) × (k < length messages)
+      × (was_submitted (slice_index_or fates k Unheard) ≡ true) × (number_of fates k ≡ n)
 
 -- whatever fates messages have
 abbrev pub MessagesAreNumbered : Type 0
-MessagesAreNumbered = (host : List ℕ) (directory : Directory) (messages : List Handed) (fates : List Fate) → HaveFates host directory messages fates → AreNumbered directory messages fates
+MessagesAreNumbered =
+    (host : List ℕ) (directory : Directory) (messages : List Handed) (fates : List Fate) → HaveFates host directory messages fates
+    → AreNumbered directory messages fates

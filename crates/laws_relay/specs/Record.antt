@@ -1,4 +1,5 @@
--- What came for a connection and what it was told, by the record of a house: which events came, and what each of them printed. A connection is known by its seat and by
+-- What came for a connection and what it was told, by the record of a house: which events
+-- came, and what each of them printed. A connection is known by its seat and by
 -- its serial there. Its peer may have sent more, which hasn't come yet, and may have been told less.
 use Rattle.std.specs.Prelude.{ℕ, ◌==◌, ◌&&◌, ◌||◌, if◌then◌else◌, Bool, false, List, [], ◌∷◌, ◌++◌, map}
 use Rattle.house.specs.AnyScene as any

@@ -28,30 +28,39 @@ module _ (sessions : Sessions) where
   abbrev pub IsDone : Scene sessions → (seat serial : ℕ) → Type 0
   IsDone s seat serial = (b : Caller lmtp) → s.caller seat ≡ Some b → b.serial ≡ serial → (b.talk.pending ≡ []) × (b.talk.unsaid ≡ [])
 
-  -- Of each connection that was opened: a relay that sent what came for it, and perhaps more, and was told a front of what was said to it, may conclude which copies stand: by that
-  -- front, by what was printed behind it, and, where its peer was never gone, by what the connection has still to print. And there are no copies of other connections.
+  -- Of each connection that was opened: a relay that sent what came for it, and perhaps more, and
+  -- was told a front of what was said to it, may conclude which copies stand: by that
+  -- front, by what was printed behind it, and, where its peer was never gone, by what the
+  -- connection has still to print. And there are no copies of other connections.
   pub record RelaysMayConclude (k : Setup) (entries : List (Entry sessions)) (after : Scene sessions) : Type 0 where
     pub each : (seat serial : ℕ) → seat < k.connections → serial < after.next seat
         → (later told unread : List ℕ) → told ++ unread ≡ told_to sessions k seat serial (new_house sessions k) entries
-        → (may : MayConclude k.host k.directory after.world seat serial (came_for sessions seat serial (new_house sessions k) entries ++ later) told unread)
+        → (may : MayConclude k.host k.directory after.world seat serial
+        (came_for sessions seat serial (new_house sessions k) entries ++ later) told unread)
         × (has_vanished sessions seat serial (new_house sessions k) entries ≡ false → may.unprinted ≡ unsaid_by serial (after.caller seat))
     -- where its peer was never gone and nothing more is to be said, a relay that was told all has read of each copy that stands that it does
-    pub all : (seat serial : ℕ) → seat < k.connections → serial < after.next seat → has_vanished sessions seat serial (new_house sessions k) entries ≡ false → IsDone after seat serial
-        → (later : List ℕ) → KnowsAll k.host k.directory after.world seat serial (came_for sessions seat serial (new_house sessions k) entries ++ later) (told_to sessions k seat serial (new_house sessions k) entries)
-    pub opened : (mailbox : ℕ) (entry : Job × ℕ) → Contains (after.world.box mailbox).accepted entry → entry.0.key.seat < k.connections → entry.0.key.serial < after.next entry.0.key.seat
+    pub all : (seat serial : ℕ) → seat < k.connections → serial < after.next seat
+        → has_vanished sessions seat serial (new_house sessions k) entries ≡ false → IsDone after seat serial
+        → (later : List ℕ) → KnowsAll k.host k.directory after.world seat serial
+        (came_for sessions seat serial (new_house sessions k) entries ++ later) (told_to sessions k seat serial (new_house sessions k) entries)
+    pub opened : (mailbox : ℕ) (entry : Job × ℕ) → Contains (after.world.box mailbox).accepted entry → entry.0.key.seat < k.connections
+        → entry.0.key.serial < after.next entry.0.key.seat
 
   -- of every record of a house
   abbrev pub ByTheRecord : Type 0
-  ByTheRecord = (k : Setup) (entries : List (Entry sessions)) (after : Scene sessions) (steps : List world.Event) → IsInLine k.host → promised.IsRecord (peers_of sessions) k entries (new_house sessions k) after → IsWorld k.config steps after.world
+  ByTheRecord = (k : Setup) (entries : List (Entry sessions)) (after : Scene sessions) (steps : List world.Event) → IsInLine k.host
+      → promised.IsRecord (peers_of sessions) k entries (new_house sessions k) after → IsWorld k.config steps after.world
       → RelaysMayConclude k entries after
 
   -- of all events of a new house, and all that they printed
   abbrev pub OfAllEvents : Type 0
-  OfAllEvents = (k : Setup) (events : List Event) (after : Scene sessions) (printed : List ℕ) → IsInLine k.host → (once : promised.ExactlyOnce (peers_of sessions) k events after printed) → RelaysMayConclude k once.entries after
+  OfAllEvents = (k : Setup) (events : List Event) (after : Scene sessions) (printed : List ℕ) → IsInLine k.host
+      → (once : promised.ExactlyOnce (peers_of sessions) k events after printed) → RelaysMayConclude k once.entries after
 
 -- of a script's lines that were played
 abbrev pub OfScripts : Type 0
-OfScripts = (k : Setup) (count : ℕ) (after : Scene imap_sessions) (printed : List ℕ) → IsInLine k.host → (once : DeliversOnce k count after printed) → RelaysMayConclude imap_sessions k (entries_of once.parts) after
+OfScripts = (k : Setup) (count : ℕ) (after : Scene imap_sessions) (printed : List ℕ) → IsInLine k.host
+    → (once : DeliversOnce k count after printed) → RelaysMayConclude imap_sessions k (entries_of once.parts) after
 
 -- the name of a house that has settings has no LF
 abbrev pub SettingsAreInLine : Type 0

@@ -55,7 +55,8 @@ abbrev pub AreAnswered : ℕ → Turn → Type 0
 AreAnswered recipients turn =
     ((turn.replies ≡ []) × (turn.standing.phase ≡ Waiting recipients)) ⊎ ((length turn.replies ≡ recipients) × (turn.standing.phase ≡ Ready))
 
--- A line of data has no reply; the dot that ends it is answered for each recipient, also where memory was refused to the text; and each verdict has one reply.
+-- A line of data has no reply; the dot that ends it is answered for each recipient,
+-- also where memory was refused to the text; and each verdict has one reply.
 abbrev pub DataHasItsReplies : Type 0
 DataHasItsReplies = (setting : Setting) (directory : Directory) (sender mailboxes : List ℕ) (lines : List (List ℕ)) (submitted : ℕ)
     → ((line : List ℕ) → is_dot line ≡ false → (on_line setting directory (Data sender mailboxes lines) submitted line).replies ≡ [])

@@ -32,7 +32,8 @@ use Rattle.laws_relay.specs.Fates.{Names}
 use Rattle.laws_relay.specs.Handed.{Handed, handed_over, is_taken}
 use Rattle.laws_relay.specs.ReplyLaws.{IsInLine}
 
--- The copy for the i-th recipient of this message, which has this key, is in the history that all threads share: stored in the mailbox that the i-th accepted RCPT line names, with the text
+-- The copy for the i-th recipient of this message, which has this key, is in the history that all
+-- threads share: stored in the mailbox that the i-th accepted RCPT line names, with the text
 -- that came, under one UID, once, and in no other mailbox.
 pub record StandsInHistory (directory : Directory) (history : List Event) (key : CopyKey) (message : Handed) (i : ℕ) : Type 0 where
   pub copy : Job
@@ -43,7 +44,8 @@ pub record StandsInHistory (directory : Directory) (history : List Event) (key :
   pub stands : Stands history copy uid
   pub once : StandsAlone history copy uid
 
--- This copy is the one for a recipient of a message that the relay handed over: in the mailbox which that RCPT line names, with the text that was sent. And of its reply
+-- This copy is the one for a recipient of a message that the relay handed over: in the
+-- mailbox which that RCPT line names, with the text that was sent. And of its reply
 -- the relay knows that it is 250, or it hasn't read it.
 pub record WasHandedOver (directory : Directory) (number : ℕ → Option ℕ) (known whole : List Handed) (copy : Job) : Type 0 where
   pub k : ℕ
@@ -52,9 +54,11 @@ pub record WasHandedOver (directory : Directory) (number : ℕ → Option ℕ) (
   pub text : IsTextOf (message_at whole k) copy.text
   pub read : (is_taken (message_at known k) copy.key.recipient ≡ true) ⊎ (length (message_at known k).replies ≤ copy.key.recipient)
 
--- What a relay may conclude of the messages that it handed over on the connection with this seat and serial: `known`, by what it was told so far; `whole`, by all that was said there.
+-- What a relay may conclude of the messages that it handed over on the connection with this seat
+-- and serial: `known`, by what it was told so far; `whole`, by all that was said there.
 pub record ServedConcludes (directory : Directory) (seat serial : ℕ) (history : List Event) (known whole : List Handed) : Type 0 where
-  -- The server numbered the messages that were submitted, in their order: this is the number of the k-th that was handed over, if it was not refused as a whole. It is part of the keys of its copies.
+  -- The server numbered the messages that were submitted, in their order: this is the number of the k-th
+  -- that was handed over, if it was not refused as a whole. It is part of the keys of its copies.
   pub number : ℕ → Option ℕ
   pub rises : (k m a b : ℕ) → k < m → number k ≡ Some a → number m ≡ Some b → a < b
   -- a recipient whose reply is 250 has its copy in the history
@@ -66,21 +70,26 @@ pub record ServedConcludes (directory : Directory) (seat serial : ℕ) (history 
   -- different recipients, also of one message, have different copies
   pub different : (k m a b i j : ℕ) → number k ≡ Some a → number m ≡ Some b → key_at seat serial a i ≡ key_at seat serial b j → (k ≡ m) × (i ≡ j)
   -- nothing else stands of this connection
-  pub nothing_else : (copy : Job) (uid : ℕ) → Stands history copy uid → copy.key.seat ≡ seat → copy.key.serial ≡ serial → WasHandedOver directory number known whole copy
+  pub nothing_else : (copy : Job) (uid : ℕ) → Stands history copy uid → copy.key.seat ≡ seat → copy.key.serial ≡ serial
+      → WasHandedOver directory number known whole copy
   -- in each mailbox the copies of this worker stand in the order in which they were sent: by connection, by message, by recipient
   pub in_order : (mailbox : ℕ) → AllPairs Below (keys_of_seat seat (accepted_in mailbox history))
 
 -- ---- a connection, at any moment between two messages
 
--- Of this connection just those copies stand of which Stored is told here: the very copies, in their mailboxes, under these UIDs; and each verdict that there is on one of its copies is told.
+-- Of this connection just those copies stand of which Stored is told here: the very copies, in their
+-- mailboxes, under these UIDs; and each verdict that there is on one of its copies is told.
 pub record ConnectionStands (seat serial : ℕ) (history : List Event) (told : List (Job × Verdict)) : Type 0 where
   pub stood : HaveStood history told
-  pub all : (copy : Job) (verdict : Verdict) → copy.key.seat ≡ seat → copy.key.serial ≡ serial → WasJudged history copy verdict → Contains told (copy, verdict)
+  pub all : (copy : Job) (verdict : Verdict) → copy.key.seat ≡ seat → copy.key.serial ≡ serial → WasJudged history copy verdict
+      → Contains told (copy, verdict)
 
--- A connection of a worker that closes no shard has taken these bytes and said these replies, and of its copies just those stand of which Stored was told. A relay that sent these bytes, and
+-- A connection of a worker that closes no shard has taken these bytes and said these replies, and of
+-- its copies just those stand of which Stored was told. A relay that sent these bytes, and
 -- perhaps more behind them, was told any front of the replies: it may conclude.
 abbrev pub ServedRelaysConclude : Type 0
-ServedRelaysConclude = (house : Premises) (seat serial : ℕ) (bytes : List ℕ) (said : List Reply) (judged : List Judged) (at : Conversation) (history : List Event)
+ServedRelaysConclude =
+    (house : Premises) (seat serial : ℕ) (bytes : List ℕ) (said : List Reply) (judged : List Judged) (at : Conversation) (history : List Event)
     → IsInLine house.host → closings_of house seat ≡ []
     → HasTaken (setting_at house seat serial) house.directory bytes said judged at
     → Legal history → ConnectionStands seat serial history (told judged)
@@ -90,12 +99,14 @@ ServedRelaysConclude = (house : Premises) (seat serial : ℕ) (bytes : List ℕ)
 -- ---- all connections of a worker
 
 -- the bytes that came on the connection with this serial number, and the replies that were said; none where nothing was said
-abbrev pub bytes_on : {house : Premises} {seat connections : ℕ} {spoken : List Spoken} {judged : List Judged} → HaveConversed house seat connections spoken judged → ℕ → List ℕ
+abbrev pub bytes_on : {house : Premises} {seat connections : ℕ} {spoken : List Spoken} {judged : List Judged}
+    → HaveConversed house seat connections spoken judged → ℕ → List ℕ
 bytes_on none serial = []
 bytes_on (passed {n} before) serial = if serial == n then [] else bytes_on before serial
 bytes_on (next {n} bytes replies more at dropped written failed before taken are) serial = if serial == n then bytes else bytes_on before serial
 
-abbrev pub replies_on : {house : Premises} {seat connections : ℕ} {spoken : List Spoken} {judged : List Judged} → HaveConversed house seat connections spoken judged → ℕ → List Reply
+abbrev pub replies_on : {house : Premises} {seat connections : ℕ} {spoken : List Spoken} {judged : List Judged}
+    → HaveConversed house seat connections spoken judged → ℕ → List Reply
 replies_on none serial = []
 replies_on (passed {n} before) serial = if serial == n then [] else replies_on before serial
 replies_on (next {n} bytes replies more at dropped written failed before taken are) serial = if serial == n then replies else replies_on before serial
@@ -104,7 +115,8 @@ pub record WorkerConcludes (house : Premises) (seat : ℕ) (history : List Event
     (conversed : HaveConversed house seat connections spoken judged) : Type 0 where
   -- Of each connection: a relay that sent what came there, and perhaps more behind it, was told any front of the replies.
   pub each : (serial : ℕ) → serial < connections → (more front untold : List ℕ) → front ++ untold ≡ wire house.host (replies_on conversed serial)
-      → ServedConcludes house.directory seat serial history (handed_over (bytes_on conversed serial ++ more) front) (handed_over (bytes_on conversed serial ++ more) (wire house.host (replies_on conversed serial)))
+      → ServedConcludes house.directory seat serial history (handed_over (bytes_on conversed serial ++ more) front)
+      (handed_over (bytes_on conversed serial ++ more) (wire house.host (replies_on conversed serial)))
   -- whatever stands of this worker is of one of these connections
   pub nothing_else : (copy : Job) (uid : ℕ) → Stands history copy uid → copy.key.seat ≡ seat → copy.key.serial < connections
 
@@ -122,29 +134,36 @@ ServersConclude = (config : Config) (finished : Finished) (left : HasLeft config
 
 -- ---- what clients append
 
--- Of a berth, whose clients appended these messages, of which these verdicts were told: just those stand of which Stored was told. They are the very messages, in the mailboxes that were named, with
--- their texts and flags, each once, under the UID that was told, and in no other mailbox; and in each mailbox they stand in the order in which they were appended.
+-- Of a berth, whose clients appended these messages, of which these verdicts were told: just those stand
+-- of which Stored was told. They are the very messages, in the mailboxes that were named, with
+-- their texts and flags, each once, under the UID that was told, and in no other
+-- mailbox; and in each mailbox they stand in the order in which they were appended.
 pub record BerthConcludes (seat : ℕ) (history : List Event) (copies : List (Job × Verdict)) : Type 0 where
   pub stand : StandAsTold seat history copies
   pub once : All (λ (one : Job × Verdict). (uid : ℕ) → one.1 ≡ Stored uid → StandsAlone history one.0 uid) copies
   pub in_order : (mailbox : ℕ) → AllPairs Below (keys_of_seat seat (accepted_in mailbox history))
 
--- So it is of each berth of a server that stopped in order, and of the very messages that the server hands out as appended there: they are what was put on its lanes, and the verdicts are what
+-- So it is of each berth of a server that stopped in order, and of the very messages that the server
+-- hands out as appended there: they are what was put on its lanes, and the verdicts are what
 -- came on its reply channel (`HasServedClients`).
 abbrev pub BerthsConclude : Type 0
 BerthsConclude = (config : Config) (finished : Finished) (left : HasLeft config finished) → IsInRange config
-    → (n : ℕ) (berth : config.workers ≤ n) (under : n < length finished.channels.items) → BerthConcludes n finished.front (left.clients n berth under).served.0
+    → (n : ℕ) (berth : config.workers ≤ n) (under : n < length finished.channels.items)
+    → BerthConcludes n finished.front (left.clients n berth under).served.0
 
 -- ---- a line that tells what came and what was said
 
--- These replies are what was said to these bytes in a conversation on the connection with this seat and serial, which stands in this phase then; or nothing was said there.
+-- These replies are what was said to these bytes in a conversation on the connection with
+-- this seat and serial, which stands in this phase then; or nothing was said there.
 pub data AreReplies (house : Premises) (seat serial : ℕ) : (bytes : List ℕ) → List Reply → Phase → Type 0 where
   nothing_said : AreReplies house seat serial [] [] Start
   replied : {bytes : List ℕ} {replies : List Reply} (judged : List Judged) (at : Conversation)
       → HasTaken (setting_at house seat serial) house.directory bytes replies judged at → AreReplies house seat serial bytes replies at.standing.phase
 
--- The connection with this serial, whose peer sends this, and to which that was written, whose output failed or didn't: what was written is the replies to the bytes that were taken of it,
--- and perhaps at last that the server shuts down; and where the output failed, a beginning. By any beginning of the replies that it has read the peer may conclude.
+-- The connection with this serial, whose peer sends this, and to which that was written, whose output
+-- failed or didn't: what was written is the replies to the bytes that were taken of it,
+-- and perhaps at last that the server shuts down; and where the output failed, a
+-- beginning. By any beginning of the replies that it has read the peer may conclude.
 pub record ConnectionConcludes (house : Premises) (seat serial : ℕ) (history : List Event) (came said : List ℕ) (failed : Bool) : Type 0 where
   pub taken : List ℕ
   pub replies : List Reply
@@ -159,11 +178,13 @@ pub record ConnectionConcludes (house : Premises) (seat serial : ℕ) (history :
 pub record LineConcludes (house : Premises) (seat : ℕ) (history : List Event) (came : List (List ℕ)) (said : List (List ℕ × Bool)) : Type 0 where
   pub as_many : length came ≡ length said
   pub each : (serial : ℕ) → serial < length said
-      → ConnectionConcludes house seat serial history (slice_index_or came serial []) (slice_index_or said serial ([], false)).0 (slice_index_or said serial ([], false)).1
+      → ConnectionConcludes house seat serial history (slice_index_or came serial []) (slice_index_or said serial ([], false)).0
+      (slice_index_or said serial ([], false)).1
   pub nothing_else : (copy : Job) (uid : ℕ) → Stands history copy uid → copy.key.seat ≡ seat → copy.key.serial < length said
 
 -- So it is of the line of each worker of a server that stopped in order, where the line tells what came and what was said.
 abbrev pub LinesConclude : Type 0
 LinesConclude = (config : Config) (finished : Finished) (left : HasLeft config finished) → IsInRange config → config_fault config ≡ None
-    → (n : ℕ) → n < config.workers → (came : List (List ℕ)) (said : List (List ℕ × Bool)) → slice_get finished.lines n ≡ Some (Some (record { came = Some came; said = Some said }))
+    → (n : ℕ) → n < config.workers → (came : List (List ℕ)) (said : List (List ℕ × Bool))
+    → slice_get finished.lines n ≡ Some (Some (record { came = Some came; said = Some said }))
     → LineConcludes left.house n finished.front came said

@@ -22,7 +22,8 @@ IsStill w v = (v.lane ≡ w.lane) × (v.heard ≡ w.heard)
 module _ (sessions : Sessions) where
   -- Sessions put copies by their seats alone: what they ask of mailboxes changes no lane, and nothing that was heard.
   pub record AreStill : Type 0 where
-    pub meets : (k : Config) (place : ℕ) (w : World) (call : sessions.guest.Call) (answer : sessions.guest.Answer) (v : World) → sessions.Meets k place w call answer v → IsStill w v
+    pub meets : (k : Config) (place : ℕ) (w : World) (call : sessions.guest.Call) (answer : sessions.guest.Answer) (v : World)
+        → sessions.Meets k place w call answer v → IsStill w v
     pub answers : (k : Config) (place : ℕ) (at next : sessions.guest.At) (waits still said : List ℕ) (w v : World)
         → sessions.guest.Answers (sessions.Meets k place) at waits w v next still said → IsStill w v
     pub hears : (k : Config) (place : ℕ) (at next : sessions.guest.At) (verdict : Verdict) (how : sessions.guest.After) (said : List ℕ) (w v : World)
