@@ -12,7 +12,7 @@ use change_ring::NO_FLAGS;
 use delivery_token::{Text, Verdict};
 use house_history::{Naming, Opened};
 use imap_session::{Admission, After, Folder, Profile};
-use imap_stream::{Berth, Visit, VisitFault, Wakes, Woken};
+use imap_stream::{Berth, Parting, Visit, VisitFault, Wakes, Woken};
 use line_io::Watched;
 use mailbox::Limits;
 use std::alloc::{AllocError, Global};
@@ -192,7 +192,7 @@ pub(crate) fn open<'x, B: Naming, R: Wait>(
     }
 }
 
-// Whether there was memory for the client, who was attended then.
+// How it ended that the client was attended; None where there was no memory for it.
 pub(crate) fn attend_one<'x, B: Naming, R: Wait, I: Read + Wakes, C: Courier>(
     rt: &'x R,
     alloc: Global,
@@ -201,22 +201,21 @@ pub(crate) fn attend_one<'x, B: Naming, R: Wait, I: Read + Wakes, C: Courier>(
     input: &mut I,
     size: usize,
     stop: &AtomicBool,
-) -> bool
+) -> Option<Parting>
     requires { C.ready courier.old }
 {
     let Ok(mut buffer) = vec![in alloc; 0; size] else {
-        return false;
+        return None;
     };
     let idles = AtomicBool::new(false);
     let berth = Berth {
         idles: &idles,
         stop,
     };
-    berth.attend(rt, alloc, &mut visit, courier, input, &mut buffer);
-    true
+    Some(berth.attend(rt, alloc, &mut visit, courier, input, &mut buffer))
 }
 
-// Whether the client was greeted, and then served until its stream or its output ended.
+// How it ended that the client was served; None where it couldn't be greeted.
 fn serve_over<'x, B: Naming, R: Wait, I: Read>(
     rt: &'x R,
     alloc: Global,
@@ -225,7 +224,7 @@ fn serve_over<'x, B: Naming, R: Wait, I: Read>(
     wire: Wire<'x, R>,
     input: &mut I,
     stop: &AtomicBool,
-) -> bool
+) -> Option<Parting>
     requires { wire.has_failed ≡ false }
 {
     match open(rt, alloc, house, tally, None, wire) {
@@ -241,12 +240,12 @@ fn serve_over<'x, B: Naming, R: Wait, I: Read>(
                 stop,
             )
         }
-        None => false,
+        None => None,
     }
 }
 
-// A client is served by one thread: what it was told, before its output failed after so many sends, and how many
-// events its session made.
+// A client is served by one thread: what it was told, before its output failed after so many sends, how many
+// events its session made, and how it ended.
 fn served_in<B: Naming, R: Wait, I: Read>(
     rt: &R,
     alloc: Global,
@@ -254,17 +253,18 @@ fn served_in<B: Naming, R: Wait, I: Read>(
     input: &mut I,
     stop: &AtomicBool,
     calls: usize,
-) -> Result<(Vec<u8>, u64), AllocError>
+) -> Result<(Vec<u8>, u64, Parting), AllocError>
     requires { history ≡ B.book }
 {
     let house = a_mailbox::<B, R>(rt, alloc, history, true)?;
     let tally = Tally::new();
     let bytes = Mutex::new(Vec::new(alloc));
     let wire = Wire::new(rt, &bytes, calls);
-    if !serve_over(rt, alloc, &house, &tally, wire, input, stop) {
+    let Some(parting) = serve_over(rt, alloc, &house, &tally, wire, input, stop) else {
         return Err(AllocError);
-    }
-    Ok((bytes.into_inner(), tally.asked.load(Ordering::SeqCst)))
+    };
+    let events = tally.asked.load(Ordering::SeqCst);
+    Ok((bytes.into_inner(), events, parting))
 }
 
 fn served<R: Wait, I: Read>(
@@ -273,7 +273,7 @@ fn served<R: Wait, I: Read>(
     input: &mut I,
     stop: &AtomicBool,
     calls: usize,
-) -> Result<(Vec<u8>, u64), AllocError> {
+) -> Result<(Vec<u8>, u64, Parting), AllocError> {
     served_in::<Brand, R, I>(rt, alloc, Opened::new(), input, stop, calls)
 }
 
@@ -281,7 +281,7 @@ fn served<R: Wait, I: Read>(
 fn a_client_reads_a_message(rt: HostRuntime) -> Result<(), AllocError> {
     let mut input = b"a1 SELECT INBOX\r\na2 FETCH 1 BODY.PEEK[]\r\na3 NO".as_slice();
     let stop = AtomicBool::new(false);
-    let (told, events) = served(&rt, rt.alloc(), &mut input, &stop, 9)?;
+    let (told, events, parting) = served(&rt, rt.alloc(), &mut input, &stop, 9)?;
     let wanted = b"* PREAUTH IMAP4rev2 server ready\r\n\
           * FLAGS (\\Answered \\Flagged \\Deleted \\Seen \\Draft)\r\n\
           * 1 EXISTS\r\n\
@@ -298,28 +298,32 @@ fn a_client_reads_a_message(rt: HostRuntime) -> Result<(), AllocError> {
     assert_eq!(rt; told.as_slice(), wanted.as_slice());
     // It entered the mailbox, read a message, and left.
     assert_eq!(rt; events, 3);
+    assert_eq!(rt; parting, Parting::Gone);
     Ok(())
 }
 
 #[test]
 fn a_stream_that_fails_ends_the_visit(rt: HostRuntime) -> Result<(), AllocError> {
     let stop = AtomicBool::new(false);
-    let (told, _events) = served(&rt, rt.alloc(), &mut Clumsy { reads: 0 }, &stop, 9)?;
+    let (told, _events, parting) = served(&rt, rt.alloc(), &mut Clumsy { reads: 0 }, &stop, 9)?;
     let wanted = b"* PREAUTH IMAP4rev2 server ready\r\na1 OK NOOP completed\r\n";
     assert_eq!(rt; told.as_slice(), wanted.as_slice());
+    assert_eq!(rt; parting, Parting::Broken);
     Ok(())
 }
 
 #[test]
 fn a_house_that_stops_dismisses_its_clients(rt: HostRuntime) -> Result<(), AllocError> {
     let stop = AtomicBool::new(false);
-    let (told, _events) = served(&rt, rt.alloc(), &mut Late { stop: &stop }, &stop, 9)?;
+    let (told, _events, parting) = served(&rt, rt.alloc(), &mut Late { stop: &stop }, &stop, 9)?;
     let wanted = b"* PREAUTH IMAP4rev2 server ready\r\n* BYE Shutting down\r\n";
     assert_eq!(rt; told.as_slice(), wanted.as_slice());
+    assert_eq!(rt; parting, Parting::Stopped);
     // So does one that comes too late.
     let mut input = b"a1 NOOP\r\n".as_slice();
-    let (told, _events) = served(&rt, rt.alloc(), &mut input, &stop, 9)?;
+    let (told, _events, parting) = served(&rt, rt.alloc(), &mut input, &stop, 9)?;
     assert_eq!(rt; told.as_slice(), wanted.as_slice());
+    assert_eq!(rt; parting, Parting::Stopped);
     Ok(())
 }
 
@@ -327,13 +331,14 @@ fn a_house_that_stops_dismisses_its_clients(rt: HostRuntime) -> Result<(), Alloc
 fn a_session_leaves_where_its_output_fails(rt: HostRuntime) -> Result<(), AllocError> {
     let stop = AtomicBool::new(false);
     let mut input = b"a1 SELECT INBOX\r\na2 NOOP\r\n".as_slice();
-    let (told, events) = served(&rt, rt.alloc(), &mut input, &stop, 1)?;
+    let (told, events, parting) = served(&rt, rt.alloc(), &mut input, &stop, 1)?;
     assert_eq!(rt;
         told.as_slice(),
         b"* PREAUTH IMAP4rev2 server ready\r\n".as_slice()
     );
     // It entered the mailbox, was shown what NOOP shows, and left.
     assert_eq!(rt; events, 3);
+    assert_eq!(rt; parting, Parting::Over);
     Ok(())
 }
 
@@ -369,8 +374,8 @@ fn idle_at<'x, B: Naming, R: Wait>(
         are_stored: true,
     };
     let mut courier = nobody(rt, house);
-    let is_done = attend_one(rt, alloc, visit, &mut courier, &mut idler, 64, &never);
-    is_done && idler.are_stored
+    let parting = attend_one(rt, alloc, visit, &mut courier, &mut idler, 64, &never);
+    parting.is_some() && idler.are_stored
 }
 
 // The same in a house that is opened for it.
@@ -638,7 +643,7 @@ fn memory_may_be_refused(rt: HostRuntime) {
           hi\r\n\
           )\r\n\
           a3 OK FETCH completed\r\n";
-    if let Ok((told, _events)) = served(&rt, rt.alloc(), &mut input, &stop, 9) {
+    if let Ok((told, _events, _parting)) = served(&rt, rt.alloc(), &mut input, &stop, 9) {
         assert!(rt; wanted.starts_with(told.as_slice()) || tells_of_memory(&told));
     }
 }

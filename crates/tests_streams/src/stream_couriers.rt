@@ -197,8 +197,12 @@ fn attend<'x, B: Naming, R: Wait>(
     let mut courier = TestCourier::new(rt, house, loses);
     let (mut input, never) = (bytes, AtomicBool::new(false));
     let mut input = Prompt { input: &mut input };
-    let is_done = attend_one(rt, alloc, visit, &mut courier, &mut input, 16, &never);
-    if is_done { Some(courier.asked) } else { None }
+    let parting = attend_one(rt, alloc, visit, &mut courier, &mut input, 16, &never);
+    if parting.is_some() {
+        Some(courier.asked)
+    } else {
+        None
+    }
 }
 
 // Whether a client that sends these bytes is told this, and that many messages are carried.
