@@ -8,8 +8,8 @@ use Rattle.imap_stream.specs.declared.berth.Parting.{Parting}
 use Rattle.imap_stream.specs.declared.berth.Parting.TheVariants.{Broken, Gone, Over, Stopped}
 use Rattle.imap_stream.specs.Visits.{Hears, HearsInPart, SendsAll, SendsFirst, ShowsAll, ShowsInPart, Tells, Visit, farewell, is_over, takes_bytes}
 
--- What a call does of a visit that isn't over: it hears this piece, as `hear`, or has a look, as `look`. It may stop within, and its output may fail; then the visit is over, but for
--- want of memory in a look.
+-- What a call does of a visit that isn't over: it hears this piece, as `hear`, or has a look, as `look`. It may stop within, and its output may fail;
+-- then the visit is over, but for want of memory in a look.
 pub data HasCalled (piece : List ℕ) (old new : Visit) : Type 0 where
   heard : (carried : List Carried) → Tells (Hears piece carried) SendsAll old new → new.closed ≡ old.closed → HasCalled piece old new
   heard_in_part : (why : Lost) → Tells (HearsInPart new.room piece why) SendsAll old new → new.closed ≡ true → HasCalled piece old new
@@ -23,7 +23,8 @@ pub data HasCalled (piece : List ℕ) (old new : Visit) : Type 0 where
 -- Calls of a visit, one after another, each while it isn't over. These are all the bytes that they heard, in order.
 pub data Calls (first : Visit) : List ℕ → Visit → Type 0 where
   no_call : Calls first [] first
-  one_more : (heard piece : List ℕ) (now next : Visit) → Calls first heard now → is_over now ≡ false → HasCalled piece now next → Calls first (heard ++ piece) next
+  one_more : (heard piece : List ℕ) (now next : Visit) → Calls first heard now → is_over now ≡ false → HasCalled piece now next
+      → Calls first (heard ++ piece) next
 
 -- The client was dismissed, unless its visit was over: it was told so, or the first bytes of that where its output failed. The visit is over.
 pub record IsDismissed (old new : Visit) : Type 0 where

@@ -182,7 +182,8 @@ impl Berth<'_> {
         unreachable!()
     }
 
-    // Shows the client what there is, where its session idles and its bell rings first; else reads once, and hears what came. How it ended, where it did.
+    // Shows the client what there is, where its session idles and its bell rings first; else reads once, and hears what came. How it ended,
+    // where it did.
     fn go_on<'v, B: Naming, R: Wait, G: Gate, W: Sink + Drop, I: Read + Wakes, C: Courier>(
         &self,
         rt: &R,
