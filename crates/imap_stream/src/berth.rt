@@ -51,7 +51,7 @@ pub enum Parting {
     Gone,
     /// A read failed, and not because it was interrupted.
     Broken,
-    /// The visit takes nothing more: its session has ended, its output failed, or memory was refused.
+    /// The visit takes nothing more: its session has ended, its output failed, memory was refused, or no verdict came on a message.
     Over,
     /// The house stops.
     Stopped,

@@ -1,4 +1,4 @@
-//! What a client's session is seen to do from without, for the log: that it idles, that it has lapsed, and how it ended. What it is answered
+//! What a client's session is seen to do from without, for the log: that it idles, and that it has lapsed. What it is answered
 //! stands in `imap_stream`.
 
 ghost use Rattle.std.specs.Prelude.{◌≡◌};
