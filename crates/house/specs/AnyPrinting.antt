@@ -23,11 +23,12 @@ marked_connection n said = marked of_connection n said
 abbrev pub marked_session : ℕ → List ℕ → List ℕ
 marked_session n said = marked of_session n said
 
--- What was to be printed is printed, all of it or nothing; what is still to be printed then is nothing, or all of it.
-pub data Prints (mark n : ℕ) (unsaid still printed : List ℕ) : Type 0 where
-  prints_all : still ≡ [] → printed ≡ marked mark n unsaid → Prints mark n unsaid still printed
-  -- a growth was refused, or nothing was tried
-  prints_none : still ≡ unsaid → printed ≡ [] → Prints mark n unsaid still printed
+module _ (mark n : ℕ) where
+  -- What was to be printed is printed, all of it or nothing; what is still to be printed then is nothing, or all of it.
+  pub data Prints (unsaid still printed : List ℕ) : Type 0 where
+    prints_all : still ≡ [] → printed ≡ marked mark n unsaid → Prints unsaid still printed
+    -- a growth was refused, or nothing was tried
+    prints_none : still ≡ unsaid → printed ≡ [] → Prints unsaid still printed
 
 module _ (speech : Speech) where
   -- Who stands at the seat after a turn: one whose dialogue ended and who has said all is gone, and what waited is dropped. One whose peer is gone
@@ -36,15 +37,16 @@ module _ (speech : Speech) where
     goes : what ≡ Quit → after.talk.unsaid ≡ [] → o ≡ None → Leaves whole what after o
     stays : (what ≡ Quit → whole ≡ true → ⊥) → (what ≡ Quit → after.gone ≡ true → ⊥) → o ≡ Some after → Leaves whole what after o
 
-  -- The connection at a seat does what it can now, and what it says is printed. `whole` says that memory wasn't wanting.
-  pub record ConnectionGoes (k : Terms) (whole : Bool) (seat : ℕ) (heard : List Noted) (b : Caller speech) (o : Option (Caller speech)) (printed : List ℕ) : Type 0 where
-    pub what : What
-    pub after : Caller speech
-    pub proceeds : Proceeds speech k whole seat heard b what after
-    pub still : List ℕ
-    pub prints : Prints of_connection (seat + 1) after.talk.unsaid still printed
-    pub all : whole ≡ true → still ≡ []
-    pub leaves : Leaves whole what (with_unsaid speech still after) o
+  module _ (k : Terms) (whole : Bool) (seat : ℕ) (heard : List Noted) where
+    -- The connection at a seat does what it can now, and what it says is printed. `whole` says that memory wasn't wanting.
+    pub record ConnectionGoes (b : Caller speech) (o : Option (Caller speech)) (printed : List ℕ) : Type 0 where
+      pub what : What
+      pub after : Caller speech
+      pub proceeds : Proceeds speech k whole seat heard b what after
+      pub still : List ℕ
+      pub prints : Prints of_connection (seat + 1) after.talk.unsaid still printed
+      pub all : whole ≡ true → still ≡ []
+      pub leaves : Leaves whole what (with_unsaid speech still after) o
 
 module _ (guest : Guest) where
   -- its session stands so
@@ -55,21 +57,23 @@ module _ (guest : Guest) where
   abbrev pub still_unsaid : List ℕ → SeatedVisitor guest → SeatedVisitor guest
   still_unsaid unsaid v = with_session (record { standing = v.session.standing; waits = v.session.waits; unsaid = unsaid }) v
 
-  -- The session at a seat, whose client is there, went on over a store as far as it could, by what its seat has heard, and this was printed.
-  pub record Speaks {S : Type 0} (step : S → guest.Call → guest.Answer → S → Type 0) (whole : Bool) (seat n : ℕ) (heard : List Noted) (before : SeatedVisitor guest) (old new : S) (after : SeatedVisitor guest) (printed : List ℕ) : Type 0 where
-    pub spoken : SeatedVisitor guest
-    pub said : List ℕ
-    pub goes : GoesOn guest step whole seat heard before old new spoken said
-    pub still : List ℕ
-    pub prints : Prints of_session n (before.session.unsaid ++ said) still printed
-    pub is : after ≡ still_unsaid still spoken
+  module _ {S : Type 0} (step : S → guest.Call → guest.Answer → S → Type 0) (whole : Bool) (seat n : ℕ) (heard : List Noted) (before : SeatedVisitor guest) where
+    -- The session at a seat, whose client is there, went on over a store as far as it could, by what its seat has heard, and this was printed.
+    pub record Speaks (old new : S) (after : SeatedVisitor guest) (printed : List ℕ) : Type 0 where
+      pub spoken : SeatedVisitor guest
+      pub said : List ℕ
+      pub goes : GoesOn guest step whole seat heard before old new spoken said
+      pub still : List ℕ
+      pub prints : Prints of_session n (before.session.unsaid ++ said) still printed
+      pub is : after ≡ still_unsaid still spoken
 
-  -- its session had a turn while it idles, which showed so many changes, and this was printed
-  pub record Idles {S : Type 0} (step : S → guest.Call → guest.Answer → S → Type 0) (n : ℕ) (before : Visitor guest) (old new : S) (after : Visitor guest) (count : ℕ) (printed : List ℕ) : Type 0 where
-    pub said : List ℕ
-    pub turned : guest.Idles step before.standing old new count said after.standing
-    pub waits : after.waits ≡ before.waits
-    pub prints : Prints of_session n (before.unsaid ++ said) after.unsaid printed
+  module _ {S : Type 0} (step : S → guest.Call → guest.Answer → S → Type 0) (n : ℕ) (before : Visitor guest) (old : S) where
+    -- its session had a turn while it idles, which showed so many changes, and this was printed
+    pub record Idles (new : S) (after : Visitor guest) (count : ℕ) (printed : List ℕ) : Type 0 where
+      pub said : List ℕ
+      pub turned : guest.Idles step before.standing old new count said after.standing
+      pub waits : after.waits ≡ before.waits
+      pub prints : Prints of_session n (before.unsaid ++ said) after.unsaid printed
 
   -- all that was said is printed, and nothing waits that may be answered
   pub record IsWhole (v : Visitor guest) : Type 0 where

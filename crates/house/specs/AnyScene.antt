@@ -62,46 +62,48 @@ module _ (peers : Peers) where
 
   -- ---- connections
 
-  -- bytes came from the peer of a connection
-  pub data BytesPlay (k : Setup) (whole : Bool) (s : Scene) (seat : ℕ) (piece : List ℕ) (t : Scene) (printed : List ℕ) : Type 0 where
-    -- nobody stands there: a connection is opened first, with the seat's next serial
-    opens : seat < k.connections → s.caller seat ≡ None → s.next seat < most_serials → (o : Option (Caller peers.speech))
-        → ConnectionGoes peers.speech (terms_of k s.shut) whole seat (s.world.heard seat) (more_waits peers.speech (greeted peers.speech (terms_of k s.shut) seat (s.next seat)) piece) o printed
-        → t ≡ record s { caller = set_at s.caller seat o; next = set_at s.next seat (s.next seat + 1) } → BytesPlay k whole s seat piece t printed
-    goes_on : (b : Caller peers.speech) → s.caller seat ≡ Some b → b.gone ≡ false → (o : Option (Caller peers.speech))
-        → ConnectionGoes peers.speech (terms_of k s.shut) whole seat (s.world.heard seat) (more_waits peers.speech b piece) o printed → t ≡ with_caller s seat o → BytesPlay k whole s seat piece t printed
+  -- In a house with these settings, from this scene on. `whole` says that memory wasn't wanting.
+  module _ (k : Setup) (whole : Bool) (s : Scene) where
+    -- bytes came from the peer of a connection
+    pub data BytesPlay (seat : ℕ) (piece : List ℕ) (t : Scene) (printed : List ℕ) : Type 0 where
+      -- nobody stands there: a connection is opened first, with the seat's next serial
+      opens : seat < k.connections → s.caller seat ≡ None → s.next seat < most_serials → (o : Option (Caller peers.speech))
+          → ConnectionGoes peers.speech (terms_of k s.shut) whole seat (s.world.heard seat) (more_waits peers.speech (greeted peers.speech (terms_of k s.shut) seat (s.next seat)) piece) o printed
+          → t ≡ record s { caller = set_at s.caller seat o; next = set_at s.next seat (s.next seat + 1) } → BytesPlay seat piece t printed
+      goes_on : (b : Caller peers.speech) → s.caller seat ≡ Some b → b.gone ≡ false → (o : Option (Caller peers.speech))
+          → ConnectionGoes peers.speech (terms_of k s.shut) whole seat (s.world.heard seat) (more_waits peers.speech b piece) o printed → t ≡ with_caller s seat o → BytesPlay seat piece t printed
 
-  -- the next copy of the message at hand is put
-  pub record ConnectionPuts (k : Setup) (whole : Bool) (s : Scene) (seat : ℕ) (t : Scene) (printed : List ℕ) : Type 0 where
-    pub caller : Caller peers.speech
-    pub there : s.caller seat ≡ Some caller
-    pub copy : Job
-    pub others : List Job
-    pub front : caller.to_put ≡ copy ∷ others
-    pub moved : World
-    pub step : Step k.config s.world (world.Put seat (world.shard_of k.config copy.mailbox) copy) moved
-    pub left : Option (Caller peers.speech)
-    pub goes : ConnectionGoes peers.speech (terms_of k s.shut) whole seat (moved.heard seat) (record { serial = caller.serial; gone = caller.gone; talk = caller.talk; to_put = others }) left printed
-    pub after : t ≡ with_caller (with_world s moved) seat left
+    -- the next copy of the message at hand is put
+    pub record ConnectionPuts (seat : ℕ) (t : Scene) (printed : List ℕ) : Type 0 where
+      pub caller : Caller peers.speech
+      pub there : s.caller seat ≡ Some caller
+      pub copy : Job
+      pub others : List Job
+      pub front : caller.to_put ≡ copy ∷ others
+      pub moved : World
+      pub step : Step k.config s.world (world.Put seat (world.shard_of k.config copy.mailbox) copy) moved
+      pub left : Option (Caller peers.speech)
+      pub goes : ConnectionGoes peers.speech (terms_of k s.shut) whole seat (moved.heard seat) (record { serial = caller.serial; gone = caller.gone; talk = caller.talk; to_put = others }) left printed
+      pub after : t ≡ with_caller (with_world s moved) seat left
 
-  -- its seat hears a verdict
-  pub record ConnectionHears (k : Setup) (whole : Bool) (s : Scene) (seat : ℕ) (t : Scene) (printed : List ℕ) : Type 0 where
-    pub caller : Caller peers.speech
-    pub there : s.caller seat ≡ Some caller
-    pub moved : World
-    pub step : Step k.config s.world (world.Hear seat) moved
-    pub left : Option (Caller peers.speech)
-    pub goes : ConnectionGoes peers.speech (terms_of k s.shut) whole seat (moved.heard seat) caller left printed
-    pub after : t ≡ with_caller (with_world s moved) seat left
+    -- its seat hears a verdict
+    pub record ConnectionHears (seat : ℕ) (t : Scene) (printed : List ℕ) : Type 0 where
+      pub caller : Caller peers.speech
+      pub there : s.caller seat ≡ Some caller
+      pub moved : World
+      pub step : Step k.config s.world (world.Hear seat) moved
+      pub left : Option (Caller peers.speech)
+      pub goes : ConnectionGoes peers.speech (terms_of k s.shut) whole seat (moved.heard seat) caller left printed
+      pub after : t ≡ with_caller (with_world s moved) seat left
 
-  -- the peer of a connection is gone
-  pub record VanishPlay (k : Setup) (whole : Bool) (s : Scene) (seat : ℕ) (t : Scene) (printed : List ℕ) : Type 0 where
-    pub caller : Caller peers.speech
-    pub there : s.caller seat ≡ Some caller
-    pub was_read : caller.gone ≡ false
-    pub left : Option (Caller peers.speech)
-    pub goes : ConnectionGoes peers.speech (terms_of k s.shut) whole seat (s.world.heard seat) (unread peers.speech caller) left printed
-    pub after : t ≡ with_caller s seat left
+    -- the peer of a connection is gone
+    pub record VanishPlay (seat : ℕ) (t : Scene) (printed : List ℕ) : Type 0 where
+      pub caller : Caller peers.speech
+      pub there : s.caller seat ≡ Some caller
+      pub was_read : caller.gone ≡ false
+      pub left : Option (Caller peers.speech)
+      pub goes : ConnectionGoes peers.speech (terms_of k s.shut) whole seat (s.world.heard seat) (unread peers.speech caller) left printed
+      pub after : t ≡ with_caller s seat left
 
   -- ---- sessions
 
@@ -109,164 +111,176 @@ module _ (peers : Peers) where
   abbrev pub LeavesMailbox : Setup → (place : ℕ) → World → World → Type 0
   LeavesMailbox k place w v = (answer : peers.guest.Answer) × peers.Meets k.config place w peers.guest.leave answer v
 
-  -- who is at the place after a turn: one whose session has ended and who has said all is gone, and what waited is dropped
-  pub data Parts (k : Setup) (whole : Bool) (place : ℕ) (after : SeatedVisitor peers.guest) (w v : World) (o : Option (SeatedVisitor peers.guest)) : Type 0 where
-    parts : peers.guest.ended after.session.standing ≡ true → after.session.unsaid ≡ [] → LeavesMailbox k place w v → o ≡ None → Parts k whole place after w v o
-    remains : (whole ≡ true → peers.guest.ended after.session.standing ≡ true → ⊥) → v ≡ w → o ≡ Some after → Parts k whole place after w v o
+  -- The session at this place.
+  module _ (k : Setup) (whole : Bool) (place : ℕ) where
+    -- who is at the place after a turn: one whose session has ended and who has said all is gone, and what waited is dropped
+    pub data Parts (after : SeatedVisitor peers.guest) (w v : World) (o : Option (SeatedVisitor peers.guest)) : Type 0 where
+      parts : peers.guest.ended after.session.standing ≡ true → after.session.unsaid ≡ [] → LeavesMailbox k place w v → o ≡ None → Parts after w v o
+      remains : (whole ≡ true → peers.guest.ended after.session.standing ≡ true → ⊥) → v ≡ w → o ≡ Some after → Parts after w v o
 
-  -- The session at a place, whose client is there, does what it can now, by the mailboxes of the world and by what its seat has heard, and this is printed.
-  -- `whole` says that memory wasn't wanting.
-  pub record SessionTalks (k : Setup) (whole : Bool) (place : ℕ) (heard : List Noted) (w : World) (before : SeatedVisitor peers.guest) (v : World) (o : Option (SeatedVisitor peers.guest)) (printed : List ℕ) : Type 0 where
-    pub after : SeatedVisitor peers.guest
-    pub mid : World
-    pub speaks : Speaks peers.guest (peers.Meets k.config place) whole (session_seat k place) (place + 1) heard before w mid after printed
-    pub all : whole ≡ true → IsWhole peers.guest after.session
-    pub left : Parts k whole place after mid v o
+  -- The session at this place, which was so, in this world, by what its seat has heard.
+  module _ (k : Setup) (whole : Bool) (place : ℕ) (heard : List Noted) (w : World) (before : SeatedVisitor peers.guest) where
+    -- The session at a place, whose client is there, does what it can now, by the mailboxes of the world and by what its seat has heard, and this is printed.
+    -- `whole` says that memory wasn't wanting.
+    pub record SessionTalks (v : World) (o : Option (SeatedVisitor peers.guest)) (printed : List ℕ) : Type 0 where
+      pub after : SeatedVisitor peers.guest
+      pub mid : World
+      pub speaks : Speaks peers.guest (peers.Meets k.config place) whole (session_seat k place) (place + 1) heard before w mid after printed
+      pub all : whole ≡ true → IsWhole peers.guest after.session
+      pub left : Parts k whole place after mid v o
 
   -- One whose client is gone says nothing: it stays for the verdict that it awaits, and is gone as soon as its seat has heard that.
   pub data Lingers (seat : ℕ) (heard : List Noted) (v : SeatedVisitor peers.guest) (o : Option (SeatedVisitor peers.guest)) : Type 0 where
     waits : Awaits peers.guest seat heard v → o ≡ Some v → Lingers seat heard v o
     fades : IsSettled peers.guest seat heard v → o ≡ None → Lingers seat heard v o
 
-  -- the session at a place does what it can now, whether its client is there or not
-  pub data SessionGoes (k : Setup) (whole : Bool) (place : ℕ) (heard : List Noted) (w : World) (before : SeatedVisitor peers.guest) (v : World) (o : Option (SeatedVisitor peers.guest)) (printed : List ℕ) : Type 0 where
-    talks : before.gone ≡ false → SessionTalks k whole place heard w before v o printed → SessionGoes k whole place heard w before v o printed
-    lingers : before.gone ≡ true → Lingers (session_seat k place) heard before o → v ≡ w → printed ≡ [] → SessionGoes k whole place heard w before v o printed
+  module _ (k : Setup) (whole : Bool) (place : ℕ) (heard : List Noted) (w : World) (before : SeatedVisitor peers.guest) where
+    -- the session at a place does what it can now, whether its client is there or not
+    pub data SessionGoes (v : World) (o : Option (SeatedVisitor peers.guest)) (printed : List ℕ) : Type 0 where
+      talks : before.gone ≡ false → SessionTalks k whole place heard w before v o printed → SessionGoes v o printed
+      lingers : before.gone ≡ true → Lingers (session_seat k place) heard before o → v ≡ w → printed ≡ [] → SessionGoes v o printed
 
-  -- The session at a place idles and has a turn, by the mailboxes of the world: it is shown one change at least, or it ends. This is printed.
-  pub record SessionIdles (k : Setup) (whole : Bool) (place : ℕ) (w : World) (before : SeatedVisitor peers.guest) (v : World) (o : Option (SeatedVisitor peers.guest)) (printed : List ℕ) : Type 0 where
-    pub is_read : before.gone ≡ false
-    pub idling : peers.guest.idling before.session.standing ≡ true
-    pub after : Visitor peers.guest
-    pub mid : World
-    pub shown : ℕ
-    pub idles : Idles peers.guest (peers.Meets k.config place) (place + 1) before.session w mid after shown printed
-    pub something : (0 < shown) ⊎ (peers.guest.ended after.standing ≡ true)
-    pub all : whole ≡ true → after.unsaid ≡ []
-    pub left : Parts k whole place (with_session peers.guest after before) mid v o
+  module _ (k : Setup) (whole : Bool) (place : ℕ) (w : World) (before : SeatedVisitor peers.guest) where
+    -- The session at a place idles and has a turn, by the mailboxes of the world: it is shown one change at least, or it ends. This is printed.
+    pub record SessionIdles (v : World) (o : Option (SeatedVisitor peers.guest)) (printed : List ℕ) : Type 0 where
+      pub is_read : before.gone ≡ false
+      pub idling : peers.guest.idling before.session.standing ≡ true
+      pub after : Visitor peers.guest
+      pub mid : World
+      pub shown : ℕ
+      pub idles : Idles peers.guest (peers.Meets k.config place) (place + 1) before.session w mid after shown printed
+      pub something : (0 < shown) ⊎ (peers.guest.ended after.standing ≡ true)
+      pub all : whole ≡ true → after.unsaid ≡ []
+      pub left : Parts k whole place (with_session peers.guest after before) mid v o
 
   -- how a user's session comes in
   abbrev pub comes_in : Setup → (user : List ℕ) → peers.guest.Coming
   comes_in k user = peers.guest.comes k.directory k.compatible k.max_message user
 
-  -- A user opens a session, which is greeted. Its copies have the serial that is next there.
-  pub record EnterPlay (k : Setup) (whole : Bool) (s : Scene) (place : ℕ) (user : List ℕ) (t : Scene) (printed : List ℕ) : Type 0 where
-    pub there : place < k.config.sessions
-    pub free : s.visitor place ≡ None
-    pub known : has_user k.directory user ≡ true
-    pub more : s.entered place < most_serials
-    pub moved : World
-    pub left : Option (SeatedVisitor peers.guest)
-    pub goes : SessionTalks k whole place (s.world.heard (session_seat k place)) s.world (seated_greeted peers.guest (s.entered place) (comes_in k user)) moved left printed
-    pub after : t ≡ record s { world = moved; visitor = set_at s.visitor place left; entered = set_at s.entered place (s.entered place + 1) }
+  module _ (k : Setup) (whole : Bool) (s : Scene) where
+    -- A user opens a session, which is greeted. Its copies have the serial that is next there.
+    pub record EnterPlay (place : ℕ) (user : List ℕ) (t : Scene) (printed : List ℕ) : Type 0 where
+      pub there : place < k.config.sessions
+      pub free : s.visitor place ≡ None
+      pub known : has_user k.directory user ≡ true
+      pub more : s.entered place < most_serials
+      pub moved : World
+      pub left : Option (SeatedVisitor peers.guest)
+      pub goes : SessionTalks k whole place (s.world.heard (session_seat k place)) s.world (seated_greeted peers.guest (s.entered place) (comes_in k user)) moved left printed
+      pub after : t ≡ record s { world = moved; visitor = set_at s.visitor place left; entered = set_at s.entered place (s.entered place + 1) }
 
-  -- bytes came from a session's client: where it awaits a verdict they only wait
-  pub record SayPlay (k : Setup) (whole : Bool) (s : Scene) (place : ℕ) (piece : List ℕ) (t : Scene) (printed : List ℕ) : Type 0 where
-    pub visitor : SeatedVisitor peers.guest
-    pub there : s.visitor place ≡ Some visitor
-    pub is_read : visitor.gone ≡ false
-    pub moved : World
-    pub left : Option (SeatedVisitor peers.guest)
-    pub goes : SessionTalks k whole place (s.world.heard (session_seat k place)) s.world (with_session peers.guest (session_more_waits peers.guest visitor.session piece) visitor) moved left printed
-    pub after : t ≡ with_visitor (with_world s moved) place left
+    -- bytes came from a session's client: where it awaits a verdict they only wait
+    pub record SayPlay (place : ℕ) (piece : List ℕ) (t : Scene) (printed : List ℕ) : Type 0 where
+      pub visitor : SeatedVisitor peers.guest
+      pub there : s.visitor place ≡ Some visitor
+      pub is_read : visitor.gone ≡ false
+      pub moved : World
+      pub left : Option (SeatedVisitor peers.guest)
+      pub goes : SessionTalks k whole place (s.world.heard (session_seat k place)) s.world (with_session peers.guest (session_more_waits peers.guest visitor.session piece) visitor) moved left printed
+      pub after : t ≡ with_visitor (with_world s moved) place left
 
-  -- A session that idles is shown what is pending. Where nothing is, there is no such play.
-  pub record IdlePlay (k : Setup) (whole : Bool) (s : Scene) (place : ℕ) (t : Scene) (printed : List ℕ) : Type 0 where
-    pub visitor : SeatedVisitor peers.guest
-    pub there : s.visitor place ≡ Some visitor
-    pub moved : World
-    pub left : Option (SeatedVisitor peers.guest)
-    pub goes : SessionIdles k whole place s.world visitor moved left printed
-    pub after : t ≡ with_visitor (with_world s moved) place left
+    -- A session that idles is shown what is pending. Where nothing is, there is no such play.
+    pub record IdlePlay (place : ℕ) (t : Scene) (printed : List ℕ) : Type 0 where
+      pub visitor : SeatedVisitor peers.guest
+      pub there : s.visitor place ≡ Some visitor
+      pub moved : World
+      pub left : Option (SeatedVisitor peers.guest)
+      pub goes : SessionIdles k whole place s.world visitor moved left printed
+      pub after : t ≡ with_visitor (with_world s moved) place left
 
-  -- A session's client is gone: what waited and what was still to be printed is dropped, and the session leaves its mailbox at once. Where it awaits a verdict,
-  -- its seat stays taken till that is heard.
-  pub record LeavePlay (k : Setup) (s : Scene) (place : ℕ) (t : Scene) (printed : List ℕ) : Type 0 where
-    pub visitor : SeatedVisitor peers.guest
-    pub there : s.visitor place ≡ Some visitor
-    pub was_read : visitor.gone ≡ false
-    pub moved : World
-    pub leaves : LeavesMailbox k place s.world moved
-    pub left : Option (SeatedVisitor peers.guest)
-    pub stays : Lingers (session_seat k place) (s.world.heard (session_seat k place)) (unread_session peers.guest visitor) left
-    pub after : t ≡ with_visitor (with_world s moved) place left
-    pub silent : printed ≡ []
+  module _ (k : Setup) (s : Scene) where
+    -- A session's client is gone: what waited and what was still to be printed is dropped, and the session leaves its mailbox at once. Where it awaits a verdict,
+    -- its seat stays taken till that is heard.
+    pub record LeavePlay (place : ℕ) (t : Scene) (printed : List ℕ) : Type 0 where
+      pub visitor : SeatedVisitor peers.guest
+      pub there : s.visitor place ≡ Some visitor
+      pub was_read : visitor.gone ≡ false
+      pub moved : World
+      pub leaves : LeavesMailbox k place s.world moved
+      pub left : Option (SeatedVisitor peers.guest)
+      pub stays : Lingers (session_seat k place) (s.world.heard (session_seat k place)) (unread_session peers.guest visitor) left
+      pub after : t ≡ with_visitor (with_world s moved) place left
+      pub silent : printed ≡ []
 
-  -- the copy of the message that it submitted is put
-  pub record SessionPuts (k : Setup) (whole : Bool) (s : Scene) (place : ℕ) (t : Scene) (printed : List ℕ) : Type 0 where
-    pub visitor : SeatedVisitor peers.guest
-    pub there : s.visitor place ≡ Some visitor
-    pub copy : Job
-    pub others : List Job
-    pub front : visitor.to_put ≡ copy ∷ others
-    pub moved : World
-    pub step : Step k.config s.world (world.Put (session_seat k place) (world.shard_of k.config copy.mailbox) copy) moved
-    pub later : World
-    pub left : Option (SeatedVisitor peers.guest)
-    pub goes : SessionGoes k whole place (moved.heard (session_seat k place)) moved (record { session = visitor.session; serial = visitor.serial; gone = visitor.gone; to_put = others }) later left printed
-    pub after : t ≡ with_visitor (with_world s later) place left
+  module _ (k : Setup) (whole : Bool) (s : Scene) where
+    -- the copy of the message that it submitted is put
+    pub record SessionPuts (place : ℕ) (t : Scene) (printed : List ℕ) : Type 0 where
+      pub visitor : SeatedVisitor peers.guest
+      pub there : s.visitor place ≡ Some visitor
+      pub copy : Job
+      pub others : List Job
+      pub front : visitor.to_put ≡ copy ∷ others
+      pub moved : World
+      pub step : Step k.config s.world (world.Put (session_seat k place) (world.shard_of k.config copy.mailbox) copy) moved
+      pub later : World
+      pub left : Option (SeatedVisitor peers.guest)
+      pub goes : SessionGoes k whole place (moved.heard (session_seat k place)) moved (record { session = visitor.session; serial = visitor.serial; gone = visitor.gone; to_put = others }) later left printed
+      pub after : t ≡ with_visitor (with_world s later) place left
 
-  -- its seat hears a verdict
-  pub record SessionHears (k : Setup) (whole : Bool) (s : Scene) (place : ℕ) (t : Scene) (printed : List ℕ) : Type 0 where
-    pub visitor : SeatedVisitor peers.guest
-    pub there : s.visitor place ≡ Some visitor
-    pub moved : World
-    pub step : Step k.config s.world (world.Hear (session_seat k place)) moved
-    pub later : World
-    pub left : Option (SeatedVisitor peers.guest)
-    pub goes : SessionGoes k whole place (moved.heard (session_seat k place)) moved visitor later left printed
-    pub after : t ≡ with_visitor (with_world s later) place left
+    -- its seat hears a verdict
+    pub record SessionHears (place : ℕ) (t : Scene) (printed : List ℕ) : Type 0 where
+      pub visitor : SeatedVisitor peers.guest
+      pub there : s.visitor place ≡ Some visitor
+      pub moved : World
+      pub step : Step k.config s.world (world.Hear (session_seat k place)) moved
+      pub later : World
+      pub left : Option (SeatedVisitor peers.guest)
+      pub goes : SessionGoes k whole place (moved.heard (session_seat k place)) moved visitor later left printed
+      pub after : t ≡ with_visitor (with_world s later) place left
 
-  -- ---- who puts and hears
+    -- ---- who puts and hears
 
-  -- at a seat the next copy of a message is put, by its connection or by its session
-  pub data PutPlay (k : Setup) (whole : Bool) (s : Scene) (seat : ℕ) (t : Scene) (printed : List ℕ) : Type 0 where
-    connection_puts : seat < k.connections → ConnectionPuts k whole s seat t printed → PutPlay k whole s seat t printed
-    session_puts : (place : ℕ) → seat ≡ session_seat k place → SessionPuts k whole s place t printed → PutPlay k whole s seat t printed
+    -- at a seat the next copy of a message is put, by its connection or by its session
+    pub data PutPlay (seat : ℕ) (t : Scene) (printed : List ℕ) : Type 0 where
+      connection_puts : seat < k.connections → ConnectionPuts k whole s seat t printed → PutPlay seat t printed
+      session_puts : (place : ℕ) → seat ≡ session_seat k place → SessionPuts place t printed → PutPlay seat t printed
 
-  -- at a seat a verdict is heard
-  pub data HearPlay (k : Setup) (whole : Bool) (s : Scene) (seat : ℕ) (t : Scene) (printed : List ℕ) : Type 0 where
-    connection_hears : seat < k.connections → ConnectionHears k whole s seat t printed → HearPlay k whole s seat t printed
-    session_hears : (place : ℕ) → seat ≡ session_seat k place → SessionHears k whole s place t printed → HearPlay k whole s seat t printed
+    -- at a seat a verdict is heard
+    pub data HearPlay (seat : ℕ) (t : Scene) (printed : List ℕ) : Type 0 where
+      connection_hears : seat < k.connections → ConnectionHears k whole s seat t printed → HearPlay seat t printed
+      session_hears : (place : ℕ) → seat ≡ session_seat k place → SessionHears place t printed → HearPlay seat t printed
 
   -- ---- events
 
-  -- the world moves, and nobody says a word
-  pub record Moves (k : Setup) (s : Scene) (event : world.Event) (t : Scene) (printed : List ℕ) : Type 0 where
-    pub moved : World
-    pub step : Step k.config s.world event moved
-    pub after : t ≡ with_world s moved
-    pub silent : printed ≡ []
+  module _ (k : Setup) (s : Scene) where
+    -- the world moves, and nobody says a word
+    pub record Moves (event : world.Event) (t : Scene) (printed : List ℕ) : Type 0 where
+      pub moved : World
+      pub step : Step k.config s.world event moved
+      pub after : t ≡ with_world s moved
+      pub silent : printed ≡ []
 
-  -- A shard that was not is shut now. What waits in its lane is still delivered, and its seats end one by one.
-  pub record ClosePlay (k : Setup) (s : Scene) (shard : ℕ) (t : Scene) (printed : List ℕ) : Type 0 where
-    pub there : shard < k.config.shards
-    pub was_open : is_shut_in s shard ≡ false
-    pub after : t ≡ with_shut s shard
-    pub silent : printed ≡ []
+    -- A shard that was not is shut now. What waits in its lane is still delivered, and its seats end one by one.
+    pub record ClosePlay (shard : ℕ) (t : Scene) (printed : List ℕ) : Type 0 where
+      pub there : shard < k.config.shards
+      pub was_open : is_shut_in s shard ≡ false
+      pub after : t ≡ with_shut s shard
+      pub silent : printed ≡ []
 
-  -- One event of the house may lead from one scene to the other, and print this. Where memory is wanting (not `whole`) it may stop
-  -- early: then bytes still wait, or words aren't printed yet.
-  abbrev pub Plays : Setup → Bool → Scene → Event → Scene → List ℕ → Type 0
-  Plays k whole s (Bytes connection piece) t printed = BytesPlay k whole s (seat_of connection) piece.now t printed
-  Plays k whole s (Vanish connection) t printed = VanishPlay k whole s (seat_of connection) t printed
-  Plays k whole s (Put number) t printed = PutPlay k whole s (seat_of number) t printed
-  Plays k whole s (Take shard) t printed = Moves k s (world.Take shard) t printed
-  Plays k whole s (Deliver shard) t printed = Moves k s (world.Deliver shard) t printed
-  Plays k whole s (Answer shard) t printed = Moves k s (world.Answer shard) t printed
-  Plays k whole s (Hear number) t printed = HearPlay k whole s (seat_of number) t printed
-  Plays k whole s (Enter session user) t printed = EnterPlay k whole s (place_of session) user.now t printed
-  Plays k whole s (Say session piece) t printed = SayPlay k whole s (place_of session) piece.now t printed
-  Plays k whole s (Idle session) t printed = IdlePlay k whole s (place_of session) t printed
-  Plays k whole s (Leave session) t printed = LeavePlay k s (place_of session) t printed
-  Plays k whole s (End number shard) t printed = Moves k s (world.PutEnd (seat_of number) shard) t printed
-  Plays k whole s (Close shard) t printed = ClosePlay k s shard t printed
+  module _ (k : Setup) (whole : Bool) (s : Scene) where
+    -- One event of the house may lead from one scene to the other, and print this. Where memory is wanting (not `whole`) it may stop
+    -- early: then bytes still wait, or words aren't printed yet.
+    abbrev pub Plays : Event → Scene → List ℕ → Type 0
+    Plays (Bytes connection piece) t printed = BytesPlay k whole s (seat_of connection) piece.now t printed
+    Plays (Vanish connection) t printed = VanishPlay k whole s (seat_of connection) t printed
+    Plays (Put number) t printed = PutPlay k whole s (seat_of number) t printed
+    Plays (Take shard) t printed = Moves k s (world.Take shard) t printed
+    Plays (Deliver shard) t printed = Moves k s (world.Deliver shard) t printed
+    Plays (Answer shard) t printed = Moves k s (world.Answer shard) t printed
+    Plays (Hear number) t printed = HearPlay k whole s (seat_of number) t printed
+    Plays (Enter session user) t printed = EnterPlay k whole s (place_of session) user.now t printed
+    Plays (Say session piece) t printed = SayPlay k whole s (place_of session) piece.now t printed
+    Plays (Idle session) t printed = IdlePlay k whole s (place_of session) t printed
+    Plays (Leave session) t printed = LeavePlay k s (place_of session) t printed
+    Plays (End number shard) t printed = Moves k s (world.PutEnd (seat_of number) shard) t printed
+    Plays (Close shard) t printed = ClosePlay k s shard t printed
 
   -- In no way does the event change anything, or print a word.
   abbrev pub HasNothing : Setup → Scene → Event → Type 0
   HasNothing k s event = (t : Scene) (printed : List ℕ) → Plays k true s event t printed → (t ≡ s) × (printed ≡ [])
 
-  -- Some events happened, one after another, and each may have been cut short for want of memory.
-  abbrev pub Happened : Setup → List Event → Scene → Scene → List ℕ → Type 0
-  Happened k [] s t printed = (t ≡ s) × (printed ≡ [])
-  Happened k (event ∷ events) s t printed = (m : Scene) × (one : List ℕ) × (two : List ℕ) × Plays k false s event m one × Happened k events m t two × (printed ≡ one ++ two)
+  module _ (k : Setup) where
+    -- Some events happened, one after another, and each may have been cut short for want of memory.
+    abbrev pub Happened : List Event → Scene → Scene → List ℕ → Type 0
+    Happened [] s t printed = (t ≡ s) × (printed ≡ [])
+    Happened (event ∷ events) s t printed = (m : Scene) × (one : List ℕ) × (two : List ℕ) × Plays k false s event m one × Happened events m t two × (printed ≡ one ++ two)

@@ -40,13 +40,14 @@ module _ (speech : Speech) where
     pub unsaid : List ℕ
     pub pending : List Submission
 
-  -- Some of the bytes that waited, taken in their order, lead from the one talk to the other; this turn is said and submitted on the way.
-  pub record WorksOff (setting : Setting) (directory : Directory) (before : Talk) (turn : speech.Turn) (what : What) (after : Talk) : Type 0 where
-    pub taken : List ℕ
-    pub waited : before.waits ≡ taken ++ after.waits
-    pub leads : speech.Leads setting directory before.at taken turn after.at
-    pub tells : speech.Tells what turn
-    pub submits : after.pending ≡ speech.submissions turn
+  module _ (setting : Setting) (directory : Directory) where
+    -- Some of the bytes that waited, taken in their order, lead from the one talk to the other; this turn is said and submitted on the way.
+    pub record WorksOff (before : Talk) (turn : speech.Turn) (what : What) (after : Talk) : Type 0 where
+      pub taken : List ℕ
+      pub waited : before.waits ≡ taken ++ after.waits
+      pub leads : speech.Leads setting directory before.at taken turn after.at
+      pub tells : speech.Tells what turn
+      pub submits : after.pending ≡ speech.submissions turn
 
   -- a connection at a seat: its serial, its talk, and the copies of the message at hand that are still to be put. Its peer may be gone:
   -- then nothing more comes, nothing more is said, and it only waits for its verdicts.
@@ -60,14 +61,16 @@ module _ (speech : Speech) where
   abbrev pub IsAnswered : List Noted → Caller → List Verdict → Type 0
   IsAnswered heard b verdicts = AreAnswered heard b.to_put (keys_of b.talk.pending) verdicts
 
-  -- It takes what waits, as far as that goes: what it says stands behind what it had still to say. `whole` says that memory wasn't wanting.
-  pub record Works (k : Terms) (whole : Bool) (seat : ℕ) (b : Caller) (what : What) (after : Caller) : Type 0 where
-    pub turn : speech.Turn
-    pub talk : Talk
-    pub works : WorksOff (setting_of k seat b.serial) k.directory b.talk turn what talk
-    pub said : talk.unsaid ≡ b.talk.unsaid ++ wire speech k.host (speech.replies turn)
-    pub all : whole ≡ true → what ≡ More → talk.waits ≡ []
-    pub is : after ≡ record { serial = b.serial; gone = b.gone; talk = talk; to_put = copies_of (speech.submissions turn) }
+  -- A connection at this seat, on these terms. `whole` says that memory wasn't wanting.
+  module _ (k : Terms) (whole : Bool) (seat : ℕ) where
+    -- It takes what waits, as far as that goes: what it says stands behind what it had still to say. `whole` says that memory wasn't wanting.
+    pub record Works (b : Caller) (what : What) (after : Caller) : Type 0 where
+      pub turn : speech.Turn
+      pub talk : Talk
+      pub works : WorksOff (setting_of k seat b.serial) k.directory b.talk turn what talk
+      pub said : talk.unsaid ≡ b.talk.unsaid ++ wire speech k.host (speech.replies turn)
+      pub all : whole ≡ true → what ≡ More → talk.waits ≡ []
+      pub is : after ≡ record { serial = b.serial; gone = b.gone; talk = talk; to_put = copies_of (speech.submissions turn) }
 
   -- something that isn't a line happens to the dialogue, before more is worked off
   abbrev pub meets : Terms → ℕ → Caller → Occasion → Caller
@@ -106,20 +109,21 @@ module _ (speech : Speech) where
     talk = record { at = b.talk.at; waits = b.talk.waits; unsaid = unsaid; pending = b.talk.pending };
   }
 
-  -- It goes on as far as it can, by what its seat has heard: where verdicts are awaited it waits for the last one, and says them all; then it
-  -- takes what waits.
-  pub data GoesOn (k : Terms) (whole : Bool) (seat : ℕ) (heard : List Noted) (b : Caller) (what : What) (after : Caller) : Type 0 where
-    works : b.talk.pending ≡ [] → Works k whole seat b what after → GoesOn k whole seat heard b what after
-    waits : 0 < length b.talk.pending → ((vs : List Verdict) → IsAnswered heard b vs → ⊥) → what ≡ Submit → after ≡ b → GoesOn k whole seat heard b what after
-    answers : (vs : List Verdict) → 0 < length b.talk.pending → IsAnswered heard b vs → Works k whole seat (meets k seat b (Answered vs)) what after → GoesOn k whole seat heard b what after
-    -- memory was refused before anything was said
-    stalls : whole ≡ false → what ≡ More → after ≡ b → GoesOn k whole seat heard b what after
+  module _ (k : Terms) (whole : Bool) (seat : ℕ) where
+    -- It goes on as far as it can, by what its seat has heard: where verdicts are awaited it waits for the last one, and says them all; then it
+    -- takes what waits.
+    pub data GoesOn (heard : List Noted) (b : Caller) (what : What) (after : Caller) : Type 0 where
+      works : b.talk.pending ≡ [] → Works k whole seat b what after → GoesOn heard b what after
+      waits : 0 < length b.talk.pending → ((vs : List Verdict) → IsAnswered heard b vs → ⊥) → what ≡ Submit → after ≡ b → GoesOn heard b what after
+      answers : (vs : List Verdict) → 0 < length b.talk.pending → IsAnswered heard b vs → Works k whole seat (meets k seat b (Answered vs)) what after → GoesOn heard b what after
+      -- memory was refused before anything was said
+      stalls : whole ≡ false → what ≡ More → after ≡ b → GoesOn heard b what after
 
-  -- It does what it can now: it goes on; or, where its peer is gone, it has nothing to say, and is done as soon as every copy was put and each verdict is heard.
-  pub data Proceeds (k : Terms) (whole : Bool) (seat : ℕ) (heard : List Noted) (b : Caller) (what : What) (after : Caller) : Type 0 where
-    talks : b.gone ≡ false → GoesOn k whole seat heard b what after → Proceeds k whole seat heard b what after
-    lingers : b.gone ≡ true → b.talk.unsaid ≡ [] → ((vs : List Verdict) → IsAnswered heard b vs → ⊥) → what ≡ Submit → after ≡ b → Proceeds k whole seat heard b what after
-    fades : (vs : List Verdict) → b.gone ≡ true → b.talk.unsaid ≡ [] → IsAnswered heard b vs → what ≡ Quit → after ≡ b → Proceeds k whole seat heard b what after
+    -- It does what it can now: it goes on; or, where its peer is gone, it has nothing to say, and is done as soon as every copy was put and each verdict is heard.
+    pub data Proceeds (heard : List Noted) (b : Caller) (what : What) (after : Caller) : Type 0 where
+      talks : b.gone ≡ false → GoesOn heard b what after → Proceeds heard b what after
+      lingers : b.gone ≡ true → b.talk.unsaid ≡ [] → ((vs : List Verdict) → IsAnswered heard b vs → ⊥) → what ≡ Submit → after ≡ b → Proceeds heard b what after
+      fades : (vs : List Verdict) → b.gone ≡ true → b.talk.unsaid ≡ [] → IsAnswered heard b vs → what ≡ Quit → after ≡ b → Proceeds heard b what after
 
   -- the peer is gone: what waited and what was still to be printed is dropped
   abbrev pub unread : Caller → Caller

@@ -63,26 +63,29 @@ module _ (guest : Guest) where
   abbrev pub seated_greeted : (serial : ℕ) → guest.Coming → SeatedVisitor
   seated_greeted serial coming = record { session = greeted coming; serial = serial; gone = false; to_put = [] }
 
-  -- It answers what waits over a store, as far as that goes, and says this. Where that ends with a message, the copy of it is to be put.
-  pub record Works {S : Type 0} (step : S → guest.Call → guest.Answer → S → Type 0) (seat : ℕ) (v : SeatedVisitor) (old new : S) (after : SeatedVisitor) (said : List ℕ) : Type 0 where
-    pub answers : guest.Answers step v.session.standing v.session.waits old new after.session.standing after.session.waits said
-    pub is : after ≡ record { session = after.session; serial = v.serial; gone = v.gone; to_put = copies_of seat v.serial (sent_by after) }
+  -- This session at this seat, over any store.
+  module _ {S : Type 0} (step : S → guest.Call → guest.Answer → S → Type 0) (seat : ℕ) (v : SeatedVisitor) where
+    -- It answers what waits over a store, as far as that goes, and says this. Where that ends with a message, the copy of it is to be put.
+    pub record Works (old new : S) (after : SeatedVisitor) (said : List ℕ) : Type 0 where
+      pub answers : guest.Answers step v.session.standing v.session.waits old new after.session.standing after.session.waits said
+      pub is : after ≡ record { session = after.session; serial = v.serial; gone = v.gone; to_put = copies_of seat v.serial (sent_by after) }
 
   -- the verdict was answered, and the session stands so
   abbrev pub told : SeatedVisitor → guest.At → SeatedVisitor
   told v next = record { session = record { standing = next; waits = v.session.waits; unsaid = v.session.unsaid }; serial = v.serial; gone = v.gone; to_put = [] }
 
-  -- It goes on over a store as far as it can, by what its seat has heard: where a verdict is awaited it waits for that, and answers it; then it answers what waits.
-  -- Where its session has ended nothing is answered.
-  pub data GoesOn {S : Type 0} (step : S → guest.Call → guest.Answer → S → Type 0) (whole : Bool) (seat : ℕ) (heard : List Noted) (v : SeatedVisitor) (old new : S) (after : SeatedVisitor) (said : List ℕ) : Type 0 where
-    works : sent_by v ≡ None → Works step seat v old new after said → GoesOn step whole seat heard v old new after said
-    answers : (verdict : Verdict) (mid : S) (first second : List ℕ) (how : guest.After) (next : guest.At) → guest.ended v.session.standing ≡ false → IsAnswered seat heard v verdict → guest.Hears step v.session.standing verdict old mid first how next
-        → Works step seat (told v next) mid new after second → said ≡ first ++ second → GoesOn step whole seat heard v old new after said
-    waits : Awaits seat heard v → new ≡ old → after ≡ v → said ≡ [] → GoesOn step whole seat heard v old new after said
-    -- its session has ended
-    rests : guest.ended v.session.standing ≡ true → new ≡ old → after ≡ v → said ≡ [] → GoesOn step whole seat heard v old new after said
-    -- memory was refused before anything was said
-    stalls : whole ≡ false → new ≡ old → after ≡ v → said ≡ [] → GoesOn step whole seat heard v old new after said
+  module _ {S : Type 0} (step : S → guest.Call → guest.Answer → S → Type 0) (whole : Bool) (seat : ℕ) (heard : List Noted) (v : SeatedVisitor) where
+    -- It goes on over a store as far as it can, by what its seat has heard: where a verdict is awaited it waits for that, and answers it; then it answers what waits.
+    -- Where its session has ended nothing is answered.
+    pub data GoesOn (old new : S) (after : SeatedVisitor) (said : List ℕ) : Type 0 where
+      works : sent_by v ≡ None → Works step seat v old new after said → GoesOn old new after said
+      answers : (verdict : Verdict) (mid : S) (first second : List ℕ) (how : guest.After) (next : guest.At) → guest.ended v.session.standing ≡ false → IsAnswered seat heard v verdict → guest.Hears step v.session.standing verdict old mid first how next
+          → Works step seat (told v next) mid new after second → said ≡ first ++ second → GoesOn old new after said
+      waits : Awaits seat heard v → new ≡ old → after ≡ v → said ≡ [] → GoesOn old new after said
+      -- its session has ended
+      rests : guest.ended v.session.standing ≡ true → new ≡ old → after ≡ v → said ≡ [] → GoesOn old new after said
+      -- memory was refused before anything was said
+      stalls : whole ≡ false → new ≡ old → after ≡ v → said ≡ [] → GoesOn old new after said
 
   -- its client is gone: what waited and what was still to be printed is dropped
   abbrev pub unread : SeatedVisitor → SeatedVisitor

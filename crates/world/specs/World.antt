@@ -128,30 +128,32 @@ abbrev pub EntryBelow : CopyKey → Entry Job → Type 0
 EntryBelow y (Item p c) = Below c.key y
 EntryBelow y (End p) = Unit {0}
 
--- seat p may put the copy: the shard is the mailbox's, and the key is p's and above every other of p; where it has ended there, it hears so
-pub record MayPut (k : Config) (w : World) (p s : ℕ) (c : Job) : Type 0 where
-  pub seat : p < k.seats
-  pub own : c.key.seat ≡ p
-  pub mailbox : c.mailbox < k.mailboxes
-  pub shard : IsShardOf k c.mailbox s
-  pub above_sent : (t : ℕ) → All (EntryBelow c.key) ((w.lane t).sent p)
-  pub above_heard : All (λ r. Below r.key c.key) (w.heard p)
+-- Seat p puts into the lane of shard s.
+module _ (k : Config) (w : World) (p s : ℕ) where
+  -- seat p may put the copy: the shard is the mailbox's, and the key is p's and above every other of p; where it has ended there, it hears so
+  pub record MayPut (c : Job) : Type 0 where
+    pub seat : p < k.seats
+    pub own : c.key.seat ≡ p
+    pub mailbox : c.mailbox < k.mailboxes
+    pub shard : IsShardOf k c.mailbox s
+    pub above_sent : (t : ℕ) → All (EntryBelow c.key) ((w.lane t).sent p)
+    pub above_heard : All (λ r. Below r.key c.key) (w.heard p)
 
--- seat p puts a copy into the lane of shard s, or hears at once that it was refused: as shut where it has put its end into that lane, and
--- else as full where the lane is
-pub data PutStep (k : Config) (w : World) (p s : ℕ) (c : Job) (v : World) : Type 0 where
-  -- the copy goes last
-  put_joins : MayPut k w p s c → IsLive (w.lane s) p → length (w.lane s).waiting < k.depth → v ≡ puts w s (Item p c) → PutStep k w p s c v
-  put_full : MayPut k w p s c → IsLive (w.lane s) p → k.depth ≤ length (w.lane s).waiting → v ≡ hears w p (reply_to c (Refused Full)) → PutStep k w p s c v
-  -- a growth was refused
-  put_no_memory : MayPut k w p s c → IsLive (w.lane s) p → length (w.lane s).waiting < k.depth → v ≡ hears w p (reply_to c (Refused NoMemory)) → PutStep k w p s c v
-  -- the shard is being closed: the seat has put its end into the lane, which stays as it is
-  put_shut : MayPut k w p s c → has_end ((w.lane s).sent p) ≡ true → v ≡ hears w p (reply_to c (Refused Shut)) → PutStep k w p s c v
+  -- seat p puts a copy into the lane of shard s, or hears at once that it was refused: as shut where it has put its end into that lane, and
+  -- else as full where the lane is
+  pub data PutStep (c : Job) (v : World) : Type 0 where
+    -- the copy goes last
+    put_joins : MayPut c → IsLive (w.lane s) p → length (w.lane s).waiting < k.depth → v ≡ puts w s (Item p c) → PutStep c v
+    put_full : MayPut c → IsLive (w.lane s) p → k.depth ≤ length (w.lane s).waiting → v ≡ hears w p (reply_to c (Refused Full)) → PutStep c v
+    -- a growth was refused
+    put_no_memory : MayPut c → IsLive (w.lane s) p → length (w.lane s).waiting < k.depth → v ≡ hears w p (reply_to c (Refused NoMemory)) → PutStep c v
+    -- the shard is being closed: the seat has put its end into the lane, which stays as it is
+    put_shut : MayPut c → has_end ((w.lane s).sent p) ≡ true → v ≡ hears w p (reply_to c (Refused Shut)) → PutStep c v
 
--- seat p puts its end into the lane of shard s, unless that is full
-pub data EndStep (k : Config) (w : World) (p s : ℕ) (v : World) : Type 0 where
-  end_joins : p < k.seats → s < k.shards → IsLive (w.lane s) p → length (w.lane s).waiting < k.depth → v ≡ puts w s (End p) → EndStep k w p s v
-  end_full : p < k.seats → s < k.shards → IsLive (w.lane s) p → k.depth ≤ length (w.lane s).waiting → v ≡ w → EndStep k w p s v
+  -- seat p puts its end into the lane of shard s, unless that is full
+  pub data EndStep (v : World) : Type 0 where
+    end_joins : p < k.seats → s < k.shards → IsLive (w.lane s) p → length (w.lane s).waiting < k.depth → v ≡ puts w s (End p) → EndStep v
+    end_full : p < k.seats → s < k.shards → IsLive (w.lane s) p → k.depth ≤ length (w.lane s).waiting → v ≡ w → EndStep v
 
 -- what the hand holds after an entry was taken
 abbrev pub in_hand : Entry Job → Hand
@@ -170,20 +172,24 @@ pub data TakeStep (w : World) (s : ℕ) (v : World) : Type 0 where
 abbrev pub next_uid : Config → Box → ℕ
 next_uid k b = k.first_uid + length b.accepted
 
--- the mailbox after these changes and these accepted copies
-pub record Logs (k : Config) (old : Box) (changes : List Change) (copies : List (Job × ℕ)) (new : Box) : Type 0 where
-  pub room : length old.log + length changes ≤ most_changes
-  pub log : new.log ≡ old.log ++ changes
-  pub base : BaseAfter k.ring (length old.log) old.base changes new.base
-  pub accepted : new.accepted ≡ old.accepted ++ copies
+-- What an event adds to a mailbox.
+module _ (k : Config) (old : Box) where
+  -- the mailbox after these changes and these accepted copies
+  pub record Logs (changes : List Change) (copies : List (Job × ℕ)) (new : Box) : Type 0 where
+    pub room : length old.log + length changes ≤ most_changes
+    pub log : new.log ≡ old.log ++ changes
+    pub base : BaseAfter k.ring (length old.log) old.base changes new.base
+    pub accepted : new.accepted ≡ old.accepted ++ copies
 
--- the hand of shard s holds this reply, and mailbox m is b
-abbrev pub delivered : World → ℕ → ℕ → Box → Noted → World
-delivered w s m b r = record w { hand = set_at w.hand s (Done r); box = set_at w.box m b }
+-- What the consumer of shard s has done with the copy in its hand.
+module _ (w : World) (s : ℕ) where
+  -- the hand of shard s holds this reply, and mailbox m is b
+  abbrev pub delivered : ℕ → Box → Noted → World
+  delivered m b r = record w { hand = set_at w.hand s (Done r); box = set_at w.box m b }
 
--- the hand of shard s holds this reply, and nothing else changed
-abbrev pub refused : World → ℕ → Noted → World
-refused w s r = record w { hand = set_at w.hand s (Done r) }
+  -- the hand of shard s holds this reply, and nothing else changed
+  abbrev pub refused : Noted → World
+  refused r = record w { hand = set_at w.hand s (Done r) }
 
 -- no UID is left, or no room in the log for the arrival of a message with these flags
 abbrev pub IsSpent : Config → Flags → Box → Type 0
@@ -232,39 +238,43 @@ pending b s = drop s.cursor b.log
 abbrev pub shows : Session → List Change → Session
 shows s cs = record { mailbox = s.mailbox; start = s.start; cursor = s.cursor + length cs; shown = s.shown ++ cs }
 
--- session n, which has not selected, selects mailbox m; or nothing happens, where the mailbox has no serial left for a cursor, or else for want
--- of memory
-pub data EnterStep (k : Config) (w : World) (n m : ℕ) (v : World) : Type 0 where
-  enters : n < k.sessions → m < k.mailboxes → w.session n ≡ None → w.opened m < most_entries
-      → v ≡ record w {
-        session = set_at w.session n (Some (record { mailbox = m; start = length (w.box m).log; cursor = length (w.box m).log; shown = [] }));
-        opened = set_at w.opened m (w.opened m + 1);
-      } → EnterStep k w n m v
-  enter_spent : n < k.sessions → m < k.mailboxes → w.session n ≡ None → most_entries ≤ w.opened m → v ≡ w → EnterStep k w n m v
-  -- a growth was refused
-  enter_no_memory : n < k.sessions → m < k.mailboxes → w.session n ≡ None → w.opened m < most_entries → v ≡ w → EnterStep k w n m v
+module _ (k : Config) (w : World) where
+  -- session n, which has not selected, selects mailbox m; or nothing happens, where the mailbox has no serial left for a cursor, or else for want
+  -- of memory
+  pub data EnterStep (n m : ℕ) (v : World) : Type 0 where
+    enters : n < k.sessions → m < k.mailboxes → w.session n ≡ None → w.opened m < most_entries
+        → v ≡ record w {
+          session = set_at w.session n (Some (record { mailbox = m; start = length (w.box m).log; cursor = length (w.box m).log; shown = [] }));
+          opened = set_at w.opened m (w.opened m + 1);
+        } → EnterStep n m v
+    enter_spent : n < k.sessions → m < k.mailboxes → w.session n ≡ None → most_entries ≤ w.opened m → v ≡ w → EnterStep n m v
+    -- a growth was refused
+    enter_no_memory : n < k.sessions → m < k.mailboxes → w.session n ≡ None → w.opened m < most_entries → v ≡ w → EnterStep n m v
 
--- A session that has selected is shown some changes and logs some. A cursor below the base is lapped, and a log without room is spent.
-pub data MailStep (k : Config) (w : World) (n : ℕ) (s : Session) (allocates : Bool) (shown changes : List Change) (v : World) : Type 0 where
-  mails : (b : Box) → (w.box s.mailbox).base ≤ s.cursor → Logs k (w.box s.mailbox) changes [] b
-      → v ≡ record w { box = set_at w.box s.mailbox b; session = set_at w.session n (Some (shows s shown)) } → MailStep k w n s allocates shown changes v
-  mail_lapped : s.cursor < (w.box s.mailbox).base → v ≡ w → MailStep k w n s allocates shown changes v
-  mail_spent : (w.box s.mailbox).base ≤ s.cursor → most_changes < length (w.box s.mailbox).log + length changes
-      → v ≡ w → MailStep k w n s allocates shown changes v
-  -- a growth was refused
-  mail_no_memory : allocates ≡ true → (w.box s.mailbox).base ≤ s.cursor → length (w.box s.mailbox).log + length changes ≤ most_changes
-      → v ≡ w → MailStep k w n s allocates shown changes v
+-- Session n, which has selected.
+module _ (k : Config) (w : World) (n : ℕ) (s : Session) where
+  -- A session that has selected is shown some changes and logs some. A cursor below the base is lapped, and a log without room is spent.
+  pub data MailStep (allocates : Bool) (shown changes : List Change) (v : World) : Type 0 where
+    mails : (b : Box) → (w.box s.mailbox).base ≤ s.cursor → Logs k (w.box s.mailbox) changes [] b
+        → v ≡ record w { box = set_at w.box s.mailbox b; session = set_at w.session n (Some (shows s shown)) } → MailStep allocates shown changes v
+    mail_lapped : s.cursor < (w.box s.mailbox).base → v ≡ w → MailStep allocates shown changes v
+    mail_spent : (w.box s.mailbox).base ≤ s.cursor → most_changes < length (w.box s.mailbox).log + length changes
+        → v ≡ w → MailStep allocates shown changes v
+    -- a growth was refused
+    mail_no_memory : allocates ≡ true → (w.box s.mailbox).base ≤ s.cursor → length (w.box s.mailbox).log + length changes ≤ most_changes
+        → v ≡ w → MailStep allocates shown changes v
 
--- A session that has selected logs some changes and is gone, unless the log has no room for them.
-pub data LeaveStep (k : Config) (w : World) (n : ℕ) (s : Session) (changes : List Change) (v : World) : Type 0 where
-  leaves : (b : Box) → Logs k (w.box s.mailbox) changes [] b
-      → v ≡ record w { box = set_at w.box s.mailbox b; session = set_at w.session n None } → LeaveStep k w n s changes v
-  leave_spent : most_changes < length (w.box s.mailbox).log + length changes → v ≡ w → LeaveStep k w n s changes v
+  -- A session that has selected logs some changes and is gone, unless the log has no room for them.
+  pub data LeaveStep (changes : List Change) (v : World) : Type 0 where
+    leaves : (b : Box) → Logs k (w.box s.mailbox) changes [] b
+        → v ≡ record w { box = set_at w.box s.mailbox b; session = set_at w.session n None } → LeaveStep changes v
+    leave_spent : most_changes < length (w.box s.mailbox).log + length changes → v ≡ w → LeaveStep changes v
 
--- Mailbox m logs some changes for nobody's session, unless its log has no room for them.
-pub data DiscardStep (k : Config) (w : World) (m : ℕ) (changes : List Change) (v : World) : Type 0 where
-  discards_them : (b : Box) → m < k.mailboxes → Logs k (w.box m) changes [] b → v ≡ record w { box = set_at w.box m b } → DiscardStep k w m changes v
-  discard_spent : m < k.mailboxes → most_changes < length (w.box m).log + length changes → v ≡ w → DiscardStep k w m changes v
+module _ (k : Config) (w : World) where
+  -- Mailbox m logs some changes for nobody's session, unless its log has no room for them.
+  pub data DiscardStep (m : ℕ) (changes : List Change) (v : World) : Type 0 where
+    discards_them : (b : Box) → m < k.mailboxes → Logs k (w.box m) changes [] b → v ≡ record w { box = set_at w.box m b } → DiscardStep m changes v
+    discard_spent : m < k.mailboxes → most_changes < length (w.box m).log + length changes → v ≡ w → DiscardStep m changes v
 
 -- session n has selected, and what is said of it holds
 abbrev pub Selected : World → ℕ → (Session → Type 0) → Type 0
