@@ -7,7 +7,9 @@ use Rattle.lane_work.specs.Consuming.{IsConsumed}
 use Rattle.lane_work.specs.declared.consumer.Consumed.{Consumed}
 use Rattle.lane_work.specs.declared.consumer.Depot.{Depot}
 
--- What a consumer of shard n leaves that had sent nothing before, of its own lane. That was empty at one moment behind all that had been there when it last took.
+-- What a consumer of shard n leaves that had sent nothing before, of its own lane. That was empty at one moment behind all that had been there when
+-- it last took.
 pub record IsService {B : Type 0} (lanes : List (ShardQueue Job)) (depot : Depot B) (n : ℕ) (c : Consumed B) : Type 0 where
   pub each : (lane : ShardQueue Job) → slice_get lanes n ≡ Some lane → IsConsumed lane depot n [] c
-  pub empty : (lane : ShardQueue Job) → slice_get lanes n ≡ Some lane → WasEmpty (producers_of lane) (capacity_of lane) (got c.permit) (take_seen c.permit)
+  pub empty : (lane : ShardQueue Job) → slice_get lanes n ≡ Some lane
+      → WasEmpty (producers_of lane) (capacity_of lane) (got c.permit) (take_seen c.permit)

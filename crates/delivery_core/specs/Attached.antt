@@ -25,4 +25,5 @@ pub record AreAttached (all : List CursorSet) (clients : List (Option Client)) :
   pub there : (n : ℕ) (c : Client) → client_at clients n ≡ Some c → c.mailbox < length all
   pub known : (n : ℕ) (c : Client) → client_at clients n ≡ Some c → IsSome (cursor_of all c)
   -- no two have one slot of one mailbox
-  pub apart : (m n : ℕ) (c d : Client) → client_at clients m ≡ Some c → client_at clients n ≡ Some d → m ≢ n → c.mailbox ≡ d.mailbox → c.handle.slot ≢ d.handle.slot
+  pub apart : (m n : ℕ) (c d : Client) → client_at clients m ≡ Some c → client_at clients n ≡ Some d → m ≢ n → c.mailbox ≡ d.mailbox
+      → c.handle.slot ≢ d.handle.slot

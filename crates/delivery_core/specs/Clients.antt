@@ -22,19 +22,22 @@ use Rattle.delivery_core.specs.Stands.{StandsFor}
 -- From each world for which the old one stood, the event leads to one for which the new one stands, and this holds of the mailbox that session
 -- n had selected and of the session, as they were.
 abbrev pub Does : Config → DeliveryCore → Event → ℕ → (Box → Session → Type 0) → DeliveryCore → Type 0
-Does k old event n P new = (w : World) → StandsFor k old w → (v : World) × Step k w event v × StandsFor k new v × Selected w n (λ s. P (w.box s.mailbox) s)
+Does k old event n P new = (w : World) → StandsFor k old w → (v : World) × Step k w event v × StandsFor k new v
+    × Selected w n (λ s. P (w.box s.mailbox) s)
 
--- Session n was shown the first of these changes, and its mailbox logged the second; nothing else changed.
-pub record Done (k : Config) (w : World) (n : ℕ) (s : Session) (shown changes : List Change) (v : World) : Type 0 where
-  pub kept : (w.box s.mailbox).base ≤ s.cursor
-  pub mailbox : Box
-  pub logs : Logs k (w.box s.mailbox) changes [] mailbox
-  pub made : v ≡ record w { box = set_at w.box s.mailbox mailbox; session = set_at w.session n (Some (shows s shown)) }
+module _ (k : Config) (w : World) (n : ℕ) (s : Session) where
+  -- Session n was shown the first of these changes, and its mailbox logged the second; nothing else changed.
+  pub record Done (shown changes : List Change) (v : World) : Type 0 where
+    pub kept : (w.box s.mailbox).base ≤ s.cursor
+    pub mailbox : Box
+    pub logs : Logs k (w.box s.mailbox) changes [] mailbox
+    pub made : v ≡ record w { box = set_at w.box s.mailbox mailbox; session = set_at w.session n (Some (shows s shown)) }
 
 -- From each world for which the old one stood there is one for which the new one stands, in which session n was shown these changes and its
 -- mailbox logged those.
 abbrev pub Makes : Config → DeliveryCore → ℕ → (Box → Session → List Change) → (Box → List Change) → DeliveryCore → Type 0
-Makes k old n shown changes new = (w : World) → StandsFor k old w → (v : World) × StandsFor k new v × Selected w n (λ s. Done k w n s (shown (w.box s.mailbox) s) (changes (w.box s.mailbox)) v)
+Makes k old n shown changes new = (w : World) → StandsFor k old w → (v : World) × StandsFor k new v
+    × Selected w n (λ s. Done k w n s (shown (w.box s.mailbox) s) (changes (w.box s.mailbox)) v)
 
 -- why a session was refused that would log these changes
 abbrev pub Refuses : MailFault → List Change → Box → Session → Type 0
@@ -80,22 +83,29 @@ Expunges may_go before after (Err fault) b s = Refuses fault (removals may_go (r
 -- the row of a UID as it is after a Read, with the text of its copy
 abbrev pub read_of : Bool → ℕ → Box → Option read.Row
 read_of mark_seen uid b =
-    option_map (λ (row : Row). record { uid = row.uid; flags = row.flags; newly_seen = was_logged (seen_logged mark_seen (rows_of b.log) uid); text = text_with uid b.accepted })
+    option_map (λ (row : Row). record {
+      uid = row.uid;
+      flags = row.flags;
+      newly_seen = was_logged (seen_logged mark_seen (rows_of b.log) uid);
+      text = text_with uid b.accepted;
+    })
     (row_with uid (rows_then b (seen_logged mark_seen (rows_of b.log) uid)))
 
--- a Read answers the message, where it is there
-abbrev pub Reads : Bool → ℕ → Result (Option read.Row) MailFault → Box → Session → Type 0
-Reads mark_seen uid (Ok row) b s = (b.base ≤ s.cursor) × (row ≡ read_of mark_seen uid b)
-Reads mark_seen uid (Err fault) b s = Refuses fault (seen_logged mark_seen (rows_of b.log) uid) b s
+module _ (mark_seen : Bool) (uid : ℕ) where
+  -- a Read answers the message, where it is there
+  abbrev pub Reads : Result (Option read.Row) MailFault → Box → Session → Type 0
+  Reads (Ok row) b s = (b.base ≤ s.cursor) × (row ≡ read_of mark_seen uid b)
+  Reads (Err fault) b s = Refuses fault (seen_logged mark_seen (rows_of b.log) uid) b s
 
 -- the flags of a UID as they are after a Store
 abbrev pub flags_of : ℕ → FlagOp → Box → Option Flags
 flags_of uid op b = option_map (λ (row : Row). row.flags) (row_with uid (rows_then b (flags_logged (rows_of b.log) uid op)))
 
--- a Store answers the message's flags, where it is there
-abbrev pub Alters : ℕ → FlagOp → Result (Option Flags) MailFault → Box → Session → Type 0
-Alters uid op (Ok flags) b s = (b.base ≤ s.cursor) × (flags ≡ flags_of uid op b)
-Alters uid op (Err fault) b s = Refuses fault (flags_logged (rows_of b.log) uid op) b s
+module _ (uid : ℕ) (op : FlagOp) where
+  -- a Store answers the message's flags, where it is there
+  abbrev pub Alters : Result (Option Flags) MailFault → Box → Session → Type 0
+  Alters (Ok flags) b s = (b.base ≤ s.cursor) × (flags ≡ flags_of uid op b)
+  Alters (Err fault) b s = Refuses fault (flags_logged (rows_of b.log) uid op) b s
 
 -- a Leave answers how many messages went, and is refused where the log has no room for that
 abbrev pub Leaves : Bool → Result ℕ MailFault → Box → Session → Type 0
@@ -123,19 +133,20 @@ pub record IsStatus (k : Config) (b : Box) (status : Status) : Type 0 where
   pub deleted : status.deleted ≡ count_by (λ (row : Row). row.flags.deleted) (rows_of b.log)
   pub size : status.size ≡ sum_by (λ (row : Row). length (text_with row.uid b.accepted).bytes) (rows_of b.log)
 
--- Mailbox m logged these changes, and nothing else changed.
-pub record Discards (k : Config) (m : ℕ) (changes : List Change) (w v : World) : Type 0 where
-  pub there : m < k.mailboxes
-  pub mailbox : Box
-  pub logs : Logs k (w.box m) changes [] mailbox
-  pub made : v ≡ record w { box = set_at w.box m mailbox }
+module _ (k : Config) (m : ℕ) where
+  -- Mailbox m logged these changes, and nothing else changed.
+  pub record Discards (changes : List Change) (w v : World) : Type 0 where
+    pub there : m < k.mailboxes
+    pub mailbox : Box
+    pub logs : Logs k (w.box m) changes [] mailbox
+    pub made : v ≡ record w { box = set_at w.box m mailbox }
 
--- there is no such mailbox, or its log has no room for these changes
-abbrev pub DiscardsNot : Config → (m : ℕ) → List Change → World → MailFault → Type 0
-DiscardsNot k m changes w Stranger = k.mailboxes ≤ m
-DiscardsNot k m changes w Lapped = ⊥
-DiscardsNot k m changes w Spent = (m < k.mailboxes) × (most_changes < length (w.box m).log + length changes)
-DiscardsNot k m changes w NoMemory = ⊥
+  -- there is no such mailbox, or its log has no room for these changes
+  abbrev pub DiscardsNot : List Change → World → MailFault → Type 0
+  DiscardsNot changes w Stranger = k.mailboxes ≤ m
+  DiscardsNot changes w Lapped = ⊥
+  DiscardsNot changes w Spent = (m < k.mailboxes) × (most_changes < length (w.box m).log + length changes)
+  DiscardsNot changes w NoMemory = ⊥
 
 -- these changes were logged in mailbox m, or that was refused and nothing changed
 abbrev pub IsDiscarded : Config → (m : ℕ) → List Change → World → Result (Unit {0}) MailFault → World → Type 0
@@ -145,4 +156,5 @@ IsDiscarded k m changes w (Err fault) v = (v ≡ w) × DiscardsNot k m changes w
 -- From each world for which the old one stood, the messages of mailbox m go whose UIDs pass, or that is refused, and the new one stands for what
 -- comes of it.
 abbrev pub Removes : Config → DeliveryCore → (m : ℕ) → (ℕ → Bool) → Result (Unit {0}) MailFault → DeliveryCore → Type 0
-Removes k old m goes result new = (w : World) → StandsFor k old w → (v : World) × Step k w (Discard m goes) v × StandsFor k new v × IsDiscarded k m (discards goes (rows_of (w.box m).log)) w result v
+Removes k old m goes result new = (w : World) → StandsFor k old w → (v : World) × Step k w (Discard m goes) v × StandsFor k new v
+    × IsDiscarded k m (discards goes (rows_of (w.box m).log)) w result v

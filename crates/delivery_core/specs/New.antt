@@ -14,7 +14,8 @@ new_lane capacity producers = record { capacity = capacity; live = replicate pro
 abbrev pub first_key : ℕ → CopyKey
 first_key p = record { seat = p; serial = 0; message = 0; recipient = 0 }
 
--- a mailbox with nothing in it and no client, of this number and these settings, which keeps the copies that it takes; its window may grow up to `most`
+-- a mailbox with nothing in it and no client, of this number and these settings, which keeps the copies that it takes; its window may grow up to
+-- `most`
 pub record IsNewBox (number uidvalidity first_uid messages ring most : ℕ) (b : Mailbox) : Type 0 where
   pub at : b.number ≡ number
   pub validity : b.uidvalidity ≡ uidvalidity

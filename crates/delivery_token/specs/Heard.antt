@@ -13,7 +13,8 @@ SlotFor heard key None = (r : Noted) → Contains heard r → r.key ≡ key → 
 -- the same for the first of these keys, as many as there are slots
 pub record SlotsFor (heard : List Noted) (keys : List CopyKey) (slots : List (Option Verdict)) : Type 0 where
   pub few : length slots ≤ length keys
-  pub each : (i : ℕ) (key : CopyKey) (slot : Option Verdict) → i < length slots → SlotFor heard (slice_index_or keys i key) (slice_index_or slots i slot)
+  pub each : (i : ℕ) (key : CopyKey) (slot : Option Verdict) → i < length slots
+      → SlotFor heard (slice_index_or keys i key) (slice_index_or slots i slot)
 
 -- the i-th verdict is the one that was heard for the i-th key
 abbrev pub HeardFor : List Noted → List CopyKey → List Verdict → Type 0

@@ -53,14 +53,19 @@ module _ (peers : Peers) where
 
   -- In a house with these settings, from this scene on.
   module _ (k : Setup) (s : Scene peers) where
-    -- Session n put the copy of a message that its client appended, or heard a verdict, and these are its whole lines: what was still to be printed of it and what
-    -- it said since. So what it says to a verdict is of one that its own seat has heard.
+    -- Session n put the copy of a message that its client appended, or heard a verdict, and these are its whole lines: what was still to be printed
+    -- of it and what it said since. So what it says to a verdict is of one that its own seat has heard.
     pub record PutsLines (number n : ℕ) (lines : List (List ℕ)) (t : Scene peers) : Type 0 where
       pub place : ℕ
       pub own : n ≡ place + 1
       pub seat : seat_of number ≡ session_seat k place
       pub puts : SessionPuts peers k false s place t (text_of k (Lines n lines))
-      pub talks : SessionTalks peers k false place (puts.moved.heard (session_seat k place)) puts.moved (record { session = puts.visitor.session; serial = puts.visitor.serial; gone = puts.visitor.gone; to_put = puts.others }) puts.later puts.left (text_of k (Lines n lines))
+      pub talks : SessionTalks peers k false place (puts.moved.heard (session_seat k place)) puts.moved (record {
+        session = puts.visitor.session;
+        serial = puts.visitor.serial;
+        gone = puts.visitor.gone;
+        to_put = puts.others;
+      }) puts.later puts.left (text_of k (Lines n lines))
       pub cut : IsCut (puts.visitor.session.unsaid ++ talks.speaks.said) lines []
 
     pub record HearsLines (number n : ℕ) (lines : List (List ℕ)) (t : Scene peers) : Type 0 where
@@ -68,10 +73,12 @@ module _ (peers : Peers) where
       pub own : n ≡ place + 1
       pub seat : seat_of number ≡ session_seat k place
       pub hears : SessionHears peers k false s place t (text_of k (Lines n lines))
-      pub talks : SessionTalks peers k false place (hears.moved.heard (session_seat k place)) hears.moved hears.visitor hears.later hears.left (text_of k (Lines n lines))
+      pub talks : SessionTalks peers k false place (hears.moved.heard (session_seat k place)) hears.moved hears.visitor hears.later hears.left
+          (text_of k (Lines n lines))
       pub cut : IsCut (hears.visitor.session.unsaid ++ talks.speaks.said) lines []
 
-    -- The piece is the event's own: its connection says it, or its session, and then the whole lines are what was still to be printed of it and what it said since.
+    -- The piece is the event's own: its connection says it, or its session, and then the whole lines are what was still to be printed of it and what
+    -- it said since.
     abbrev pub IsOwn : house.Event → Scene peers → Piece → Type 0
     IsOwn event t Silence = Unit {0}
     IsOwn (Bytes connection bytes) t (Replies seat said) = (seat ≡ seat_of connection) × HearsItsOwn s seat said
@@ -80,11 +87,14 @@ module _ (peers : Peers) where
     IsOwn (Put number) t (Lines session lines) = PutsLines number session lines t
     IsOwn (Hear number) t (Lines session lines) = HearsLines number session lines t
     IsOwn (Enter session user) t (Lines number lines) =
-        (number ≡ place_of session + 1) × (p : EnterPlay peers k false s (place_of session) user.now t (text_of k (Lines number lines))) × IsCut (peers.guest.greeting (comes_in peers k user.now) ++ p.goes.speaks.said) lines []
+        (number ≡ place_of session + 1) × (p : EnterPlay peers k false s (place_of session) user.now t (text_of k (Lines number lines)))
+        × IsCut (peers.guest.greeting (comes_in peers k user.now) ++ p.goes.speaks.said) lines []
     IsOwn (Say session bytes) t (Lines number lines) =
-        (number ≡ place_of session + 1) × (p : SayPlay peers k false s (place_of session) bytes.now t (text_of k (Lines number lines))) × IsCut (p.visitor.session.unsaid ++ p.goes.speaks.said) lines []
+        (number ≡ place_of session + 1) × (p : SayPlay peers k false s (place_of session) bytes.now t (text_of k (Lines number lines)))
+        × IsCut (p.visitor.session.unsaid ++ p.goes.speaks.said) lines []
     IsOwn (Idle session) t (Lines number lines) =
-        (number ≡ place_of session + 1) × (p : IdlePlay peers k false s (place_of session) t (text_of k (Lines number lines))) × IsCut (p.visitor.session.unsaid ++ p.goes.idles.said) lines []
+        (number ≡ place_of session + 1) × (p : IdlePlay peers k false s (place_of session) t (text_of k (Lines number lines)))
+        × IsCut (p.visitor.session.unsaid ++ p.goes.idles.said) lines []
     IsOwn event t piece = ⊥
 
   -- an entry of the record: what happened, what it led to, and what was printed
@@ -123,7 +133,8 @@ module _ (peers : Peers) where
     -- the copies of each seat in the order in which they were sent, none twice
     pub in_order : (p : ℕ) → AllPairs (λ a b. Below a.key b.key) (verdicts_of p entries)
     -- and each that was told as stored stands in its mailbox's history exactly once, under one UID
-    pub delivered : (p uid : ℕ) (noted : Noted) → Contains (verdicts_of p entries) noted → noted.verdict ≡ Stored uid → StandsOnce (pairs (w.box noted.mailbox).accepted) noted.key uid
+    pub delivered : (p uid : ℕ) (noted : Noted) → Contains (verdicts_of p entries) noted → noted.verdict ≡ Stored uid
+        → StandsOnce (pairs (w.box noted.mailbox).accepted) noted.key uid
 
   -- no two of the verdicts that were told are about one copy
   pub record NoneTwice (entries : List Entry) : Type 0 where

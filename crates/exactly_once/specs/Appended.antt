@@ -28,39 +28,48 @@ noted_for heard [] verdict h = []
 noted_for heard (key ∷ keys) verdict h = record { key = key; mailbox = h.0.0; verdict = verdict } ∷ []
 
 -- the verdict that a session answers as it goes on: what it awaits, by what its seat has heard
-abbrev pub answered_as : {S : Type 0} (step : S → Call → StoreAnswer → S → Type 0) (whole : Bool) (seat : ℕ) (heard : List Noted) (v : SeatedVisitor) (old new : S) (after : SeatedVisitor) (said : List ℕ)
+abbrev pub answered_as : {S : Type 0} (step : S → Call → StoreAnswer → S → Type 0) (whole : Bool) (seat : ℕ) (heard : List Noted) (v : SeatedVisitor)
+    (old new : S) (after : SeatedVisitor) (said : List ℕ)
     → GoesOn step whole seat heard v old new after said → List Noted
-answered_as step whole seat heard v old new after said (answers verdict mid first second how next going known answer more is) = noted_for heard (keys_of seat v.serial (sent_by v)) verdict known.each
+answered_as step whole seat heard v old new after said (answers verdict mid first second how next going known answer more is) =
+    noted_for heard (keys_of seat v.serial (sent_by v)) verdict known.each
 answered_as step whole seat heard v old new after said (works none answer) = []
 answered_as step whole seat heard v old new after said (waits unheard same stays silent) = []
 answered_as step whole seat heard v old new after said (rests ended same stays silent) = []
 answered_as step whole seat heard v old new after said (stalls part same stays silent) = []
 
-abbrev pub answered_in_talk : (k : Setup) (place : ℕ) (heard : List Noted) (w : World) (before : SeatedVisitor) (v : World) (o : Option SeatedVisitor) (printed : List ℕ) → SessionTalks k false place heard w before v o printed → List Noted
-answered_in_talk k place heard w before v o printed g = answered_as (Meets k.config place) false (session_seat k place) heard before w g.mid g.speaks.spoken g.speaks.said g.speaks.goes
+abbrev pub answered_in_talk : (k : Setup) (place : ℕ) (heard : List Noted) (w : World) (before : SeatedVisitor) (v : World) (o : Option SeatedVisitor)
+    (printed : List ℕ) → SessionTalks k false place heard w before v o printed → List Noted
+answered_in_talk k place heard w before v o printed g = answered_as (Meets k.config place) false
+    (session_seat k place) heard before w g.mid g.speaks.spoken g.speaks.said g.speaks.goes
 
 -- one whose client is gone answers none
-abbrev pub answered_in_turn : (k : Setup) (place : ℕ) (heard : List Noted) (w : World) (before : SeatedVisitor) (v : World) (o : Option SeatedVisitor) (printed : List ℕ) → SessionGoes k false place heard w before v o printed → List Noted
+abbrev pub answered_in_turn : (k : Setup) (place : ℕ) (heard : List Noted) (w : World) (before : SeatedVisitor) (v : World) (o : Option SeatedVisitor)
+    (printed : List ℕ) → SessionGoes k false place heard w before v o printed → List Noted
 answered_in_turn k place heard w before v o printed (talks there g) = answered_in_talk k place heard w before v o printed g
 answered_in_turn k place heard w before v o printed (lingers gone stays same silent) = []
 
 abbrev pub answered_at_put : (k : Setup) (s : Scene) (seat : ℕ) (t : Scene) (printed : List ℕ) → PutPlay k false s seat t printed → List Noted
 answered_at_put k s seat t printed (connection_puts few p) = []
 answered_at_put k s seat t printed (session_puts place is p) =
-    answered_in_turn k place (p.moved.heard (session_seat k place)) p.moved (record { session = p.visitor.session; serial = p.visitor.serial; gone = p.visitor.gone; to_put = p.others }) p.later p.left printed p.goes
+    answered_in_turn k place (p.moved.heard (session_seat k place)) p.moved
+    (record { session = p.visitor.session; serial = p.visitor.serial; gone = p.visitor.gone; to_put = p.others }) p.later p.left printed p.goes
 
 abbrev pub answered_at_hear : (k : Setup) (s : Scene) (seat : ℕ) (t : Scene) (printed : List ℕ) → HearPlay k false s seat t printed → List Noted
 answered_at_hear k s seat t printed (connection_hears few p) = []
-answered_at_hear k s seat t printed (session_hears place is p) = answered_in_turn k place (p.moved.heard (session_seat k place)) p.moved p.visitor p.later p.left printed p.goes
+answered_at_hear k s seat t printed (session_hears place is p) =
+    answered_in_turn k place (p.moved.heard (session_seat k place)) p.moved p.visitor p.later p.left printed p.goes
 
 -- the verdict that a session answered at an event, where it did
 abbrev pub answered_at : (k : Setup) (s : Scene) (event : house.Event) (t : Scene) (printed : List ℕ) → Plays k false s event t printed → List Noted
 answered_at k s (Put number) t printed p = answered_at_put k s (seat_of number) t printed p
 answered_at k s (Hear number) t printed p = answered_at_hear k s (seat_of number) t printed p
 answered_at k s (Enter session user) t printed p =
-    answered_in_talk k (place_of session) (s.world.heard (session_seat k (place_of session))) s.world (seated_greeted (s.entered (place_of session)) (admitted_in k user.now) (folders_of k.directory user.now)) p.moved p.left printed p.goes
+    answered_in_talk k (place_of session) (s.world.heard (session_seat k (place_of session))) s.world
+    (seated_greeted (s.entered (place_of session)) (admitted_in k user.now) (folders_of k.directory user.now)) p.moved p.left printed p.goes
 answered_at k s (Say session piece) t printed p =
-    answered_in_talk k (place_of session) (s.world.heard (session_seat k (place_of session))) s.world (with_session (more_waits p.visitor.session piece.now) p.visitor) p.moved p.left printed p.goes
+    answered_in_talk k (place_of session) (s.world.heard (session_seat k (place_of session))) s.world
+    (with_session (more_waits p.visitor.session piece.now) p.visitor) p.moved p.left printed p.goes
 answered_at k s _ t printed p = []
 
 -- ---- in a whole record
@@ -68,7 +77,8 @@ answered_at k s _ t printed p = []
 -- all verdicts that sessions answered, in the order in which they did
 abbrev pub answered_by : (k : Setup) (entries : List Entry) (s t : Scene) → IsRecord k entries s t → List Noted
 answered_by k [] s t is = []
-answered_by k (entry ∷ entries) s t is = answered_at k s entry.event entry.after (text_of k entry.piece) is.0.plays ++ answered_by k entries entry.after t is.1
+answered_by k (entry ∷ entries) s t is = answered_at k s entry.event entry.after (text_of k entry.piece) is.0.plays
+    ++ answered_by k entries entry.after t is.1
 
 -- No verdict is told to sessions twice, and what they are told to be stored is kept.
 pub record AnswersOnce (k : Setup) (w : World) (answered : List Noted) : Type 0 where
@@ -78,9 +88,11 @@ pub record AnswersOnce (k : Setup) (w : World) (answered : List Noted) : Type 0 
   -- those of each seat are on messages in the order in which they were appended, none twice
   pub in_order : AllPairs (λ a b. a.key.seat ≡ b.key.seat → Below a.key b.key) answered
   -- and each that says that the message is stored under a UID is on a copy that stands in its mailbox's history exactly once, under that UID
-  pub stored : (uid : ℕ) (noted : Noted) → Contains answered noted → noted.verdict ≡ Stored uid → StandsOnce (pairs (w.box noted.mailbox).accepted) noted.key uid
+  pub stored : (uid : ℕ) (noted : Noted) → Contains answered noted → noted.verdict ≡ Stored uid
+      → StandsOnce (pairs (w.box noted.mailbox).accepted) noted.key uid
 
 -- of every record of a house
 abbrev pub SessionsAnswerOnce : Type 0
-SessionsAnswerOnce = (k : Setup) (entries : List Entry) (t : Scene) (steps : List WorldEvent) → IsWorld k.config steps t.world → (is : IsRecord k entries (empty_scene k) t)
+SessionsAnswerOnce = (k : Setup) (entries : List Entry) (t : Scene) (steps : List WorldEvent) → IsWorld k.config steps t.world
+    → (is : IsRecord k entries (empty_scene k) t)
     → AnswersOnce k t.world (answered_by k entries (empty_scene k) t is)

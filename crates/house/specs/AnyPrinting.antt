@@ -57,7 +57,8 @@ module _ (guest : Guest) where
   abbrev pub still_unsaid : List ℕ → SeatedVisitor guest → SeatedVisitor guest
   still_unsaid unsaid v = with_session (record { standing = v.session.standing; waits = v.session.waits; unsaid = unsaid }) v
 
-  module _ {S : Type 0} (step : S → guest.Call → guest.Answer → S → Type 0) (whole : Bool) (seat n : ℕ) (heard : List Noted) (before : SeatedVisitor guest) where
+  module _ {S : Type 0} (step : S → guest.Call → guest.Answer → S → Type 0) (whole : Bool) (seat n : ℕ) (heard : List Noted)
+      (before : SeatedVisitor guest) where
     -- The session at a seat, whose client is there, went on over a store as far as it could, by what its seat has heard, and this was printed.
     pub record Speaks (old new : S) (after : SeatedVisitor guest) (printed : List ℕ) : Type 0 where
       pub spoken : SeatedVisitor guest

@@ -28,8 +28,8 @@ abbrev pub most_serials : ℕ
 most_serials = 2 ^ 64 - 1
 
 module _ (peers : Peers) where
-  -- The world; which connection stands at each seat of connections, and the serial of the next one there; which session is at each place, and the serial of
-  -- the next one there; and of each shard whether it is shut: no new mail is taken for its mailboxes.
+  -- The world; which connection stands at each seat of connections, and the serial of the next one there; which session is at each place, and the
+  -- serial of the next one there; and of each shard whether it is shut: no new mail is taken for its mailboxes.
   pub record Scene : Type 0 where
     pub world : World
     pub caller : ℕ → Option (Caller peers.speech)
@@ -39,7 +39,14 @@ module _ (peers : Peers) where
     pub shut : List Bool
 
   abbrev pub empty_scene : Setup → Scene
-  empty_scene k = record { world = world.empty_world; caller = λ _. None; next = λ _. 0; visitor = λ _. None; entered = λ _. 0; shut = k.directory.shut }
+  empty_scene k = record {
+    world = world.empty_world;
+    caller = λ _. None;
+    next = λ _. 0;
+    visitor = λ _. None;
+    entered = λ _. 0;
+    shut = k.directory.shut;
+  }
 
   -- at this seat now stands this caller, or nobody
   abbrev pub with_caller : Scene → ℕ → Option (Caller peers.speech) → Scene
@@ -68,10 +75,12 @@ module _ (peers : Peers) where
     pub data BytesPlay (seat : ℕ) (piece : List ℕ) (t : Scene) (printed : List ℕ) : Type 0 where
       -- nobody stands there: a connection is opened first, with the seat's next serial
       opens : seat < k.connections → s.caller seat ≡ None → s.next seat < most_serials → (o : Option (Caller peers.speech))
-          → ConnectionGoes peers.speech (terms_of k s.shut) whole seat (s.world.heard seat) (more_waits peers.speech (greeted peers.speech (terms_of k s.shut) seat (s.next seat)) piece) o printed
+          → ConnectionGoes peers.speech (terms_of k s.shut) whole seat (s.world.heard seat)
+          (more_waits peers.speech (greeted peers.speech (terms_of k s.shut) seat (s.next seat)) piece) o printed
           → t ≡ record s { caller = set_at s.caller seat o; next = set_at s.next seat (s.next seat + 1) } → BytesPlay seat piece t printed
       goes_on : (b : Caller peers.speech) → s.caller seat ≡ Some b → b.gone ≡ false → (o : Option (Caller peers.speech))
-          → ConnectionGoes peers.speech (terms_of k s.shut) whole seat (s.world.heard seat) (more_waits peers.speech b piece) o printed → t ≡ with_caller s seat o → BytesPlay seat piece t printed
+          → ConnectionGoes peers.speech (terms_of k s.shut) whole seat (s.world.heard seat) (more_waits peers.speech b piece) o printed
+          → t ≡ with_caller s seat o → BytesPlay seat piece t printed
 
     -- the next copy of the message at hand is put
     pub record ConnectionPuts (seat : ℕ) (t : Scene) (printed : List ℕ) : Type 0 where
@@ -83,7 +92,8 @@ module _ (peers : Peers) where
       pub moved : World
       pub step : Step k.config s.world (world.Put seat (world.shard_of k.config copy.mailbox) copy) moved
       pub left : Option (Caller peers.speech)
-      pub goes : ConnectionGoes peers.speech (terms_of k s.shut) whole seat (moved.heard seat) (record { serial = caller.serial; gone = caller.gone; talk = caller.talk; to_put = others }) left printed
+      pub goes : ConnectionGoes peers.speech (terms_of k s.shut) whole seat (moved.heard seat)
+          (record { serial = caller.serial; gone = caller.gone; talk = caller.talk; to_put = others }) left printed
       pub after : t ≡ with_caller (with_world s moved) seat left
 
     -- its seat hears a verdict
@@ -120,8 +130,8 @@ module _ (peers : Peers) where
 
   -- The session at this place, which was so, in this world, by what its seat has heard.
   module _ (k : Setup) (whole : Bool) (place : ℕ) (heard : List Noted) (w : World) (before : SeatedVisitor peers.guest) where
-    -- The session at a place, whose client is there, does what it can now, by the mailboxes of the world and by what its seat has heard, and this is printed.
-    -- `whole` says that memory wasn't wanting.
+    -- The session at a place, whose client is there, does what it can now, by the mailboxes of the world and by what its seat has heard, and this is
+    -- printed. `whole` says that memory wasn't wanting.
     pub record SessionTalks (v : World) (o : Option (SeatedVisitor peers.guest)) (printed : List ℕ) : Type 0 where
       pub after : SeatedVisitor peers.guest
       pub mid : World
@@ -166,7 +176,8 @@ module _ (peers : Peers) where
       pub more : s.entered place < most_serials
       pub moved : World
       pub left : Option (SeatedVisitor peers.guest)
-      pub goes : SessionTalks k whole place (s.world.heard (session_seat k place)) s.world (seated_greeted peers.guest (s.entered place) (comes_in k user)) moved left printed
+      pub goes : SessionTalks k whole place (s.world.heard (session_seat k place)) s.world
+          (seated_greeted peers.guest (s.entered place) (comes_in k user)) moved left printed
       pub after : t ≡ record s { world = moved; visitor = set_at s.visitor place left; entered = set_at s.entered place (s.entered place + 1) }
 
     -- bytes came from a session's client: where it awaits a verdict they only wait
@@ -176,7 +187,8 @@ module _ (peers : Peers) where
       pub is_read : visitor.gone ≡ false
       pub moved : World
       pub left : Option (SeatedVisitor peers.guest)
-      pub goes : SessionTalks k whole place (s.world.heard (session_seat k place)) s.world (with_session peers.guest (session_more_waits peers.guest visitor.session piece) visitor) moved left printed
+      pub goes : SessionTalks k whole place (s.world.heard (session_seat k place)) s.world
+          (with_session peers.guest (session_more_waits peers.guest visitor.session piece) visitor) moved left printed
       pub after : t ≡ with_visitor (with_world s moved) place left
 
     -- A session that idles is shown what is pending. Where nothing is, there is no such play.
@@ -189,8 +201,8 @@ module _ (peers : Peers) where
       pub after : t ≡ with_visitor (with_world s moved) place left
 
   module _ (k : Setup) (s : Scene) where
-    -- A session's client is gone: what waited and what was still to be printed is dropped, and the session leaves its mailbox at once. Where it awaits a verdict,
-    -- its seat stays taken till that is heard.
+    -- A session's client is gone: what waited and what was still to be printed is dropped, and the session leaves its mailbox at once. Where it
+    -- awaits a verdict, its seat stays taken till that is heard.
     pub record LeavePlay (place : ℕ) (t : Scene) (printed : List ℕ) : Type 0 where
       pub visitor : SeatedVisitor peers.guest
       pub there : s.visitor place ≡ Some visitor
@@ -214,7 +226,8 @@ module _ (peers : Peers) where
       pub step : Step k.config s.world (world.Put (session_seat k place) (world.shard_of k.config copy.mailbox) copy) moved
       pub later : World
       pub left : Option (SeatedVisitor peers.guest)
-      pub goes : SessionGoes k whole place (moved.heard (session_seat k place)) moved (record { session = visitor.session; serial = visitor.serial; gone = visitor.gone; to_put = others }) later left printed
+      pub goes : SessionGoes k whole place (moved.heard (session_seat k place)) moved
+          (record { session = visitor.session; serial = visitor.serial; gone = visitor.gone; to_put = others }) later left printed
       pub after : t ≡ with_visitor (with_world s later) place left
 
     -- its seat hears a verdict
@@ -283,4 +296,5 @@ module _ (peers : Peers) where
     -- Some events happened, one after another, and each may have been cut short for want of memory.
     abbrev pub Happened : List Event → Scene → Scene → List ℕ → Type 0
     Happened [] s t printed = (t ≡ s) × (printed ≡ [])
-    Happened (event ∷ events) s t printed = (m : Scene) × (one : List ℕ) × (two : List ℕ) × Plays k false s event m one × Happened events m t two × (printed ≡ one ++ two)
+    Happened (event ∷ events) s t printed = (m : Scene) × (one : List ℕ) × (two : List ℕ) × Plays k false s event m one × Happened events m t two
+        × (printed ≡ one ++ two)

@@ -12,7 +12,8 @@ use Rattle.house.specs.Meets.{Meets}
 -- A Feed that showed changes: session n had entered a mailbox, it was shown as many as it was behind the log, at most so many, and it is behind
 -- by so many fewer.
 abbrev pub CatchesUp : ℕ → DeliveryCore → Call → Answer → DeliveryCore → Type 0
-CatchesUp n old (Feed limit) (Fed view changes) new = IsSome (client_of old n) × (length changes ≡ min limit (behind old n)) × (behind new n + length changes ≡ behind old n)
+CatchesUp n old (Feed limit) (Fed view changes) new = IsSome (client_of old n) × (length changes ≡ min limit (behind old n))
+    × (behind new n + length changes ≡ behind old n)
 CatchesUp n old call answer new = Unit {0}
 
 -- A call of the session that is served now, with its answer.

@@ -1,5 +1,5 @@
--- How much is left to do before nothing moves: bytes that wait to be taken, copies that are to be put, and what the delivery side has before it, the ends
--- that seats have not put yet among it.
+-- How much is left to do before nothing moves: bytes that wait to be taken, copies that are to be put, and what the delivery side has before it, the
+-- ends that seats have not put yet among it.
 use Rattle.std.specs.Prelude.{◌≡◌, ℕ, ◌+◌, ◌-◌, ◌<◌, Option, Some, None, slice_index_or, sum_by}
 use Rattle.delivery_core.specs.Changes.{Ends}
 use Rattle.delivery_core.specs.DeliveryCore.{behind}

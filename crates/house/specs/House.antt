@@ -5,8 +5,8 @@ use Rattle.delivery_core.specs.DeliveryCore.{DeliveryCore}
 use Rattle.house_peers.specs.HouseConnection.{HouseConnection}
 use Rattle.house_peers.specs.SeatedSession.{SeatedSession}
 
--- The delivery core; which connection stands at each of the first seats, and the serial of the next one there; which session is at each place, and the serial
--- of the next one there; and what is settled.
+-- The delivery core; which connection stands at each of the first seats, and the serial of the next one there; which session is at each place, and
+-- the serial of the next one there; and what is settled.
 pub record House : Type 0 where
   pub core : DeliveryCore
   pub callers : List (Option HouseConnection)

@@ -24,7 +24,8 @@ module _ (peers : Peers) where
   -- All that is asked of what sessions speak: they say whole lines, and what they do to a world is events of that world.
   pub record AreGuests : Type 0 where
     pub greets : (coming : peers.guest.Coming) → AreLines (peers.guest.greeting coming)
-    pub meets : (k : Config) (place : ℕ) (w : World) (call : peers.guest.Call) (answer : peers.guest.Answer) (v : World) → peers.Meets k place w call answer v → Reached k w v
+    pub meets : (k : Config) (place : ℕ) (w : World) (call : peers.guest.Call) (answer : peers.guest.Answer) (v : World)
+        → peers.Meets k place w call answer v → Reached k w v
     pub answers : (k : Config) (place : ℕ) (at next : peers.guest.At) (waits still said : List ℕ) (w v : World)
         → peers.guest.Answers (peers.Meets k place) at waits w v next still said → AreLines said × Reached k w v
     pub hears : (k : Config) (place : ℕ) (at next : peers.guest.At) (verdict : Verdict) (how : peers.guest.After) (said : List ℕ) (w v : World)

@@ -17,10 +17,12 @@ Leaves = any.Leaves lmtp
 abbrev pub ConnectionGoes : (k : Terms) (whole : Bool) (seat : ℕ) (heard : List Noted) (b : Caller) (o : Option Caller) (printed : List ℕ) → Type 0
 ConnectionGoes = any.ConnectionGoes lmtp
 
-abbrev pub Speaks : {S : Type 0} (step : S → Call → Answer → S → Type 0) (whole : Bool) (seat n : ℕ) (heard : List Noted) (before : SeatedVisitor) (old new : S) (after : SeatedVisitor) (printed : List ℕ) → Type 0
+abbrev pub Speaks : {S : Type 0} (step : S → Call → Answer → S → Type 0) (whole : Bool) (seat n : ℕ) (heard : List Noted) (before : SeatedVisitor)
+    (old new : S) (after : SeatedVisitor) (printed : List ℕ) → Type 0
 Speaks step whole seat n heard before old new after printed = any.Speaks imap step whole seat n heard before old new after printed
 
-abbrev pub Idles : {S : Type 0} (step : S → Call → Answer → S → Type 0) (n : ℕ) (before : Visitor) (old new : S) (after : Visitor) (count : ℕ) (printed : List ℕ) → Type 0
+abbrev pub Idles : {S : Type 0} (step : S → Call → Answer → S → Type 0) (n : ℕ) (before : Visitor) (old new : S) (after : Visitor) (count : ℕ)
+    (printed : List ℕ) → Type 0
 Idles step n before old new after count printed = any.Idles imap step n before old new after count printed
 
 abbrev pub IsWhole : (v : Visitor) → Type 0

@@ -56,16 +56,19 @@ VanishPlay = any.VanishPlay lmtp_and_imap
 abbrev pub Parts : (k : Setup) (whole : Bool) (place : ℕ) (after : SeatedVisitor) (w v : World) (o : Option SeatedVisitor) → Type 0
 Parts = any.Parts lmtp_and_imap
 
-abbrev pub SessionTalks : (k : Setup) (whole : Bool) (place : ℕ) (heard : List Noted) (w : World) (before : SeatedVisitor) (v : World) (o : Option SeatedVisitor) (printed : List ℕ) → Type 0
+abbrev pub SessionTalks : (k : Setup) (whole : Bool) (place : ℕ) (heard : List Noted) (w : World) (before : SeatedVisitor) (v : World)
+    (o : Option SeatedVisitor) (printed : List ℕ) → Type 0
 SessionTalks = any.SessionTalks lmtp_and_imap
 
 abbrev pub Lingers : (seat : ℕ) (heard : List Noted) (v : SeatedVisitor) (o : Option SeatedVisitor) → Type 0
 Lingers = any.Lingers lmtp_and_imap
 
-abbrev pub SessionGoes : (k : Setup) (whole : Bool) (place : ℕ) (heard : List Noted) (w : World) (before : SeatedVisitor) (v : World) (o : Option SeatedVisitor) (printed : List ℕ) → Type 0
+abbrev pub SessionGoes : (k : Setup) (whole : Bool) (place : ℕ) (heard : List Noted) (w : World) (before : SeatedVisitor) (v : World)
+    (o : Option SeatedVisitor) (printed : List ℕ) → Type 0
 SessionGoes = any.SessionGoes lmtp_and_imap
 
-abbrev pub SessionIdles : (k : Setup) (whole : Bool) (place : ℕ) (w : World) (before : SeatedVisitor) (v : World) (o : Option SeatedVisitor) (printed : List ℕ) → Type 0
+abbrev pub SessionIdles : (k : Setup) (whole : Bool) (place : ℕ) (w : World) (before : SeatedVisitor) (v : World) (o : Option SeatedVisitor)
+    (printed : List ℕ) → Type 0
 SessionIdles = any.SessionIdles lmtp_and_imap
 
 abbrev pub EnterPlay : (k : Setup) (whole : Bool) (s : Scene) (place : ℕ) (user : List ℕ) (t : Scene) (printed : List ℕ) → Type 0

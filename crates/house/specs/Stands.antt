@@ -18,27 +18,31 @@ use Rattle.house_peers.specs.SeatedSession.{SeatedSession, StandsForSeated}
 abbrev pub first_of : (seat serial : ℕ) → CopyKey
 first_of seat serial = record { seat = seat; serial = serial; message = 0; recipient = 0 }
 
--- which connection stands at a seat
-abbrev pub StandsForOne : Terms → ℕ → CopyKey → List Noted → ℕ → Option HouseConnection → Option Caller → Type 0
-StandsForOne k seat next heard serials None None = AtLeast next (first_of seat serials)
-StandsForOne k seat next heard serials None (Some b) = ⊥
-StandsForOne k seat next heard serials (Some h) None = ⊥
-StandsForOne k seat next heard serials (Some h) (Some b) = StandsForConnection k seat next heard h b × (b.serial < serials)
+module _ (k : Terms) (seat : ℕ) (next : CopyKey) (heard : List Noted) where
+  -- which connection stands at a seat
+  abbrev pub StandsForOne : ℕ → Option HouseConnection → Option Caller → Type 0
+  StandsForOne serials None None = AtLeast next (first_of seat serials)
+  StandsForOne serials None (Some b) = ⊥
+  StandsForOne serials (Some h) None = ⊥
+  StandsForOne serials (Some h) (Some b) = StandsForConnection k seat next heard h b × (b.serial < serials)
 
--- which session is at a seat
-abbrev pub StandsForVisit : (seat : ℕ) → CopyKey → List Noted → ℕ → Option SeatedSession → Option SeatedVisitor → Type 0
-StandsForVisit seat next heard serials None None = AtLeast next (first_of seat serials)
-StandsForVisit seat next heard serials None (Some v) = ⊥
-StandsForVisit seat next heard serials (Some p) None = ⊥
-StandsForVisit seat next heard serials (Some p) (Some v) = StandsForSeated seat next heard p v × (v.serial < serials)
+module _ (seat : ℕ) (next : CopyKey) (heard : List Noted) where
+  -- which session is at a seat
+  abbrev pub StandsForVisit : ℕ → Option SeatedSession → Option SeatedVisitor → Type 0
+  StandsForVisit serials None None = AtLeast next (first_of seat serials)
+  StandsForVisit serials None (Some v) = ⊥
+  StandsForVisit serials (Some p) None = ⊥
+  StandsForVisit serials (Some p) (Some v) = StandsForSeated seat next heard p v × (v.serial < serials)
 
-pub record StandsForSeat (k : Setup) (s : Scene) (seat : ℕ) (next : CopyKey) (serials : ℕ) (line : Option HouseConnection) : Type 0 where
-  pub counted : serials ≡ s.next seat
-  pub who : StandsForOne (terms_of k s.shut) seat next (s.world.heard seat) (s.next seat) line (s.caller seat)
+module _ (k : Setup) (s : Scene) (seat : ℕ) where
+  pub record StandsForSeat (next : CopyKey) (serials : ℕ) (line : Option HouseConnection) : Type 0 where
+    pub counted : serials ≡ s.next seat
+    pub who : StandsForOne (terms_of k s.shut) seat next (s.world.heard seat) (s.next seat) line (s.caller seat)
 
-pub record StandsForPlace (k : Setup) (s : Scene) (place : ℕ) (next : CopyKey) (serials : ℕ) (visitor : Option SeatedSession) : Type 0 where
-  pub counted : serials ≡ s.entered place
-  pub who : StandsForVisit (session_seat k place) next (s.world.heard (session_seat k place)) (s.entered place) visitor (s.visitor place)
+module _ (k : Setup) (s : Scene) (place : ℕ) where
+  pub record StandsForPlace (next : CopyKey) (serials : ℕ) (visitor : Option SeatedSession) : Type 0 where
+    pub counted : serials ≡ s.entered place
+    pub who : StandsForVisit (session_seat k place) next (s.world.heard (session_seat k place)) (s.entered place) visitor (s.visitor place)
 
 -- the house stands for a scene
 pub record StandsFor (k : Setup) (h : House) (s : Scene) : Type 0 where
@@ -61,4 +65,5 @@ pub record StandsFor (k : Setup) (h : House) (s : Scene) : Type 0 where
   pub places : length h.visitors ≡ k.config.sessions
   pub entries : length h.entered ≡ k.config.sessions
   pub visitors : (place : ℕ) (y : CopyKey) (n : ℕ) (d : Option SeatedSession) → place < length h.visitors
-      → StandsForPlace k s place (slice_index_or h.core.next (session_seat k place) y) (slice_index_or h.entered place n) (slice_index_or h.visitors place d)
+      → StandsForPlace k s place (slice_index_or h.core.next (session_seat k place) y) (slice_index_or h.entered place n)
+      (slice_index_or h.visitors place d)

@@ -86,7 +86,8 @@ IsNoNumber h number = (number ≡ 0) ⊎ ((length h.callers + length h.visitors 
 
 -- whether the connection or the session of a seat is there
 abbrev pub is_taken : House → (seat : ℕ) → Bool
-is_taken h seat = if nat_lt seat (length h.callers) then is_some (slice_index_or h.callers seat None) else is_some (slice_index_or h.visitors (seat - length h.callers) None)
+is_taken h seat = if nat_lt seat (length h.callers) then is_some (slice_index_or h.callers seat None)
+    else is_some (slice_index_or h.visitors (seat - length h.callers) None)
 
 -- it isn't
 abbrev pub IsVacant : House → ℕ → Type 0
@@ -146,7 +147,8 @@ Follows before event h old new = (k : Setup) (s : Scene) → StandsFor k before 
 
 -- Where memory was wanting: the event was cut short, or nothing happened.
 abbrev pub FollowsInPart : House → Event → House → List ℕ → List ℕ → Type 0
-FollowsInPart before event h old new = (k : Setup) (s : Scene) → StandsFor k before s → Led k false s event h old new ⊎ (StandsFor k h s × (new ≡ old))
+FollowsInPart before event h old new = (k : Setup) (s : Scene) → StandsFor k before s → Led k false s event h old new
+    ⊎ (StandsFor k h s × (new ≡ old))
 
 -- What the house does by itself opens and shuts no shard.
 abbrev pub KeepsMarks : Event → House → House → Type 0
@@ -194,7 +196,8 @@ due_of None = []
 due_of (Some p) = seat.due p
 
 abbrev pub due_at : House → (seat : ℕ) → List Job
-due_at h seat = if nat_lt seat (length h.callers) then due_by (slice_index_or h.callers seat None) else due_of (slice_index_or h.visitors (seat - length h.callers) None)
+due_at h seat = if nat_lt seat (length h.callers) then due_by (slice_index_or h.callers seat None)
+    else due_of (slice_index_or h.visitors (seat - length h.callers) None)
 
 -- the delivery side took this copy, and told at once what was heard of it
 pub record CorePuts (old : DeliveryCore) (c : Job) (new : DeliveryCore) (why : Option Refusal) : Type 0 where
@@ -239,7 +242,8 @@ caller_at h connection = slice_index_or h.callers (seat_of connection) None
 abbrev pub visitor_at : House → (session : ℕ) → Option SeatedSession
 visitor_at h session = slice_index_or h.visitors (place_of session) None
 
--- Who goes on may want memory where there was something to be done, or where something was said that couldn't be printed: so of a connection, and of a session.
+-- Who goes on may want memory where there was something to be done, or where something was said that couldn't be printed: so of a connection, and of
+-- a session.
 pub data CallerWants (old new : Option HouseConnection) : Type 0 where
   caller_works : (h : HouseConnection) → old ≡ Some h → HasWork h → CallerWants old new
   caller_unprinted : (h : HouseConnection) → new ≡ Some h → 0 < length h.unsaid → CallerWants old new
@@ -248,9 +252,9 @@ pub data VisitorWants (old new : Option SeatedSession) : Type 0 where
   visitor_works : (p : SeatedSession) → old ≡ Some p → seat.HasWork p → VisitorWants old new
   visitor_unprinted : (p : SeatedSession) → new ≡ Some p → 0 < length p.place.unsaid → VisitorWants old new
 
--- When an event may be refused for want of memory. A take, a delivery, an answer, an end, a close, a leave and a peer that is gone ask for none. A put and a hearing ask before
--- anything is done for the room of one note alone, and an idling session for what there is to show. Bytes ask for it where a connection is opened for them, where there are any,
--- and else only where whoever they are for goes on.
+-- When an event may be refused for want of memory. A take, a delivery, an answer, an end, a close, a leave and a peer that is gone ask for none. A
+-- put and a hearing ask before anything is done for the room of one note alone, and an idling session for what there is to show. Bytes ask for it
+-- where a connection is opened for them, where there are any, and else only where whoever they are for goes on.
 abbrev pub MayWant : Event → House → House → Type 0
 MayWant (Take shard) old new = ⊥
 MayWant (Deliver shard) old new = ⊥
@@ -261,7 +265,9 @@ MayWant (Leave session) old new = ⊥
 MayWant (Vanish connection) old new = ⊥
 MayWant (Put number) old new = MayWantToPut (due_at old (seat_of number)) old.core new.core
 MayWant (Hear number) old new = HasNoRoom old.core (seat_of number) ⊎ ((r : Noted) × Hears old.core new.core (seat_of number) (r ∷ []))
-MayWant (Idle session) old new = (p : SeatedSession) × (slice_index_or old.visitors (place_of session) None ≡ Some p) × MayIdle p (place_of session) old.core
-MayWant (Bytes connection piece) old new = IsEmptySeat old connection ⊎ ((0 < length piece.now) ⊎ CallerWants (caller_at old connection) (caller_at new connection))
+MayWant (Idle session) old new = (p : SeatedSession) × (slice_index_or old.visitors (place_of session) None ≡ Some p)
+    × MayIdle p (place_of session) old.core
+MayWant (Bytes connection piece) old new = IsEmptySeat old connection
+    ⊎ ((0 < length piece.now) ⊎ CallerWants (caller_at old connection) (caller_at new connection))
 MayWant (Enter session user) old new = Unit {0}
 MayWant (Say session piece) old new = (0 < length piece.now) ⊎ VisitorWants (visitor_at old session) (visitor_at new session)

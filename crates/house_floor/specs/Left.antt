@@ -43,7 +43,8 @@ IsPostLeft lanes post = vec_len post.desk.permits + vec_len post.room ≤ lanes
 abbrev pub IsStandLeft : {B : Type 0} → ℕ → Stand B → Type 0
 IsStandLeft producers stand = (vec_len stand.stall.senders ≤ producers) × (stand.room.items ≡ [])
 
--- However the threads were started: of each producer there is what it left or its post, of each consumer what it left or its stand, and none has more permits than it was dealt.
+-- However the threads were started: of each producer there is what it left or its post, of each consumer what it left or its stand, and none has more
+-- permits than it was dealt.
 pub record IsSpendable {B : Type 0} (floor : Floor B) (producers : ℕ) (ran : Ran B) : Type 0 where
   pub each_producer : vec_len ran.posts + vec_len ran.worked ≡ producers
   pub each_lane : vec_len ran.stands + vec_len ran.consumed ≡ length floor.office.lanes.items

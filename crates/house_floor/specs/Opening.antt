@@ -14,7 +14,8 @@ use Rattle.house_floor.specs.declared.stock.Spares.{Spares}
 abbrev pub reply_room : ℕ
 reply_room = 128
 
--- How much room the reply channel of each producer has, the workers first. A session awaits one verdict at a time: it has room for that and for each shard's end.
+-- How much room the reply channel of each producer has, the workers first. A session awaits one verdict at a time: it has room for that and for each
+-- shard's end.
 abbrev pub reply_rooms : (producers sessions shards : ℕ) → List ℕ
 reply_rooms producers sessions shards = replicate (producers - sessions) reply_room ++ replicate (producers - (producers - sessions)) (shards + 1)
 

@@ -98,7 +98,12 @@ module _ (speech : Speech) where
 
   -- a new connection at a seat, which is greeted
   abbrev pub greeted : Terms → ℕ → ℕ → Caller
-  greeted k seat serial = meets k seat (record { serial = serial; gone = false; to_put = []; talk = record { at = speech.opened; waits = []; unsaid = []; pending = [] } }) Opened
+  greeted k seat serial = meets k seat (record {
+    serial = serial;
+    gone = false;
+    to_put = [];
+    talk = record { at = speech.opened; waits = []; unsaid = []; pending = [] };
+  }) Opened
 
   -- so much of what it said is still to be printed
   abbrev pub with_unsaid : List ℕ → Caller → Caller
@@ -115,14 +120,17 @@ module _ (speech : Speech) where
     pub data GoesOn (heard : List Noted) (b : Caller) (what : What) (after : Caller) : Type 0 where
       works : b.talk.pending ≡ [] → Works k whole seat b what after → GoesOn heard b what after
       waits : 0 < length b.talk.pending → ((vs : List Verdict) → IsAnswered heard b vs → ⊥) → what ≡ Submit → after ≡ b → GoesOn heard b what after
-      answers : (vs : List Verdict) → 0 < length b.talk.pending → IsAnswered heard b vs → Works k whole seat (meets k seat b (Answered vs)) what after → GoesOn heard b what after
+      answers : (vs : List Verdict) → 0 < length b.talk.pending → IsAnswered heard b vs → Works k whole seat (meets k seat b (Answered vs)) what after
+          → GoesOn heard b what after
       -- memory was refused before anything was said
       stalls : whole ≡ false → what ≡ More → after ≡ b → GoesOn heard b what after
 
-    -- It does what it can now: it goes on; or, where its peer is gone, it has nothing to say, and is done as soon as every copy was put and each verdict is heard.
+    -- It does what it can now: it goes on; or, where its peer is gone, it has nothing to say, and is done as soon as every copy was put and each
+    -- verdict is heard.
     pub data Proceeds (heard : List Noted) (b : Caller) (what : What) (after : Caller) : Type 0 where
       talks : b.gone ≡ false → GoesOn heard b what after → Proceeds heard b what after
-      lingers : b.gone ≡ true → b.talk.unsaid ≡ [] → ((vs : List Verdict) → IsAnswered heard b vs → ⊥) → what ≡ Submit → after ≡ b → Proceeds heard b what after
+      lingers : b.gone ≡ true → b.talk.unsaid ≡ [] → ((vs : List Verdict) → IsAnswered heard b vs → ⊥) → what ≡ Submit → after ≡ b
+          → Proceeds heard b what after
       fades : (vs : List Verdict) → b.gone ≡ true → b.talk.unsaid ≡ [] → IsAnswered heard b vs → what ≡ Quit → after ≡ b → Proceeds heard b what after
 
   -- the peer is gone: what waited and what was still to be printed is dropped

@@ -1,4 +1,5 @@
--- A session at its seat, whatever it speaks, and what it does by itself with the bytes that came and the verdict that was heard: the messages that it submits go through a lane as copies.
+-- A session at its seat, whatever it speaks, and what it does by itself with the bytes that came and the verdict that was heard: the messages that it
+-- submits go through a lane as copies.
 use Rattle.std.specs.Prelude.{◌≡◌, ◌⊎◌, ℕ, Bool, true, false, List, [], ◌∷◌, ◌++◌, Option, Some, None}
 use Rattle.std.specs.Option.{is_some}
 use Rattle.delivery_token.specs.declared.CopyKey.{CopyKey}
@@ -23,8 +24,8 @@ module _ (guest : Guest) where
   abbrev pub session_more_waits : Visitor → List ℕ → Visitor
   session_more_waits v piece = record { standing = v.standing; waits = v.waits ++ piece; unsaid = v.unsaid }
 
-  -- The session; the serial of its keys; whether its client is gone, in which case nothing more comes, nothing more is said, and it only waits for its verdict;
-  -- and the copy of the message that it submitted, where that is still to be put.
+  -- The session; the serial of its keys; whether its client is gone, in which case nothing more comes, nothing more is said, and it only waits for
+  -- its verdict; and the copy of the message that it submitted, where that is still to be put.
   pub record SeatedVisitor : Type 0 where
     pub session : Visitor
     pub serial : ℕ
@@ -72,14 +73,20 @@ module _ (guest : Guest) where
 
   -- the verdict was answered, and the session stands so
   abbrev pub told : SeatedVisitor → guest.At → SeatedVisitor
-  told v next = record { session = record { standing = next; waits = v.session.waits; unsaid = v.session.unsaid }; serial = v.serial; gone = v.gone; to_put = [] }
+  told v next = record {
+    session = record { standing = next; waits = v.session.waits; unsaid = v.session.unsaid };
+    serial = v.serial;
+    gone = v.gone;
+    to_put = [];
+  }
 
   module _ {S : Type 0} (step : S → guest.Call → guest.Answer → S → Type 0) (whole : Bool) (seat : ℕ) (heard : List Noted) (v : SeatedVisitor) where
-    -- It goes on over a store as far as it can, by what its seat has heard: where a verdict is awaited it waits for that, and answers it; then it answers what waits.
-    -- Where its session has ended nothing is answered.
+    -- It goes on over a store as far as it can, by what its seat has heard: where a verdict is awaited it waits for that, and answers it; then it
+    -- answers what waits. Where its session has ended nothing is answered.
     pub data GoesOn (old new : S) (after : SeatedVisitor) (said : List ℕ) : Type 0 where
       works : sent_by v ≡ None → Works step seat v old new after said → GoesOn old new after said
-      answers : (verdict : Verdict) (mid : S) (first second : List ℕ) (how : guest.After) (next : guest.At) → guest.ended v.session.standing ≡ false → IsAnswered seat heard v verdict → guest.Hears step v.session.standing verdict old mid first how next
+      answers : (verdict : Verdict) (mid : S) (first second : List ℕ) (how : guest.After) (next : guest.At) → guest.ended v.session.standing ≡ false
+          → IsAnswered seat heard v verdict → guest.Hears step v.session.standing verdict old mid first how next
           → Works step seat (told v next) mid new after second → said ≡ first ++ second → GoesOn old new after said
       waits : Awaits seat heard v → new ≡ old → after ≡ v → said ≡ [] → GoesOn old new after said
       -- its session has ended

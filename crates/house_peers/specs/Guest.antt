@@ -26,8 +26,8 @@ pub record Guest : Type 1 where
   pub Call : Type 0
   pub Answer : Type 0
   pub leave : Call
-  -- Over any store this was said: some of the bytes that waited were answered, and these wait still; the verdict was, behind which it may await another; and it had a turn while
-  -- it idles, which showed so many changes.
+  -- Over any store this was said: some of the bytes that waited were answered, and these wait still; the verdict was, behind which it may await
+  -- another; and it had a turn while it idles, which showed so many changes.
   pub After : Type 0
   pub Answers : {S : Type 0} → (S → Call → Answer → S → Type 0) → At → (waits : List ℕ) → S → S → At → (still said : List ℕ) → Type 0
   pub Hears : {S : Type 0} → (S → Call → Answer → S → Type 0) → At → Verdict → S → S → (said : List ℕ) → After → At → Type 0

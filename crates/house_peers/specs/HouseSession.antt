@@ -34,7 +34,8 @@ abbrev pub with_all_said : HouseSession → HouseSession
 with_all_said p = record { link = p.link; came = p.came; unsaid = [] }
 
 -- From this visitor its place answered what waited, and nothing of that is printed yet.
-pub record Answered {S : Type 0} (step : S → Call → Answer → S → Type 0) (whole : Bool) (before : Visitor) (old new : S) (p : HouseSession) : Type 0 where
+pub record Answered {S : Type 0} (step : S → Call → Answer → S → Type 0) (whole : Bool) (before : Visitor) (old new : S)
+    (p : HouseSession) : Type 0 where
   pub after : Visitor
   pub said : List ℕ
   pub answers : Answers step before old new after said
@@ -56,7 +57,8 @@ pub record Turned {S : Type 0} (step : S → Call → Answer → S → Type 0) (
   pub stands : StandsFor p after
 
 -- From this visitor the verdict on its message was answered over a store, and nothing of that is printed yet.
-pub record AnsweredVerdict {S : Type 0} (step : S → Call → Answer → S → Type 0) (verdict : Verdict) (before : Visitor) (old new : S) (p : HouseSession) : Type 0 where
+pub record AnsweredVerdict {S : Type 0} (step : S → Call → Answer → S → Type 0) (verdict : Verdict) (before : Visitor) (old new : S)
+    (p : HouseSession) : Type 0 where
   pub after : Visitor
   pub said : List ℕ
   pub how : After

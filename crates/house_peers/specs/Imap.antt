@@ -9,12 +9,13 @@ use Rattle.imap_session.specs.Dialogue.{Converses, Sends, may_follow, spelled}
 use Rattle.imap_session.specs.Folders.{admission_of, folders_of}
 use Rattle.house_peers.specs.Guest.{Guest}
 
--- some of the bytes that waited were answered over a store, in their order, and this was said
-pub record AnswersBytes {S : Type 0} (step : S → Call → Answer → S → Type 0) (at : Standing) (waits : List ℕ) (old new : S) (next : Standing) (still said : List ℕ) : Type 0 where
-  pub sent : List Sends
-  pub how : After
-  pub waited : waits ≡ flat_map spelled sent ++ still
-  pub converses : Converses step at sent old new said how next
+module _ {S : Type 0} (step : S → Call → Answer → S → Type 0) (at : Standing) (waits : List ℕ) (old new : S) where
+  -- some of the bytes that waited were answered over a store, in their order, and this was said
+  pub record AnswersBytes (next : Standing) (still said : List ℕ) : Type 0 where
+    pub sent : List Sends
+    pub how : After
+    pub waited : waits ≡ flat_map spelled sent ++ still
+    pub converses : Converses step at sent old new said how next
 
 abbrev pub imap : Guest
 imap = record {

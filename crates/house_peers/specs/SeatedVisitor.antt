@@ -33,19 +33,22 @@ IsSettled = any.IsSettled imap
 abbrev pub seated_greeted : (serial : ℕ) → Admission → List Folder → SeatedVisitor
 seated_greeted serial admission folders = any.seated_greeted imap serial (admission, folders)
 
-abbrev pub Works : {S : Type 0} (step : S → Call → Answer → S → Type 0) (seat : ℕ) (v : SeatedVisitor) (old new : S) (after : SeatedVisitor) (said : List ℕ) → Type 0
+abbrev pub Works : {S : Type 0} (step : S → Call → Answer → S → Type 0) (seat : ℕ) (v : SeatedVisitor) (old new : S) (after : SeatedVisitor)
+    (said : List ℕ) → Type 0
 Works step seat v old new after said = any.Works imap step seat v old new after said
 
 abbrev pub told : SeatedVisitor → Standing → SeatedVisitor
 told = any.told imap
 
-abbrev pub GoesOn : {S : Type 0} (step : S → Call → Answer → S → Type 0) (whole : Bool) (seat : ℕ) (heard : List Noted) (v : SeatedVisitor) (old new : S) (after : SeatedVisitor) (said : List ℕ) → Type 0
+abbrev pub GoesOn : {S : Type 0} (step : S → Call → Answer → S → Type 0) (whole : Bool) (seat : ℕ) (heard : List Noted) (v : SeatedVisitor)
+    (old new : S) (after : SeatedVisitor) (said : List ℕ) → Type 0
 GoesOn step whole seat heard v old new after said = any.GoesOn imap step whole seat heard v old new after said
 
 abbrev pub unread : SeatedVisitor → SeatedVisitor
 unread = any.unread imap
 
 -- It does what it can now. Where its client is gone that is nothing: it is done as soon as no verdict is awaited, or the one that is was heard.
-pub data Proceeds {S : Type 0} (step : S → Call → Answer → S → Type 0) (whole : Bool) (seat : ℕ) (heard : List Noted) (v : SeatedVisitor) (old new : S) (after : SeatedVisitor) (said : List ℕ) : Type 0 where
+pub data Proceeds {S : Type 0} (step : S → Call → Answer → S → Type 0) (whole : Bool) (seat : ℕ) (heard : List Noted) (v : SeatedVisitor)
+    (old new : S) (after : SeatedVisitor) (said : List ℕ) : Type 0 where
   talks : v.gone ≡ false → GoesOn step whole seat heard v old new after said → Proceeds step whole seat heard v old new after said
   lingers : v.gone ≡ true → new ≡ old → after ≡ v → said ≡ [] → Proceeds step whole seat heard v old new after said

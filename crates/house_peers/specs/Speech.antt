@@ -47,13 +47,18 @@ module _ (speech : Speech) where
   AreQuiet [] = Unit {0}
   AreQuiet (reply ∷ replies) = (reply ≢ speech.delivered) × AreQuiet replies
 
-  -- All that is asked of a dialogue: only to verdicts it says that a copy was delivered; it says none of them, or each in its order; and it numbers its messages.
+  -- All that is asked of a dialogue: only to verdicts it says that a copy was delivered; it says none of them, or each in its order; and it numbers
+  -- its messages.
   pub record IsSpeech : Type 0 where
     pub greets : (setting : Setting) (directory : Directory) → AreQuiet (speech.said setting directory speech.opened Opened)
-        × speech.Kept (length directory.homes) (speech.moved setting directory speech.opened Opened) × (speech.count (speech.moved setting directory speech.opened Opened) ≡ 0)
+        × speech.Kept (length directory.homes) (speech.moved setting directory speech.opened Opened)
+        × (speech.count (speech.moved setting directory speech.opened Opened) ≡ 0)
     pub talks : (setting : Setting) (directory : Directory) (before : speech.At) (taken : List ℕ) (turn : speech.Turn) (after : speech.At)
         → speech.Leads setting directory before taken turn after → speech.Kept (length directory.homes) before
-        → AreQuiet (speech.replies turn) × speech.Kept (length directory.homes) after × AreNumbered setting (speech.count before) (speech.submissions turn) (speech.count after)
+        → AreQuiet (speech.replies turn) × speech.Kept (length directory.homes) after
+        × AreNumbered setting (speech.count before) (speech.submissions turn) (speech.count after)
     pub answers : (setting : Setting) (directory : Directory) (at : speech.At) (verdicts : List Verdict) → speech.Kept (length directory.homes) at
-        → ((speech.said setting directory at (Answered verdicts) ≡ []) ⊎ (speech.said setting directory at (Answered verdicts) ≡ map speech.telling verdicts))
-        × speech.Kept (length directory.homes) (speech.moved setting directory at (Answered verdicts)) × (speech.count (speech.moved setting directory at (Answered verdicts)) ≡ speech.count at)
+        → ((speech.said setting directory at (Answered verdicts) ≡ [])
+        ⊎ (speech.said setting directory at (Answered verdicts) ≡ map speech.telling verdicts))
+        × speech.Kept (length directory.homes) (speech.moved setting directory at (Answered verdicts))
+        × (speech.count (speech.moved setting directory at (Answered verdicts)) ≡ speech.count at)

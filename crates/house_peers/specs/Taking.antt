@@ -43,7 +43,14 @@ with_all_said h = record { serial = h.serial; gone = h.gone; machine = h.machine
 
 -- these bytes came and wait
 abbrev pub with_more : List ℕ → HouseConnection → HouseConnection
-with_more piece h = record { serial = h.serial; gone = h.gone; machine = h.machine; waits = h.waits ++ piece; unsaid = h.unsaid; verdicts = h.verdicts }
+with_more piece h = record {
+  serial = h.serial;
+  gone = h.gone;
+  machine = h.machine;
+  waits = h.waits ++ piece;
+  unsaid = h.unsaid;
+  verdicts = h.verdicts;
+}
 
 -- the next copy was put, and this was heard of it at once
 abbrev pub noted_put : Option Verdict → HouseConnection → HouseConnection

@@ -266,7 +266,8 @@ status_answer name items s =
 pub data Glob : List ℕ → List ℕ → Type 0 where
   end : Glob [] []
   any : {pattern rest : List ℕ} (front : List ℕ) {name : List ℕ} → name ≡ front ++ rest → Glob pattern rest → Glob (42 ∷ pattern) name
-  level : {pattern rest : List ℕ} (front : List ℕ) {name : List ℕ} → name ≡ front ++ rest → Many is_not_slash front → Glob pattern rest → Glob (37 ∷ pattern) name
+  level : {pattern rest : List ℕ} (front : List ℕ) {name : List ℕ} → name ≡ front ++ rest → Many is_not_slash front → Glob pattern rest
+      → Glob (37 ∷ pattern) name
   same : {b : ℕ} {pattern name : List ℕ} → b ≢ 42 → b ≢ 37 → Glob pattern name → Glob (b ∷ pattern) (b ∷ name)
 
 -- the test passes on what is left after some bytes of the class

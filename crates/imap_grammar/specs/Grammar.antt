@@ -111,7 +111,8 @@ FieldName word text = Exactly word text × (Some1 is_field_byte text ⊎ QuotedF
 abbrev pub PartIs : BodyPart → Rule
 PartIs (parts.Section section) = Keyword (section_word section)
 PartIs (parts.Fields others names) =
-    Keyword (if others then codes "HEADER.FIELDS.NOT (" else codes "HEADER.FIELDS (") ⨾ Separated (Exactly (codes " ")) FieldName names ⨾ Exactly (codes ")")
+    Keyword (if others then codes "HEADER.FIELDS.NOT (" else codes "HEADER.FIELDS (") ⨾ Separated (Exactly (codes " ")) FieldName names ⨾ Exactly
+    (codes ")")
 
 -- a number up to the greatest signed one of 64 bits
 abbrev pub Number63 : ℕ → Rule
@@ -169,7 +170,8 @@ FlagWords words text = Separated Gap FlagWord words text ⊎ ((words ≡ []) × 
 
 -- flags in parentheses, and none of them too, or one or more without parentheses
 abbrev pub FlagsAre : Flags → Rule
-FlagsAre flags text = (words : List (List ℕ)) × (flags_among words ≡ flags) × (Separated Gap FlagWord words text ⊎ Parenthesized (FlagWords words) text)
+FlagsAre flags text = (words : List (List ℕ)) × (flags_among words ≡ flags)
+    × (Separated Gap FlagWord words text ⊎ Parenthesized (FlagWords words) text)
 
 -- flags in parentheses, and none of them too
 abbrev pub FlagList : Flags → Rule
@@ -203,7 +205,8 @@ SpelledInQuotes inner text = Exactly inner text × ((value : List ℕ) × Quoted
 abbrev pub QuotedText : List ℕ → Rule
 QuotedText inner = Exactly (codes "\"") ⨾ SpelledInQuotes inner ⨾ Exactly (codes "\"")
 
--- The date and time of a new message, and a gap; or nothing. A quoted string that is no date, or one that the calendar or the clock hasn't, is as good as none.
+-- The date and time of a new message, and a gap; or nothing. A quoted string that is no date, or one that the calendar or the clock hasn't, is as
+-- good as none.
 abbrev pub GivenDate : Option Stamp → Rule
 GivenDate date text =
     ((date ≡ None) × Exactly [] text)

@@ -111,14 +111,15 @@ abbrev pub telling_recent : Profile → Exchange → Exchange
 telling_recent Standard x = x
 telling_recent Compatible x = untagged_in_room (response_text texts.NoneRecent) x
 
--- What is told of the mailbox that was entered. Room for it was reserved where memory was wanted, before the mailbox was entered, so memory can't be refused to it.
+-- What is told of the mailbox that was entered. Room for it was reserved where memory was wanted, before the mailbox was entered, so memory can't be
+-- refused to it.
 abbrev pub opened : Profile → Bool → List ℕ → Opening → Exchange
 opened profile read_only name opening =
     Put (opening_text read_only name opening)
     (telling_recent profile (says (response_text (entered_text read_only))))
 
--- The mailbox that was selected is left first, also where the new one isn't there, and that is told: room for this line was reserved before anything was
--- done, so memory can't be refused to it.
+-- The mailbox that was selected is left first, also where the new one isn't there, and that is told: room for this line was reserved before anything
+-- was done, so memory can't be refused to it.
 abbrev pub closing : Option Selected → Exchange → Exchange
 closing None x = x
 closing (Some selected) x = Leave false (untagged_in_room (response_text texts.PreviousClosed) x)
@@ -126,8 +127,8 @@ closing (Some selected) x = Leave false (untagged_in_room (response_text texts.P
 abbrev pub entering : Profile → Bool → Folder → Exchange
 entering profile read_only folder = Enter (record { mailbox = folder.mailbox; read_only = read_only }) (opened profile read_only folder.name)
 
--- Then memory is wanted, once, for the name and for what is told of the new mailbox. Where it is refused no mailbox is selected, as where the new one isn't there
--- or the store refuses it (RFC 9051, 6.3.2).
+-- Then memory is wanted, once, for the name and for what is told of the new mailbox. Where it is refused no mailbox is selected, as where the new one
+-- isn't there or the store refuses it (RFC 9051, 6.3.2).
 abbrev pub selecting : Profile → List Folder → Option Selected → Bool → List ℕ → Exchange
 selecting profile folders selected read_only name = closing selected (wanting (on_folder name folders (entering profile read_only)))
 
@@ -185,7 +186,8 @@ searching search last view done (uid ∷ uids) found =
 
 -- tells which were found, on one line
 abbrev pub search_done : (tag : List ℕ) → Search → List ℕ → Exchange
-search_done tag search found = Write (found_answer tag search.by_uid search.returns found) (messages_done (commands.Search search) search.by_uid false)
+search_done tag search found = Write (found_answer tag search.by_uid search.returns found)
+    (messages_done (commands.Search search) search.by_uid false)
 
 -- ---- commands
 
@@ -202,7 +204,8 @@ if_writable x selected = if selected.read_only then says (response_text texts.Re
 abbrev pub in_writable : Standing → Exchange → Exchange
 in_writable now x = in_selected now (if_writable x)
 
--- Memory is wanted for the items, before the messages are looked for. A FETCH sets \Seen for its items' sake, unless the mailbox was selected by EXAMINE.
+-- Memory is wanted for the items, before the messages are looked for. A FETCH sets \Seen for its items' sake, unless the mailbox was selected by
+-- EXAMINE.
 abbrev pub fetch_messages : Fetch → Selected → Exchange
 fetch_messages fetch selected =
     wanting (on_set fetch.by_uid fetch.set (λ view uids.
@@ -222,7 +225,8 @@ search_messages tag search =
 abbrev pub search_known : (tag : List ℕ) → Search → Selected → Exchange
 search_known tag search selected = if search.known_charset then search_messages tag search else says (response_text texts.BadCharset)
 
--- The set is resolved on the view before the changes are shown, and what they showed can't come into it. Then memory is wanted, for the UIDs that it names, where it names one.
+-- The set is resolved on the view before the changes are shown, and what they showed can't come into it. Then memory is wanted, for the UIDs that it
+-- names, where it names one.
 abbrev pub expunge_set : List SeqRange → Exchange
 expunge_set set = on_set true set (λ view uids. wanting_for uids (Expunge (Some uids) (Feed unlimited (completed (commands.UidExpunge set)))))
 
@@ -269,11 +273,13 @@ coming mailbox flags date size = Wait [] (ForLiteral Unasked (Message mailbox fl
 abbrev pub most_unasked : ℕ
 most_unasked = 4096
 
--- Where the client waits to be asked, its message is refused before that; where it doesn't, its bytes are taken first. Memory is wanted for the name, the tag and the text.
+-- Where the client waits to be asked, its message is refused before that; where it doesn't, its bytes are taken first. Memory is wanted for the name,
+-- the tag and the text.
 abbrev pub appending : Option ℕ → List Folder → Append → Exchange
 appending most folders append =
     if append.literal.waits
-    then wanting (on_found (λ mailbox. if is_over most append.literal.size then over most else asking mailbox append.flags append.date append.literal.size)
+    then wanting (on_found (λ mailbox. if is_over most append.literal.size then over most
+    else asking mailbox append.flags append.date append.literal.size)
     nowhere (number_named append.name folders))
     else (if nat_lt most_unasked append.literal.size then Wait (bye (response_text texts.LiteralTooBig)) ForNothing
     else coming (number_named append.name folders) append.flags append.date append.literal.size)
@@ -305,7 +311,8 @@ on_text mailing a text mailbox =
 
 -- the rest of the line, without its CRLF, behind the literal of a message. A rest that is too long is told as no empty one
 abbrev pub on_rest : Mailing → PendingLiteral → Bool → Exchange
-on_rest mailing a empty = on_found (λ text. if empty then on_found (on_text mailing a text) nowhere (mailbox_for a.purpose) else says (response_text texts.InvalidArguments)) (says (response_text texts.OutOfMemory)) a.text
+on_rest mailing a empty = on_found (λ text. if empty then on_found (on_text mailing a text) nowhere (mailbox_for a.purpose)
+    else says (response_text texts.InvalidArguments)) (says (response_text texts.OutOfMemory)) a.text
 
 abbrev pub refused_text : Refusal → ResponseText
 refused_text refusals.Full = texts.ShardFull
@@ -360,12 +367,13 @@ submitting_first mailing batch mailbox done (row ∷ left) = submitted mailing b
 abbrev pub submitting : Mailing → Batch → (mailbox : ℕ) → (done : Exchange) → Exchange
 submitting mailing batch mailbox done = submitting_first mailing batch mailbox done batch.left
 
--- Each of these messages is read, before the first copy is submitted, and then the copies go. One that is gone is passed over where it was named by its UID, as
--- if it had not been named (6.4.9).
+-- Each of these messages is read, before the first copy is submitted, and then the copies go. One that is gone is passed over where it was named by
+-- its UID, as if it had not been named (6.4.9).
 abbrev pub gathering : Mailing → CopyMessages → (mailbox : ℕ) → (uids : List ℕ) → Batch → Exchange
 gathering mailing copy mailbox [] batch = submitting mailing batch mailbox (completed (commands.Copy copy))
 gathering mailing copy mailbox (uid ∷ uids) batch =
-    Read uid false (on_found (λ row. if is_over (most_copied mailing.most) (length row.text.bytes) then over (most_copied mailing.most) else gathering mailing copy mailbox uids (with_message uid row batch))
+    Read uid false (on_found (λ row. if is_over (most_copied mailing.most) (length row.text.bytes) then over (most_copied mailing.most)
+    else gathering mailing copy mailbox uids (with_message uid row batch))
     (if copy.by_uid then gathering mailing copy mailbox uids batch else says (response_text texts.MessagesGone)))
 
 -- Of these messages to this mailbox. Memory is wanted for what is known of each, and for the tag.
@@ -530,7 +538,8 @@ before_login _ = Some texts.WrongState
 
 -- the same of AUTHENTICATE: its mechanism isn't offered, its response isn't one of that, or it is another user's
 abbrev pub refused_login : Authenticate → ResponseText
-refused_login a = if not (is_plain a.mechanism) then texts.NotOffered else if is_some (plain_in a.initial) then texts.LoginFailed else texts.InvalidArguments
+refused_login a = if not (is_plain a.mechanism) then texts.NotOffered else if is_some (plain_in a.initial) then texts.LoginFailed
+    else texts.InvalidArguments
 
 abbrev pub without_login : Command → Option ResponseText
 without_login (commands.Authenticate a) = Some (refused_login a)
@@ -547,7 +556,8 @@ barred now command = barred_at now.login now.profile command
 abbrev pub answering : (tag : List ℕ) → Standing → Command → Exchange
 answering tag now command = on_found (λ text. says (response_text text)) (on_command tag now command) (barred now command)
 
--- the client logs in as the user as whom it is to. The password isn't looked at: only the machine itself can connect, and who may log in is told by what stands in front
+-- the client logs in as the user as whom it is to. The password isn't looked at: only the machine itself can connect, and who may log in is told by
+-- what stands in front
 abbrev pub logs_in_as : Option (List ℕ) → Command → Bool
 logs_in_as (Some user) (commands.Login name password) = bytes_eq name user
 logs_in_as (Some user) (commands.Authenticate a) = is_response_of user a
@@ -593,8 +603,8 @@ on_read now (Err fault) answers = only_says (fault_text now.profile fault) now a
 abbrev pub most_line : ℕ
 most_line = 8190
 
--- The client is to send a literal, which is an argument of the line that began so (RFC 9051, 4.3). One that it sends without being asked for is no command, so
--- where it is too big the session ends.
+-- The client is to send a literal, which is an argument of the line that began so (RFC 9051, 4.3). One that it sends without being asked for is no
+-- command, so where it is too big the session ends.
 abbrev pub awaiting_argument : (before : List ℕ) → Literal → Exchange
 awaiting_argument before literal =
     if literal.waits
@@ -618,7 +628,8 @@ abbrev pub lacks_literal : (line : List ℕ) → (tag : Option (List ℕ)) → O
 lacks_literal line (Some tag) (Some found) = Some (tag, awaiting_argument (take found.0 line) found.1)
 lacks_literal line _ _ = None
 
--- a line that is no command as it stands, and announces a literal at its end. The standard profile has literals in APPEND alone, where they are messages
+-- a line that is no command as it stands, and announces a literal at its end. The standard profile has literals in APPEND alone, where they are
+-- messages
 abbrev pub literal_in : Profile → (line : List ℕ) → ImapFault → Option (List ℕ × Exchange)
 literal_in Standard line fault = None
 literal_in Compatible line fault = lacks_literal line (fault_tag fault) (announced line)
@@ -678,7 +689,8 @@ abbrev pub turn_while : Option (List ℕ) → Standing → List ℕ → List Ans
 turn_while None now line answers = on_text_line now line answers
 turn_while (Some tag) now line answers = played tag (record now { idling = None }) (on_idle_line now.selected line) answers
 
--- A session waits for one thing at a time: the rest of a line, or a verdict. The message whose bytes came, or on which the verdict is there, is no longer kept.
+-- A session waits for one thing at a time: the rest of a line, or a verdict. The message whose bytes came, or on which the verdict is there, is no
+-- longer kept.
 abbrev pub without_begun : Standing → Standing
 without_begun now = record now { idling = None; mailing = record now.mailing { begun = None } }
 
@@ -688,8 +700,10 @@ without_sent now = record now { idling = None; mailing = record now.mailing { be
 -- The rest of a line behind a literal. One that is an argument is read as the quoted string that says the same, in the literal's place.
 abbrev pub on_rest_of : Purpose → PendingLiteral → Standing → List ℕ → List Answer → Option Turn
 on_rest_of (Message mailbox flags date) a now line answers = played a.tag (without_begun now) (on_rest now.mailing a (length line == 0)) answers
-on_rest_of (Argument before) a now line answers = on_behind a.tag (without_begun now) (option_map (λ text. before ++ quoted text ++ line) a.text) line answers
-on_rest_of (Response before) a now line answers = on_behind a.tag (without_begun now) (option_map (λ text. before ++ codes " " ++ response_in line) a.text) line answers
+on_rest_of (Argument before) a now line answers = on_behind a.tag (without_begun now)
+    (option_map (λ text. before ++ quoted text ++ line) a.text) line answers
+on_rest_of (Response before) a now line answers = on_behind a.tag (without_begun now)
+    (option_map (λ text. before ++ codes " " ++ response_in line) a.text) line answers
 
 abbrev pub turn_behind : Option PendingLiteral → Standing → List ℕ → List Answer → Option Turn
 turn_behind None now line answers = turn_while now.idling now line answers
@@ -721,7 +735,8 @@ with_bytes kept bytes now = record now { mailing = record now.mailing { begun = 
 
 abbrev pub turn_with : Option Sent → Standing → Verdict → List Answer → Option Turn
 turn_with None now verdict answers = None
-turn_with (Some sent) now verdict answers = played sent.tag (without_sent now) (on_verdict now.mailing now.selected sent.origin sent.append.mailbox verdict) answers
+turn_with (Some sent) now verdict answers = played sent.tag (without_sent now)
+    (on_verdict now.mailing now.selected sent.origin sent.append.mailbox verdict) answers
 
 -- where the verdict leads that a session waits for, with these answers of the store
 abbrev pub turn_of_verdict : Standing → Verdict → List Answer → Option Turn

@@ -85,9 +85,9 @@ pub record PendingLiteral : Type 0 where
   pub due : ℕ
   pub text : Option (List ℕ)
 
--- Messages of the selected mailbox that one command copies, one after another (RFC 9051, 6.4.7 to 6.4.9; RFC 6851): their UIDs; those that are still to be submitted, each as
--- it was read before the first was; and the UIDs of the copies that are stored, which are those of the first messages, in their order. Where it moves them they are
--- removed once all copies are stored.
+-- Messages of the selected mailbox that one command copies, one after another (RFC 9051, 6.4.7 to 6.4.9; RFC 6851): their UIDs; those that are still
+-- to be submitted, each as it was read before the first was; and the UIDs of the copies that are stored, which are those of the first messages, in
+-- their order. Where it moves them they are removed once all copies are stored.
 pub record Batch : Type 0 where
   pub by_uid : Bool
   pub moves : Bool
@@ -106,8 +106,8 @@ pub record Sent : Type 0 where
   pub append : Append
   pub origin : Origin
 
--- What a session knows of messages that its client appends: the most bytes of one, or that none is taken; the number of the next that is submitted, the literal whose bytes come,
--- which may be a message's, and the message that waits for its verdict.
+-- What a session knows of messages that its client appends: the most bytes of one, or that none is taken; the number of the next that is submitted,
+-- the literal whose bytes come, which may be a message's, and the message that waits for its verdict.
 pub record Mailing : Type 0 where
   pub most : Option ℕ
   pub number : ℕ
@@ -130,7 +130,8 @@ pub record Standing : Type 0 where
 abbrev pub nothing_sent : Option ℕ → Mailing
 nothing_sent most = record { most = most; number = 0; begun = None; sent = None }
 
--- what a session begins with, beside its mailboxes: the most bytes of a message, or that none is taken; the profile; and as whom the client is to log in
+-- what a session begins with, beside its mailboxes: the most bytes of a message, or that none is taken; the profile; and as whom the client is to log
+-- in
 pub record Admission : Type 0 where
   pub most : Option ℕ
   pub profile : Profile
@@ -218,12 +219,26 @@ text_before Dropped = None
 abbrev pub waiting : List ℕ → Waiting → Standing → Standing
 waiting tag ForDone now = record now { idling = Some tag }
 waiting tag (ForLiteral coming purpose size) now =
-    record now { mailing = record now.mailing { begun = Some (record { tag = tag; purpose = purpose; size = size; due = size; text = text_before coming }) } }
+    record now {
+      mailing = record now.mailing {
+        begun = Some (record {
+          tag = tag;
+          purpose = purpose;
+          size = size;
+          due = size;
+          text = text_before coming;
+        });
+      };
+    }
 waiting tag (ForVerdict origin mailbox flags text) now =
     record now {
       mailing = record now.mailing {
         number = now.mailing.number + 1;
-        sent = Some (record { tag = tag; append = record { message = now.mailing.number; mailbox = mailbox; text = text; flags = flags }; origin = origin });
+        sent = Some (record {
+          tag = tag;
+          append = record { message = now.mailing.number; mailbox = mailbox; text = text; flags = flags };
+          origin = origin;
+        });
       };
     }
 waiting tag ForNothing now = record now { ended = true }
@@ -318,9 +333,10 @@ waits_so tag bytes waits now = saying bytes (nothing_more (after_waiting waits) 
 abbrev pub where_long : List ℕ → Turn → Option Turn
 where_long tag turn = if nat_lt most_in_place (length tag) then Some turn else None
 
--- What a session does in place of waiting where memory is refused to it. Who waits for more of an IDLE or of a line with a literal keeps its tag till then; behind a literal it is
--- kept already. Where a client waits to be asked for a literal, it is told so at once. But the bytes of a literal that isn't asked for come whatever was refused, and
--- they are no commands: they are counted and dropped, and it is told behind them. Only where the tag can't be kept, with which that is to be told, the session ends.
+-- What a session does in place of waiting where memory is refused to it. Who waits for more of an IDLE or of a line with a literal keeps its tag till
+-- then; behind a literal it is kept already. Where a client waits to be asked for a literal, it is told so at once. But the bytes of a literal that
+-- isn't asked for come whatever was refused, and they are no commands: they are counted and dropped, and it is told behind them. Only where the tag
+-- can't be kept, with which that is to be told, the session ends.
 abbrev pub unkept : List ℕ → Waiting → Standing → ℕ → Option Turn
 unkept tag ForDone now zero = where_long tag (refused tag now NoMemory)
 unkept tag (ForLiteral Asked purpose size) now zero = where_long tag (refused tag now NoMemory)

@@ -63,8 +63,10 @@ abbrev pub MaySay : (tag : List ℕ) → Standing → Command → List ℕ → T
 MaySay tag now commands.Logout bytes = bytes ≡ bye (response_text texts.LoggingOut)
 MaySay tag now (commands.Select name) bytes = IsOfSelect false bytes
 MaySay tag now (commands.Examine name) bytes = IsOfSelect true bytes
-MaySay tag now (commands.List reference pattern) bytes = bytes ≡ list_answer All reference pattern (map (λ (folder : Folder). folder.name) now.folders)
-MaySay tag now (commands.Lsub reference pattern) bytes = bytes ≡ list_answer Subscribed reference pattern (map (λ (folder : Folder). folder.name) now.folders)
+MaySay tag now (commands.List reference pattern) bytes = bytes
+    ≡ list_answer All reference pattern (map (λ (folder : Folder). folder.name) now.folders)
+MaySay tag now (commands.Lsub reference pattern) bytes = bytes
+    ≡ list_answer Subscribed reference pattern (map (λ (folder : Folder). folder.name) now.folders)
 MaySay tag now (commands.Subscribe name) bytes = bytes ≡ []
 MaySay tag now (commands.Unsubscribe name) bytes = bytes ≡ []
 MaySay tag now (commands.Status name items) bytes = (bytes ≡ []) ⊎ ((rest : List ℕ) × (bytes ≡ codes "* STATUS " ++ rest))
@@ -74,7 +76,8 @@ MaySay tag now (commands.Search search) bytes = (bytes ≡ []) ⊎ ((found : Lis
 MaySay tag now (commands.UidExpunge set) bytes = bytes ≡ []
 MaySay tag now (commands.Copy copy) bytes = bytes ≡ []
 MaySay tag now commands.Idle bytes = bytes ≡ continuing (response_text texts.Idling)
-MaySay tag now (commands.Append append) bytes = (bytes ≡ []) ⊎ (bytes ≡ continuing (response_text texts.Ready)) ⊎ (bytes ≡ bye (response_text texts.LiteralTooBig))
+MaySay tag now (commands.Append append) bytes = (bytes ≡ []) ⊎ (bytes ≡ continuing (response_text texts.Ready))
+    ⊎ (bytes ≡ bye (response_text texts.LiteralTooBig))
 MaySay tag now command bytes = IsNotice (notice now.profile command) bytes
 
 -- ---- where
@@ -103,13 +106,15 @@ ShowsBefore ok says shows must removes (Discard mailbox uids x) = ShowsBefore ok
 
 -- A command shows changes before it ends, where a mailbox is selected, and there alone. IDLE itself shows none, nor does the line of an APPEND
 abbrev pub ShowsInOrder : (tag : List ℕ) → Standing → Command → Exchange → Type 0
-ShowsInOrder tag now command = ShowsBefore (completed command) (MaySay tag now command) (may_show command) (may_show command && is_some now.selected) (may_remove command)
+ShowsInOrder tag now command = ShowsBefore (completed command) (MaySay tag now command) (may_show command) (may_show command && is_some now.selected)
+    (may_remove command)
 
 -- the line that ends an IDLE shows changes where it is DONE and a mailbox is selected, right before the tagged OK. Any other line shows none
 abbrev pub DoneShowsInOrder : Option Selected → List ℕ → Exchange → Type 0
 DoneShowsInOrder selected line = ShowsBefore (completed commands.Idle) (λ bytes. ⊥) (is_done line) (is_done line && is_some selected) false
 
--- The rest of a line behind a literal asks nothing of the store, and says no tagged OK: the message is refused, or it is submitted and nothing is said.
+-- The rest of a line behind a literal asks nothing of the store, and says no tagged OK: the message is refused, or it is submitted and nothing is
+-- said.
 abbrev pub RestShowsNone : Exchange → Type 0
 RestShowsNone (Done words how) = IsNoOk words
 RestShowsNone (Wait bytes waits) = (bytes ≡ []) × (after_waiting waits ≡ Submit)
@@ -135,8 +140,10 @@ AppendShows selected uid uidvalidity = ShowsBefore (last_line (appended_words ui
 
 -- so they are before the one that tells where copies are, and before that of a MOVE, which tells that in a line of its own
 abbrev pub CopyShows : Option Selected → Batch → (moves : Bool) → (uidvalidity : ℕ) → Exchange → Type 0
-CopyShows selected batch true uidvalidity = ShowsBefore (move_done batch) (λ bytes. bytes ≡ untagged (moved_words uidvalidity batch)) true (is_some selected) false
-CopyShows selected batch false uidvalidity = ShowsBefore (last_line (copied_words uidvalidity batch)) (λ bytes. bytes ≡ []) true (is_some selected) false
+CopyShows selected batch true uidvalidity = ShowsBefore (move_done batch) (λ bytes. bytes ≡ untagged (moved_words uidvalidity batch)) true
+    (is_some selected) false
+CopyShows selected batch false uidvalidity = ShowsBefore (last_line (copied_words uidvalidity batch)) (λ bytes. bytes ≡ []) true
+    (is_some selected) false
 
 -- a mailbox is counted, and it goes on so with its UIDVALIDITY
 abbrev pub CountsThen : (ℕ → Exchange → Type 0) → Exchange → Type 0

@@ -61,25 +61,29 @@ Met {S} step old (event ∷ events) new = (mid : S) × step old event.call event
 
 -- ---- a whole turn
 
--- from the standing `now`, a line was answered over any store
-pub record Answers {S : Type 0} (step : S → Call → Answer → S → Type 0) (now : Standing) (line : List ℕ) (old new : S) (before after : List ℕ) (how : After) (next : Standing) : Type 0 where
-  pub answers : List Answer
-  pub events : List Event
-  pub bytes : List ℕ
-  pub played : turn_of now line answers ≡ Some (record { events = events; bytes = bytes; after = how; standing = next })
-  pub met : Met step old events new
-  pub wrote : after ≡ before ++ bytes
+-- Over any store, which is led from `old` to `new`.
+module _ {S : Type 0} (step : S → Call → Answer → S → Type 0) (now : Standing) (line : List ℕ) (old new : S) where
+  -- from the standing `now`, a line was answered over any store
+  pub record Answers (before after : List ℕ) (how : After) (next : Standing) : Type 0 where
+    pub answers : List Answer
+    pub events : List Event
+    pub bytes : List ℕ
+    pub played : turn_of now line answers ≡ Some (record { events = events; bytes = bytes; after = how; standing = next })
+    pub met : Met step old events new
+    pub wrote : after ≡ before ++ bytes
 
--- from the standing `now`, the verdict that it waits for was answered over any store
-pub record AnswersVerdict {S : Type 0} (step : S → Call → Answer → S → Type 0) (now : Standing) (verdict : Verdict) (old new : S) (before after : List ℕ) (how : After) (next : Standing) : Type 0 where
-  pub answers : List Answer
-  pub events : List Event
-  pub bytes : List ℕ
-  pub played : turn_of_verdict now verdict answers ≡ Some (record { events = events; bytes = bytes; after = how; standing = next })
-  pub met : Met step old events new
-  pub wrote : after ≡ before ++ bytes
+module _ {S : Type 0} (step : S → Call → Answer → S → Type 0) (now : Standing) (verdict : Verdict) (old new : S) where
+  -- from the standing `now`, the verdict that it waits for was answered over any store
+  pub record AnswersVerdict (before after : List ℕ) (how : After) (next : Standing) : Type 0 where
+    pub answers : List Answer
+    pub events : List Event
+    pub bytes : List ℕ
+    pub played : turn_of_verdict now verdict answers ≡ Some (record { events = events; bytes = bytes; after = how; standing = next })
+    pub met : Met step old events new
+    pub wrote : after ≡ before ++ bytes
 
--- Where bytes of a literal are taken its room is there for all of them, up to so many. Where memory for that was refused, it is told so at once or its bytes are dropped from the first.
+-- Where bytes of a literal are taken its room is there for all of them, up to so many. Where memory for that was refused, it is told so at once or
+-- its bytes are dropped from the first.
 abbrev pub most_first_room : ℕ
 most_first_room = 4096
 
@@ -87,27 +91,30 @@ most_first_room = 4096
 abbrev pub IsBeyondRoom : Option PendingLiteral → List ℕ → Type 0
 IsBeyondRoom begun bytes = IfSome begun (λ (a : PendingLiteral). IfSome a.text (λ text. min a.size most_first_room < length text + length bytes))
 
--- These bytes of the literal were taken. They are dropped, with those before them, only where they want more room than was made before its bytes came.
+-- These bytes of the literal were taken. They are dropped, with those before them, only where they want more room than was made before its bytes
+-- came.
 abbrev pub TakesBytes : Standing → List ℕ → Standing → Type 0
 TakesBytes now bytes next = (kept : Bool) × (next ≡ with_bytes kept bytes now) × (kept ≡ false → IsBeyondRoom now.mailing.begun bytes)
 
--- The session `now` had a turn while it idles, over any store, and showed so many changes.
-pub record IdleTurns {S : Type 0} (step : S → Call → Answer → S → Type 0) (now : Standing) (old new : S) (before after : List ℕ) (count : ℕ) (next : Standing) : Type 0 where
-  pub answers : List Answer
-  pub events : List Event
-  pub bytes : List ℕ
-  pub how : After
-  pub played : idle_turn now answers ≡ Some (record { events = events; bytes = bytes; after = how; standing = next })
-  pub met : Met step old events new
-  pub wrote : after ≡ before ++ bytes
-  pub shown : count ≡ count_shown answers
+module _ {S : Type 0} (step : S → Call → Answer → S → Type 0) (now : Standing) (old new : S) where
+  -- The session `now` had a turn while it idles, over any store, and showed so many changes.
+  pub record IdleTurns (before after : List ℕ) (count : ℕ) (next : Standing) : Type 0 where
+    pub answers : List Answer
+    pub events : List Event
+    pub bytes : List ℕ
+    pub how : After
+    pub played : idle_turn now answers ≡ Some (record { events = events; bytes = bytes; after = how; standing = next })
+    pub met : Met step old events new
+    pub wrote : after ≡ before ++ bytes
+    pub shown : count ≡ count_shown answers
 
 -- Memory was refused for such a turn: there was no call, or the store refused it.
 abbrev pub Starves : {S : Type 0} → (S → Call → Answer → S → Type 0) → S → S → Type 0
 Starves step old new = (new ≡ old) ⊎ step old (Feed most_changes) (Refused NoMemory) new
 
--- The room that is reserved before a line is answered: for its own tag or that of the command that it ends or goes on with, for the lines that end the answer,
--- and for the line before the last of CAPABILITY, NAMESPACE, ID, ENABLE and LOGOUT, or the one by which SELECT and EXAMINE tell that a mailbox was left.
+-- The room that is reserved before a line is answered: for its own tag or that of the command that it ends or goes on with, for the lines that end
+-- the answer, and for the line before the last of CAPABILITY, NAMESPACE, ID, ENABLE and LOGOUT, or the one by which SELECT and EXAMINE tell that a
+-- mailbox was left.
 abbrev pub room_while : Option (List ℕ) → List ℕ → ℕ
 room_while None line = length line + 165
 room_while (Some tag) line = length tag + 48
@@ -124,8 +131,8 @@ room_behind (Some a) idling line = length a.tag + room_rest a.purpose
 abbrev pub room_for : Standing → List ℕ → ℕ
 room_for now line = room_behind now.mailing.begun now.idling line
 
--- The room that is reserved before a verdict is answered: for the tag, for the line that tells where a message was stored, and for the last one, where that is another.
--- The sets of a COPY or MOVE want 11 bytes a number: ten digits, and a comma or colon.
+-- The room that is reserved before a verdict is answered: for the tag, for the line that tells where a message was stored, and for the last one,
+-- where that is another. The sets of a COPY or MOVE want 11 bytes a number: ten digits, and a comma or colon.
 abbrev pub room_of_sets : Origin → ℕ
 room_of_sets Client = 0
 room_of_sets (Copied batch) = 22 * length batch.uids

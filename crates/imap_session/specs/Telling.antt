@@ -17,7 +17,8 @@ tells_uid words = bytes_eq (take 14 words) (codes "OK [APPENDUID ")
 
 -- which numbers they tell: the words are the same only of the same UIDVALIDITY and the same UID
 abbrev pub WordsTellWhich : Type 0
-WordsTellWhich = (uidvalidity uid other_uidvalidity other_uid : ℕ) → uidvalidity < 2 ^ 64 → uid < 2 ^ 64 → other_uidvalidity < 2 ^ 64 → other_uid < 2 ^ 64
+WordsTellWhich = (uidvalidity uid other_uidvalidity other_uid : ℕ) → uidvalidity < 2 ^ 64 → uid < 2 ^ 64 → other_uidvalidity < 2 ^ 64
+    → other_uid < 2 ^ 64
     → appended_words uidvalidity uid ≡ appended_words other_uidvalidity other_uid → (uidvalidity ≡ other_uidvalidity) × (uid ≡ other_uid)
 
 -- whatever the store answers, the last line tells no UID. Where the session waits there is no last line
@@ -38,10 +39,12 @@ TellsNoUid (Discard mailbox uids x) = TellsNoUid x
 
 -- this mailbox is counted, what is pending is shown, and then the last line tells this UID, behind the UIDVALIDITY that was counted
 abbrev pub TellsUid : Option Selected → (mailbox uid : ℕ) → Exchange → Type 0
-TellsUid selected mailbox uid (Count counted next) = (counted ≡ mailbox) × ((status : Status) → next status ≡ showing selected (says (appended_words status.uidvalidity uid)))
+TellsUid selected mailbox uid (Count counted next) = (counted ≡ mailbox)
+    × ((status : Status) → next status ≡ showing selected (says (appended_words status.uidvalidity uid)))
 TellsUid selected mailbox uid _ = ⊥
 
--- The last line tells the UID under which a message was stored that the client appended, and none where it was refused. Of a message that was copied it tells none so.
+-- The last line tells the UID under which a message was stored that the client appended, and none where it was refused. Of a message that was copied
+-- it tells none so.
 abbrev pub StoredTellsUid : Option Selected → Origin → (mailbox uid : ℕ) → Exchange → Type 0
 StoredTellsUid selected Client mailbox uid = TellsUid selected mailbox uid
 StoredTellsUid selected (Copied batch) mailbox uid = TellsNoUid

@@ -57,8 +57,8 @@ pub record ShowsInPart (room : ℕ) (first last : Moment) : Type 0 where
 
 -- ---- a piece of the client's bytes
 
--- The bytes were taken, to their end or to the line that ended the session, each line that ended in them was answered, and so was the verdict on each message
--- that was submitted in them, which was carried. Where the session idled then, the client was shown what there is.
+-- The bytes were taken, to their end or to the line that ended the session, each line that ended in them was answered, and so was the verdict on each
+-- message that was submitted in them, which was carried. Where the session idled then, the client was shown what there is.
 pub record Hears (piece : List ℕ) (carried : List Carried) (before after : Moment) : Type 0 where
   pub between : Moment
   pub says : Says piece carried before between
@@ -67,14 +67,16 @@ pub record Hears (piece : List ℕ) (carried : List Carried) (before after : Mom
 -- So it went until the session stopped, within the bytes, or until memory was refused within the turns behind them.
 pub data HearsInPart (room : ℕ) (piece : List ℕ) (why : Lost) (before after : Moment) : Type 0 where
   within_bytes : SaysInPart room piece why before after → HearsInPart room piece why before after
-  within_turns : (between : Moment) (carried : List Carried) → Says piece carried before between → ShowsInPart room between after → why ≡ lost.NoMemory
+  within_turns : (between : Moment) (carried : List Carried) → Says piece carried before between → ShowsInPart room between after
+      → why ≡ lost.NoMemory
       → HearsInPart room piece why before after
 
 -- ---- what is sent
 
 -- Each dialogue for which the connection stood was led by P to one for which it stands, and this was said on the way.
 abbrev pub LeadsTo : (Moment → Moment → Type 0) → Visit → List ℕ → Visit → Type 0
-LeadsTo P old said new = (d : Dialogue) → StandsFor old.link d → (next : Dialogue) × StandsFor new.link next × P (moment d old.selection []) (moment next new.selection said)
+LeadsTo P old said new = (d : Dialogue) → StandsFor old.link d → (next : Dialogue) × StandsFor new.link next
+    × P (moment d old.selection []) (moment next new.selection said)
 
 -- All that was said was sent.
 pub record SendsAll (old : Visit) (said : List ℕ) (new : Visit) : Type 0 where
@@ -98,7 +100,8 @@ pub record Tells (P : Moment → Moment → Type 0) (Sends : Visit → List ℕ 
 -- ---- the first and the last words
 
 -- The client was greeted (RFC 9051, 7.1.1 and 7.1.4), and nothing else was done: its session has begun so, and its line hasn't.
-pub record IsGreeted (admission : Admission) (folders : List Folder) (selection : LockedStore) (taken : Option (List ℕ)) (visit : Visit) : Type 0 where
+pub record IsGreeted (admission : Admission) (folders : List Folder) (selection : LockedStore) (taken : Option (List ℕ))
+    (visit : Visit) : Type 0 where
   pub stands : StandsFor visit.link (record { standing = begun_with admission folders; begun = [] })
   pub store : visit.selection ≡ selection
   pub took : Appends taken visit.taken (greeting admission.profile)

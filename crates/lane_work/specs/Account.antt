@@ -38,11 +38,12 @@ closings_of house seat = slice_index_or house.closings seat []
 abbrev pub setting_at : Premises → ℕ → ℕ → Setting
 setting_at house seat serial = record { seat = seat; serial = serial; max_message = house.max_message }
 
--- Connections one after another: these bytes came, these were the replies, and these messages were judged. What is told of a shard on a connection goes by
--- the closings before it.
+-- Connections one after another: these bytes came, these were the replies, and these messages were judged. What is told of a shard on a connection
+-- goes by the closings before it.
 pub data HaveTalked (house : Premises) (seat : ℕ) : List (List ℕ) → List (List ℕ) → List Judged → Type 0 where
   none : HaveTalked house seat [] [] []
-  next : {connections : List (List ℕ)} {replies : List (List ℕ)} {judged : List Judged} (bytes : List ℕ) (own : Directory) (said : List Reply) (more : List Judged)
+  next : {connections : List (List ℕ)} {replies : List (List ℕ)} {judged : List Judged} (bytes : List ℕ) (own : Directory) (said : List Reply)
+      (more : List Judged)
       → HaveTalked house seat connections replies judged
       → IsMarkedBy (closings_of house seat) (length connections) house.directory own
       → WholeTalk (setting_at house seat (length connections)) own bytes said more
@@ -54,25 +55,32 @@ notes_tell notes copies = notes ≡ map note_of copies
 
 -- What is kept tells of each of these copies with its verdict, in their order, and of nothing else; and each lane got those for its mailboxes that
 -- weren't refused at once. What `keeps` is, who keeps it says.
-pub record AreBooksOf (directory : Directory) (rooms : List Room) (seat : ℕ) (copies : List (Job × Verdict)) (keeps : List (Job × Verdict) → Type 0) (heard : List (Entry Noted)) (sent : List (List (Entry Job))) : Type 0 where
+pub record AreBooksOf (directory : Directory) (rooms : List Room) (seat : ℕ) (copies : List (Job × Verdict)) (keeps : List (Job × Verdict) → Type 0)
+    (heard : List (Entry Noted)) (sent : List (List (Entry Job))) : Type 0 where
   pub noted : keeps copies
-  pub lanes : (lane : ℕ) → lane < length sent → (jobs : List Job) × WerePut directory (room_at rooms lane) seat lane heard [] copies jobs × (slice_index_or sent lane [] ≡ map (λ job. Item seat job) jobs)
+  pub lanes : (lane : ℕ) → lane < length sent → (jobs : List Job) × WerePut directory (room_at rooms lane) seat lane heard [] copies jobs
+      × (slice_index_or sent lane [] ≡ map (λ job. Item seat job) jobs)
 
 -- the same of the copies of these messages
-abbrev pub AreBooks : Directory → List Room → ℕ → List Judged → (List (Job × Verdict) → Type 0) → List (Entry Noted) → List (List (Entry Job)) → Type 0
+abbrev pub AreBooks : Directory → List Room → ℕ → List Judged → (List (Job × Verdict) → Type 0) → List (Entry Noted) → List (List (Entry Job))
+    → Type 0
 AreBooks directory rooms seat judged keeps heard sent = AreBooksOf directory rooms seat (told judged) keeps heard sent
 
 -- The account of a worker that went through its connections. `said` is what it has put on each lane, its end included.
-pub record Account (house : Premises) (seat : ℕ) (connections replies : List (List ℕ)) (notes : List Noted) (heard : List (Entry Noted)) (said : List (List (Entry Job))) : Type 0 where
+pub record Account (house : Premises) (seat : ℕ) (connections replies : List (List ℕ)) (notes : List Noted) (heard : List (Entry Noted))
+    (said : List (List (Entry Job))) : Type 0 where
   pub judged : List Judged
   pub talked : HaveTalked house seat connections replies judged
   pub noted : notes ≡ map note_of (told judged)
-  pub lanes : (lane : ℕ) → lane < length said → (jobs : List Job) × WerePut house.directory (room_at house.rooms lane) seat lane heard [] (told judged) jobs × (slice_index_or said lane [] ≡ map (λ job. Item seat job) jobs ++ End seat ∷ [])
+  pub lanes : (lane : ℕ) → lane < length said → (jobs : List Job) × WerePut house.directory (room_at house.rooms lane) seat lane heard []
+      (told judged) jobs × (slice_index_or said lane [] ≡ map (λ job. Item seat job) jobs ++ End seat ∷ [])
 
 -- What a producer's log has of these copies, and what it has put of them on each lane, its end included.
-pub record AreAccountedFor (house : Premises) (seat : ℕ) (copies : List (Job × Verdict)) (notes : List Noted) (heard : List (Entry Noted)) (said : List (List (Entry Job))) : Type 0 where
+pub record AreAccountedFor (house : Premises) (seat : ℕ) (copies : List (Job × Verdict)) (notes : List Noted) (heard : List (Entry Noted))
+    (said : List (List (Entry Job))) : Type 0 where
   pub noted : notes_tell notes copies
-  pub lanes : (lane : ℕ) → lane < length said → (jobs : List Job) × WerePut house.directory (room_at house.rooms lane) seat lane heard [] copies jobs × (slice_index_or said lane [] ≡ map (λ job. Item seat job) jobs ++ End seat ∷ [])
+  pub lanes : (lane : ℕ) → lane < length said → (jobs : List Job) × WerePut house.directory (room_at house.rooms lane) seat lane heard [] copies jobs
+      × (slice_index_or said lane [] ≡ map (λ job. Item seat job) jobs ++ End seat ∷ [])
 
 -- each list has the producer's end behind it
 abbrev pub HaveEnded : ℕ → (before after : List (List (Entry Job))) → Type 0

@@ -9,8 +9,8 @@ use Rattle.locked_mailbox.specs.Locking.{Answers, InOneHold}
 use Rattle.shard_queue.specs.declared.lane.Entry.{Entry}
 use Rattle.shard_queue.specs.declared.lane.Entry.TheVariants.{Item, End}
 
--- The verdict on a copy, in a house of so many mailboxes: what was answered in one hold of its mailbox's lock, in which nothing else was done. Which copies
--- are delivered, and which are refused, `Answers` says. Where its mailbox isn't there it is refused.
+-- The verdict on a copy, in a house of so many mailboxes: what was answered in one hold of its mailbox's lock, in which nothing else was done. Which
+-- copies are delivered, and which are refused, `Answers` says. Where its mailbox isn't there it is refused.
 pub data IsVerdict (mailboxes : ℕ) (job : Job) (verdict : Verdict) : Type 0 where
   held : job.mailbox < mailboxes → InOneHold (Answers job verdict) → IsVerdict mailboxes job verdict
   nowhere : mailboxes ≤ job.mailbox → verdict ≡ Refused NoMemory → IsVerdict mailboxes job verdict

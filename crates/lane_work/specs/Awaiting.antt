@@ -18,4 +18,5 @@ copies_in lanes = sum_by (λ (entries : List (Entry Job)). length (items_of entr
 
 -- Between these two moments as many verdicts were heard as copies were put: each verdict was awaited, and none is awaited still.
 abbrev pub HearsItsOwn : {B : Type 0} → Desk B → Desk B → Type 0
-HearsItsOwn old new = verdicts_in (received new.receiver) + copies_in (map put_by old.permits.items) ≡ verdicts_in (received old.receiver) + copies_in (map put_by new.permits.items)
+HearsItsOwn old new = verdicts_in (received new.receiver) + copies_in (map put_by old.permits.items)
+    ≡ verdicts_in (received old.receiver) + copies_in (map put_by new.permits.items)

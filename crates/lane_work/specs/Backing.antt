@@ -32,8 +32,8 @@ IsShown history (End shard) = Unit {0}
 abbrev pub WasPut : List (List (Entry Job)) → Job → Type 0
 WasPut put job = (lane : ℕ) × (seat : ℕ) × Contains (slice_index_or put lane []) (Item seat job)
 
--- The history is legal; each copy that was put on a lane was sent, and what was heard is the last word there. And nothing else is there of this seat: each copy that it has
--- sent was put, or withdrawn.
+-- The history is legal; each copy that was put on a lane was sent, and what was heard is the last word there. And nothing else is there of this seat:
+-- each copy that it has sent was put, or withdrawn.
 pub record IsBacked (seat : ℕ) (history : List Event) (heard : List (Entry Noted)) (put : List (List (Entry Job))) : Type 0 where
   pub legal : Legal history
   pub sent : All (λ entries. All (WasSent history) entries) put
@@ -65,12 +65,17 @@ pub record StandAsTold (seat : ℕ) (history : List Event) (told : List (Job × 
   pub stood : HaveStood history told
   pub all : AreAllOf seat history told
 
--- Where the books of a producer tell of these copies, whoever keeps them, and the history has what it put and heard: of its seat just those stand of which they tell Stored.
+-- Where the books of a producer tell of these copies, whoever keeps them, and the history has what it put and heard: of its seat just those stand of
+-- which they tell Stored.
 abbrev pub BooksStand : Type 0
-BooksStand = (directory : Directory) (rooms : List Room) (seat : ℕ) (copies : List (Job × Verdict)) (history : List Event) (heard : List (Entry Noted)) (put : List (List (Entry Job)))
-    → 0 < directory.shards → directory.shards ≡ length put → AreBooksOf directory rooms seat copies (λ told. Unit {0}) heard put → IsBacked seat history heard put → StandAsTold seat history copies
+BooksStand = (directory : Directory) (rooms : List Room) (seat : ℕ) (copies : List (Job × Verdict)) (history : List Event)
+    (heard : List (Entry Noted)) (put : List (List (Entry Job)))
+    → 0 < directory.shards → directory.shards ≡ length put → AreBooksOf directory rooms seat copies (λ told. Unit {0}) heard put
+    → IsBacked seat history heard put → StandAsTold seat history copies
 
 -- The same where the producer has ended, of its words on each lane.
 abbrev pub WordsStand : Type 0
-WordsStand = (directory : Directory) (rooms : List Room) (seat : ℕ) (copies : List (Job × Verdict)) (history : List Event) (heard : List (Entry Noted)) (put words : List (List (Entry Job)))
-    → 0 < directory.shards → directory.shards ≡ length put → AreBooksOf directory rooms seat copies (λ told. Unit {0}) heard put → HaveEnded seat put words → IsBacked seat history heard words → StandAsTold seat history copies
+WordsStand = (directory : Directory) (rooms : List Room) (seat : ℕ) (copies : List (Job × Verdict)) (history : List Event)
+    (heard : List (Entry Noted)) (put words : List (List (Entry Job)))
+    → 0 < directory.shards → directory.shards ≡ length put → AreBooksOf directory rooms seat copies (λ told. Unit {0}) heard put
+    → HaveEnded seat put words → IsBacked seat history heard words → StandAsTold seat history copies

@@ -22,7 +22,8 @@ pub data AreChannelsClosed : List (ReplyChannel Noted) → List (List (SenderEnd
     → List (ReplyClosed Noted) → Type 0 where
   none : AreChannelsClosed [] [] [] []
   next : {qs : List (ReplyChannel Noted)} {rows : List (List (SenderEnded Noted))} {permits : List (ReceiverPermit Noted)}
-      {cs : List (ReplyClosed Noted)} (q : ReplyChannel Noted) (row : List (SenderEnded Noted)) (permit : ReceiverPermit Noted) (c : ReplyClosed Noted)
+      {cs : List (ReplyClosed Noted)} (q : ReplyChannel Noted) (row : List (SenderEnded Noted)) (permit : ReceiverPermit Noted)
+      (c : ReplyClosed Noted)
       → IsClosedChannel q row permit c → AreChannelsClosed qs rows permits cs → AreChannelsClosed (q ∷ qs) (row ∷ rows) (permit ∷ permits) (c ∷ cs)
 
 -- of some channel an ended permit is missing, or an end wasn't received

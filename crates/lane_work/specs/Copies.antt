@@ -31,8 +31,8 @@ rooms_of lanes = map room_of lanes
 abbrev pub room_at : List Room → ℕ → Room
 room_at rooms lane = slice_index_or rooms lane (record { producers = 0; capacity = 0 })
 
--- What Full says to a producer that had put just these entries on the lane: where it is the lane's only one, they are at least as many as have room there.
--- Of a lane that has others no producer knows how much of it these had filled. What a run's lists say of it, its report compares (`refusals`).
+-- What Full says to a producer that had put just these entries on the lane: where it is the lane's only one, they are at least as many as have room
+-- there. Of a lane that has others no producer knows how much of it these had filled. What a run's lists say of it, its report compares (`refusals`).
 abbrev pub FilledAlone : Room → ℕ → List (Entry Job) → Type 0
 FilledAlone room seat sent = room.producers ≡ 1 → seat ≡ 0 → room.capacity ≤ length sent
 
@@ -61,14 +61,16 @@ IsAtOnce full verdict = ((verdict ≡ Refused Full) × full) ⊎ (verdict ≡ Re
 abbrev pub IsHeard : List (Entry Noted) → Noted → Type 0
 IsHeard heard noted = (shard : ℕ) × (before : List (Entry Noted)) × (after : List (Entry Noted)) × (heard ≡ before ++ Item shard noted ∷ after)
 
--- Of these copies, in their order, these were put on this lane, behind those that had been put before: all that are for its mailboxes, but for some that were
--- refused at once. Where it was for want of room, this producer had put just those before it (what that says of a lane that is its alone: `FilledAlone`). The verdict on
--- each that was put was heard.
-pub data WerePut (directory : Directory) (room : Room) (seat lane : ℕ) (heard : List (Entry Noted)) : (before : List Job) → List (Job × Verdict) → List Job → Type 0 where
+-- Of these copies, in their order, these were put on this lane, behind those that had been put before: all that are for its mailboxes, but for some
+-- that were refused at once. Where it was for want of room, this producer had put just those before it (what that says of a lane that is its alone:
+-- `FilledAlone`). The verdict on each that was put was heard.
+pub data WerePut (directory : Directory) (room : Room) (seat lane : ℕ) (heard : List (Entry Noted)) : (before : List Job) → List (Job × Verdict)
+    → List Job → Type 0 where
   none : {before : List Job} → WerePut directory room seat lane heard before [] []
   put : {before jobs : List Job} {told : List (Job × Verdict)} (copy : Job) (verdict : Verdict)
       → shard_of directory copy.mailbox ≡ lane → IsHeard heard (note_of (copy, verdict))
-      → WerePut directory room seat lane heard (before ++ copy ∷ []) told jobs → WerePut directory room seat lane heard before ((copy, verdict) ∷ told) (copy ∷ jobs)
+      → WerePut directory room seat lane heard (before ++ copy ∷ []) told jobs
+      → WerePut directory room seat lane heard before ((copy, verdict) ∷ told) (copy ∷ jobs)
   elsewhere : {before jobs : List Job} {told : List (Job × Verdict)} (copy : Job) (verdict : Verdict)
       → (shard_of directory copy.mailbox ≡ lane → ⊥)
       → WerePut directory room seat lane heard before told jobs → WerePut directory room seat lane heard before ((copy, verdict) ∷ told) jobs

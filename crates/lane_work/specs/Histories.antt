@@ -21,8 +21,11 @@ AreHeard (e ∷ es) [] = ⊥
 AreHeard (e ∷ es) (g ∷ gs) = (said e ≡ of (ended_number e) g) × AreHeard es gs
 
 abbrev pub SaidIsTaken : Type 0
-SaidIsTaken = (lanes : List (ShardQueue Job)) (p : ℕ) (ended : List (Ended Job)) (gots : List (List (Entry Job))) → AreEnded lanes p ended → AreHeard ended gots → map said ended ≡ map (of p) gots
+SaidIsTaken = (lanes : List (ShardQueue Job)) (p : ℕ) (ended : List (Ended Job)) (gots : List (List (Entry Job))) → AreEnded lanes p ended
+    → AreHeard ended gots → map said ended ≡ map (of p) gots
 
 -- a copy that was stored was put on the lane of its mailbox's shard, and its verdict was heard
 abbrev pub StoredWasPut : Type 0
-StoredWasPut = (d : Directory) (room : Room) (seat lane : ℕ) (heard : List (Entry Noted)) (before : List Job) (told : List (Job × Verdict)) (jobs : List Job) → WerePut d room seat lane heard before told jobs → (copy : Job) (uid : ℕ) → shard_of d copy.mailbox ≡ lane → Contains told (copy, Stored uid) → Contains jobs copy × IsHeard heard (note_of (copy, Stored uid))
+StoredWasPut = (d : Directory) (room : Room) (seat lane : ℕ) (heard : List (Entry Noted)) (before : List Job) (told : List (Job × Verdict))
+    (jobs : List Job) → WerePut d room seat lane heard before told jobs → (copy : Job) (uid : ℕ) → shard_of d copy.mailbox ≡ lane
+    → Contains told (copy, Stored uid) → Contains jobs copy × IsHeard heard (note_of (copy, Stored uid))

@@ -31,9 +31,10 @@ is_quit More = false
 is_quit Submit = false
 is_quit Quit = true
 
--- The connection has taken these bytes, by the producer's own directory; its replies are in `out`, and what it submitted stands in the books, behind what was
--- done before it.
-pub record Stands (own directory : Directory) (rooms : List Room) (seat : ℕ) (done : List Judged) (bytes : List ℕ) (over : Bool) (m : LmtpMachine) (out : List ℕ) (keeps : List (Job × Verdict) → Type 0) (heard : List (Entry Noted)) (sent : List (List (Entry Job))) : Type 0 where
+-- The connection has taken these bytes, by the producer's own directory; its replies are in `out`, and what it submitted stands in the books, behind
+-- what was done before it.
+pub record Stands (own directory : Directory) (rooms : List Room) (seat : ℕ) (done : List Judged) (bytes : List ℕ) (over : Bool) (m : LmtpMachine)
+    (out : List ℕ) (keeps : List (Job × Verdict) → Type 0) (heard : List (Entry Noted)) (sent : List (List (Entry Job))) : Type 0 where
   pub said : List Reply
   pub judged : List Judged
   pub at : Conversation

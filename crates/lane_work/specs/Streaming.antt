@@ -50,8 +50,8 @@ module _ (before after : Option (List ℕ)) (failed : Bool) where
   SaysLast host out phase (Err NoMemory) = AreGivenUp out
   SaysLast host out phase (Err Torn) = ⊥
 
-  -- How a connection ended that has said these replies and stands in this phase: what of it was sent, and whether anything that came was dropped. `rest` is
-  -- what the reader has left, where it tells that.
+  -- How a connection ended that has said these replies and stands in this phase: what of it was sent, and whether anything that came was dropped.
+  -- `rest` is what the reader has left, where it tells that.
   abbrev pub EndsBy : (host : List ℕ) (rest : Option (List ℕ)) (came dropped : List ℕ) (said : List Reply) → Phase → Result Ending TalkFault → Type 0
   EndsBy host rest came dropped said phase (Ok Quit) = (phase ≡ Ended) × AreSent (wire host said)
   EndsBy host rest came dropped said phase (Ok Gone) = (phase ≢ Ended) × (dropped ≡ []) × IsAtEnd rest × AreSent (wire host said)
@@ -63,10 +63,13 @@ module _ (before after : Option (List ℕ)) (failed : Bool) where
   -- of what was read last nothing counts as taken, and of its replies nothing was sent
   EndsBy host rest came dropped said phase (Err Torn) = AreSent (wire host said)
 
--- A connection was played over a stream, whose reader had these bytes before and has those left, where it tells them. The front of what came was taken; that is a
--- conversation of this setting, its replies were sent as far as `ends` says, and what it submitted stands in the books, behind what was done before it.
-pub record IsPlayed (house : Premises) (setting : Setting) (seat : ℕ) (done : List Judged) (stream rest before after : Option (List ℕ)) (failed : Bool)
-    (keeps : List (Job × Verdict) → Type 0) (heard : List (Entry Noted)) (sent : List (List (Entry Job))) (result : Result Ending TalkFault) : Type 0 where
+-- A connection was played over a stream, whose reader had these bytes before and has those left, where it tells them. The front of what came was
+-- taken; that is a conversation of this setting, its replies were sent as far as `ends` says, and what it submitted stands in the books, behind what
+-- was done before it.
+pub record IsPlayed (house : Premises) (setting : Setting) (seat : ℕ) (done : List Judged) (stream rest before after : Option (List ℕ))
+    (failed : Bool)
+    (keeps : List (Job × Verdict) → Type 0) (heard : List (Entry Noted)) (sent : List (List (Entry Job)))
+    (result : Result Ending TalkFault) : Type 0 where
   pub came : List ℕ
   pub taken : List ℕ
   pub dropped : List ℕ

@@ -29,7 +29,8 @@ pub data HasTaken (setting : Setting) (directory : Directory) : List ℕ → Lis
       → (leads : Leads setting directory c taken turn after) → turn.submissions ≡ message ∷ []
       → ((events : List Event) (last : Event) → leads.events ≡ events ++ last ∷ [] → IsQuiet (dialogue setting directory c.standing events))
       → length verdicts ≡ length message.keys
-      → HasTaken setting directory (bytes ++ taken) ((said ++ turn.replies) ++ map verdict_reply verdicts) (judged ++ record { message = message; verdicts = verdicts } ∷ [])
+      → HasTaken setting directory (bytes ++ taken) ((said ++ turn.replies) ++ map verdict_reply verdicts)
+      (judged ++ record { message = message; verdicts = verdicts } ∷ [])
       (led_by setting directory after (on.Answered verdicts))
 
 -- A connection whose peer sends these bytes and then goes: all were taken, or the dialogue ended before.

@@ -15,4 +15,5 @@ use Rattle.lane_work.specs.Speaking.{premises_of}
 abbrev pub IsWorked : {B : Type 0} → Office B → ReplyChannel Noted → ℕ → List (List ℕ) → Worked B → Type 0
 IsWorked office channel seat connections w =
     AreEnded office.lanes.items seat w.ended.items × IsReceiver channel w.receiver × (w.log.seat ≡ seat)
-    × (w.fate ≡ Whole → Account (premises_of office) seat connections (map (λ b. b.items) w.replies.items) w.log.notes (received w.receiver) (map said w.ended.items))
+    × (w.fate ≡ Whole → Account (premises_of office) seat connections (map (λ b. b.items) w.replies.items) w.log.notes (received w.receiver)
+    (map said w.ended.items))

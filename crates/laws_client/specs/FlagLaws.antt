@@ -28,23 +28,29 @@ FlagsAreCurrent = (log : List Change) (uid : ℕ) (names : List (List ℕ)) → 
 
 -- a moment stays one, whatever is logged behind
 abbrev pub FlagsOutlast : Type 0
-FlagsOutlast = (log later : List Change) (cursor uid : ℕ) (names : List (List ℕ)) → FlagsOf log cursor uid names → FlagsOf (log ++ later) cursor uid names
+FlagsOutlast = (log later : List Change) (cursor uid : ℕ) (names : List (List ℕ)) → FlagsOf log cursor uid names
+    → FlagsOf (log ++ later) cursor uid names
 
--- Where it knows of a message both its UID and flags, that UID's message had these flags. So a client that keeps its messages by UID is right about flags too.
+-- Where it knows of a message both its UID and flags, that UID's message had these flags. So a client that keeps its messages by UID is right about
+-- flags too.
 abbrev pub FlagsAreByUid : Type 0
-FlagsAreByUid = (p : Point) (list : List Known) (message : Known) (uid : ℕ) (names : List (List ℕ)) → IsRight (counted p) list → KnowsFlags p list → Contains list message
+FlagsAreByUid = (p : Point) (list : List Known) (message : Known) (uid : ℕ) (names : List (List ℕ)) → IsRight (counted p) list → KnowsFlags p list
+    → Contains list message
     → message.uid ≡ Some uid → message.flags ≡ Some names → FlagsOf p.log p.cursor uid names
 
 -- ---- texts that tell flags
 
--- The lines of the changes behind the cursor: a client that was right about flags at the cursor reads them, and is right about them where the cursor is then.
+-- The lines of the changes behind the cursor: a client that was right about flags at the cursor reads them, and is right about them where the cursor
+-- is then.
 abbrev pub LinesTellFlags : Type 0
-LinesTellFlags = (p : Point) (changes rest : List Change) → IsLegalLog p.log → p.cursor ≤ length p.log → drop p.cursor p.log ≡ changes ++ rest → MayShow (counted p) changes
+LinesTellFlags = (p : Point) (changes rest : List Change) → IsLegalLog p.log → p.cursor ≤ length p.log → drop p.cursor p.log ≡ changes ++ rest
+    → MayShow (counted p) changes
     → LeadsFlags p (lines (counted p) changes) (record { log = p.log; cursor = p.cursor + length changes })
 
 -- the answer about a row, whatever was asked of it, whose flags are those that the message has now
 abbrev pub RowTellsFlags : Type 0
-RowTellsFlags = (p : Point) (uid : ℕ) (by_uid : Bool) (items : List FetchItem) (row : Row) → Contains (counted p) uid → IsNumbered (counted p) → IsRowOf uid (Some row) → AreToldParts items
+RowTellsFlags = (p : Point) (uid : ℕ) (by_uid : Bool) (items : List FetchItem) (row : Row) → Contains (counted p) uid → IsNumbered (counted p)
+    → IsRowOf uid (Some row) → AreToldParts items
     → flags_at uid p.log ≡ Some row.flags → p.cursor ≤ length p.log → LeavesFlags p (row_answer (position uid (counted p)) by_uid items row)
 
 -- and the flags after a STORE
@@ -54,9 +60,11 @@ StoreTellsFlags = (p : Point) (uid : ℕ) (by_uid : Bool) (flags : Flags) → Co
 
 -- ---- what is told is heard
 
--- Whatever it knew, a client whose list is as long as the view reads this text, its list stays as long, and of this message it knows these flags then.
+-- Whatever it knew, a client whose list is as long as the view reads this text, its list stays as long, and of this message it knows these flags
+-- then.
 abbrev pub HearsFlags : List ℕ → ℕ → List (List ℕ) → List ℕ → Type 0
-HearsFlags view uid names text = (list : List Known) → length list ≡ length view → Follows (λ (u : ℕ) (message : Known). u ≡ uid → message.flags ≡ Some names) list text view
+HearsFlags view uid names text = (list : List Known) → length list ≡ length view
+    → Follows (λ (u : ℕ) (message : Known). u ≡ uid → message.flags ≡ Some names) list text view
 
 -- the line of a change of flags
 abbrev pub ChangeIsHeard : Type 0
@@ -70,12 +78,15 @@ StoreIsHeard = (p : Point) (uid : ℕ) (by_uid : Bool) (flags : Flags) → IsLeg
 
 -- and the answer to a FETCH that asked for FLAGS, or that has set \Seen
 abbrev pub FetchIsHeard : Type 0
-FetchIsHeard = (p : Point) (uid : ℕ) (by_uid : Bool) (items : List FetchItem) (row : Row) → IsLegalLog p.log → Contains (counted p) uid → IsNumbered (counted p) → IsRowOf uid (Some row) → AreToldParts items
-    → (list_any is_flags items || row.newly_seen) ≡ true → HearsFlags (counted p) uid (flag_words row.flags) (row_answer (position uid (counted p)) by_uid items row)
+FetchIsHeard = (p : Point) (uid : ℕ) (by_uid : Bool) (items : List FetchItem) (row : Row) → IsLegalLog p.log → Contains (counted p) uid
+    → IsNumbered (counted p) → IsRowOf uid (Some row) → AreToldParts items
+    → (list_any is_flags items || row.newly_seen) ≡ true → HearsFlags (counted p) uid (flag_words row.flags)
+    (row_answer (position uid (counted p)) by_uid items row)
 
 -- ---- turns
 
--- Over any store, whatever it answers: after the answer to any line but SELECT, EXAMINE, CLOSE and UNSELECT a client that was right about flags before is right about them then.
+-- Over any store, whatever it answers: after the answer to any line but SELECT, EXAMINE, CLOSE and UNSELECT a client that was right about flags
+-- before is right about them then.
 abbrev pub AnswerTellsFlags : Type 0
 AnswerTellsFlags = (now : Standing) (line : List ℕ) (p : Point) (answers : List Answer) (turn : Turn) (q : Point)
     → IsFollowed now (counted p) line → turn_of now line answers ≡ Some turn → SeesAllFlags p turn.events q → LeadsFlags p turn.bytes q
@@ -83,8 +94,10 @@ AnswerTellsFlags = (now : Standing) (line : List ℕ) (p : Point) (answers : Lis
 -- and so after the answer to the verdict on a message
 abbrev pub VerdictTellsFlags : Type 0
 VerdictTellsFlags = (now : Standing) (verdict : Verdict) (p : Point) (answers : List Answer) (turn : Turn) (q : Point)
-    → IfSome now.mailing.sent (λ sent. IsTag sent.tag) → IsPrinted verdict → turn_of_verdict now verdict answers ≡ Some turn → SeesAllFlags p turn.events q → LeadsFlags p turn.bytes q
+    → IfSome now.mailing.sent (λ sent. IsTag sent.tag) → IsPrinted verdict → turn_of_verdict now verdict answers ≡ Some turn
+    → SeesAllFlags p turn.events q → LeadsFlags p turn.bytes q
 
 -- and after a turn while it idles
 abbrev pub IdleTellsFlags : Type 0
-IdleTellsFlags = (now : Standing) (p : Point) (answers : List Answer) (turn : Turn) (q : Point) → idle_turn now answers ≡ Some turn → SeesAllFlags p turn.events q → LeadsFlags p turn.bytes q
+IdleTellsFlags = (now : Standing) (p : Point) (answers : List Answer) (turn : Turn) (q : Point) → idle_turn now answers ≡ Some turn
+    → SeesAllFlags p turn.events q → LeadsFlags p turn.bytes q

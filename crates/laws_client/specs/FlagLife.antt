@@ -15,11 +15,14 @@ flag_sent = codes "a1 SELECT INBOX\r\na2 NOOP\r\na3 STORE 1 +FLAGS (\\Flagged)\r
 
 abbrev pub flag_told : List Told
 flag_told =
-    Answer (codes "a1 SELECT INBOX") (codes "* FLAGS (\\Answered \\Flagged \\Deleted \\Seen \\Draft)\r\n* 0 EXISTS\r\n* OK [UIDVALIDITY 1] UIDs valid\r\n* OK [UIDNEXT 1] Predicted next UID\r\n* OK [PERMANENTFLAGS (\\Answered \\Flagged \\Deleted \\Seen \\Draft)] Flags kept\r\n* LIST () \"/\" INBOX\r\na1 OK [READ-WRITE] SELECT completed\r\n")
+    Answer (codes "a1 SELECT INBOX")
+    (codes
+    "* FLAGS (\\Answered \\Flagged \\Deleted \\Seen \\Draft)\r\n* 0 EXISTS\r\n* OK [UIDVALIDITY 1] UIDs valid\r\n* OK [UIDNEXT 1] Predicted next UID\r\n* OK [PERMANENTFLAGS (\\Answered \\Flagged \\Deleted \\Seen \\Draft)] Flags kept\r\n* LIST () \"/\" INBOX\r\na1 OK [READ-WRITE] SELECT completed\r\n")
     ∷ Answer (codes "a2 NOOP") (codes "* 1 EXISTS\r\na2 OK NOOP completed\r\n")
     ∷ Answer (codes "a3 STORE 1 +FLAGS (\\Flagged)") (codes "* 1 FETCH (FLAGS (\\Flagged))\r\na3 OK STORE completed\r\n") ∷ []
 
--- It is lived, in the house with one of each. Its session was shown the first of two changes; its client knows the flags behind the second, which are newer than those that its session was shown.
+-- It is lived, in the house with one of each. Its session was shown the first of two changes; its client knows the flags behind the second, which are
+-- newer than those that its session was shown.
 abbrev pub OneLifeKnowsFlags : Type 0
 OneLifeKnowsFlags = (w : World) × Lives one_house 0 one_first empty_world flag_sent flag_told one_last w
     × (point_of w 0 ≡ record { log = Add 1 ∷ SetFlags 1 (record no_flags { flagged = true }) ∷ []; cursor = 1 })

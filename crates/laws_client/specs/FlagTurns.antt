@@ -14,8 +14,8 @@ shown_in (Fed met changes) = changes
 shown_in (Expunged met changes gone) = changes
 shown_in answer = []
 
--- The flags in an answer are those that the message has when all was logged that the call led to: of a row that was read, also where that set \Seen, and of a message whose flags
--- were altered.
+-- The flags in an answer are those that the message has when all was logged that the call led to: of a row that was read, also where that set \Seen,
+-- and of a message whose flags were altered.
 abbrev pub TellsFlags : Point → Call → Answer → Type 0
 TellsFlags p (Read uid mark) (Found (Some row)) = flags_at uid p.log ≡ Some row.flags
 TellsFlags p (Alter uid change) (Altered (Some flags)) = flags_at uid p.log ≡ Some flags

@@ -66,7 +66,8 @@ GreetingTellsNothing = (profile : Profile) → TellsNothing (greeting profile)
 
 -- ---- turns
 
--- Over any store, whatever it answers, and wherever it or memory refuses: the bytes of a turn lead a client from the session's view before it to the view after it.
+-- Over any store, whatever it answers, and wherever it or memory refuses: the bytes of a turn lead a client from the session's view before it to the
+-- view after it.
 abbrev pub TurnIsFollowed : Type 0
 TurnIsFollowed = (tag view : List ℕ) (now : Standing) (x : Exchange) (answers : List Answer) (turn : Turn) (new : List ℕ)
     → IsTag tag → played tag now x answers ≡ Some turn → Says tag view x → SeesAll view turn.events new → Leads view turn.bytes new
@@ -84,7 +85,8 @@ TagsAreTags = (line tag : List ℕ) (command : Command) → read line ≡ Ok (ta
 
 -- and so are the tags that a session keeps, if they were before: it begins with none
 abbrev pub KeptTagsAreTags : Type 0
-KeptTagsAreTags = (now : Standing) (line : List ℕ) (answers : List Answer) (turn : Turn) → AreTags now → turn_of now line answers ≡ Some turn → AreTags turn.standing
+KeptTagsAreTags = (now : Standing) (line : List ℕ) (answers : List Answer) (turn : Turn) → AreTags now → turn_of now line answers ≡ Some turn
+    → AreTags turn.standing
 
 -- Over any store, whatever it answers: after the answer to such a line a client is right about the session's view. Of the exchange nothing is asked.
 abbrev pub AnswerIsFollowed : Type 0
@@ -98,20 +100,24 @@ LongLineTellsNothing = (now : Standing) → IfSome (kept_tag now) IsTag → Tell
 -- and after the answer to the verdict on a message
 abbrev pub VerdictIsFollowed : Type 0
 VerdictIsFollowed = (now : Standing) (verdict : Verdict) (view : List ℕ) (answers : List Answer) (turn : Turn) (new : List ℕ)
-    → IfSome now.mailing.sent (λ sent. IsTag sent.tag) → IsPrinted verdict → turn_of_verdict now verdict answers ≡ Some turn → SeesAll view turn.events new → Leads view turn.bytes new
+    → IfSome now.mailing.sent (λ sent. IsTag sent.tag) → IsPrinted verdict → turn_of_verdict now verdict answers ≡ Some turn
+    → SeesAll view turn.events new → Leads view turn.bytes new
 
 -- ---- answers about messages
 
 -- the answer about a row, whatever was asked of it, at its position in the view
 abbrev pub RowIsTold : Type 0
-RowIsTold = (view : List ℕ) (uid : ℕ) (by_uid : Bool) (items : List FetchItem) (row : Row) → Contains view uid → IsNumbered view → IsRowOf uid (Some row) → AreToldParts items
+RowIsTold = (view : List ℕ) (uid : ℕ) (by_uid : Bool) (items : List FetchItem) (row : Row) → Contains view uid → IsNumbered view
+    → IsRowOf uid (Some row) → AreToldParts items
     → Leaves view (row_answer (position uid view) by_uid items row)
 
 -- and the flags after a STORE
 abbrev pub FlagsAreTold : Type 0
-FlagsAreTold = (view : List ℕ) (uid : ℕ) (by_uid : Bool) (flags : Flags) → Contains view uid → IsNumbered view → Leaves view (flags_answer by_uid (position uid view) uid flags)
+FlagsAreTold = (view : List ℕ) (uid : ℕ) (by_uid : Bool) (flags : Flags) → Contains view uid → IsNumbered view
+    → Leaves view (flags_answer by_uid (position uid view) uid flags)
 
--- What SELECT says of a mailbox before its tagged line leads a client with no messages to the view of a session that enters there, which is as long as the mailbox is told to be.
+-- What SELECT says of a mailbox before its tagged line leads a client with no messages to the view of a session that enters there, which is as long
+-- as the mailbox is told to be.
 abbrev pub OpeningIsFollowed : Type 0
 OpeningIsFollowed = (read_only : Bool) (name : List ℕ) (opening : Opening) (view : List ℕ) → IsPlain name → opening.count ≡ length view
     → opening.count < 2 ^ 64 → opening.uidvalidity < 2 ^ 64 → opening.uidnext < 2 ^ 64 → Follows IsOf [] (opening_text read_only name opening) view
@@ -124,28 +130,35 @@ ChangeTellsUid = (view : List ℕ) (uid : ℕ) (flags : Flags) → Contains view
 
 -- the flags after a STORE by UID
 abbrev pub StoreTellsUid : Type 0
-StoreTellsUid = (view : List ℕ) (uid : ℕ) (flags : Flags) → Contains view uid → IsNumbered view → HearsUid view uid (flags_answer true (position uid view) uid flags)
+StoreTellsUid = (view : List ℕ) (uid : ℕ) (flags : Flags) → Contains view uid → IsNumbered view
+    → HearsUid view uid (flags_answer true (position uid view) uid flags)
 
 -- and the answer to a FETCH by UID, or to one that asked for UID
 abbrev pub FetchTellsUid : Type 0
-FetchTellsUid = (view : List ℕ) (uid : ℕ) (by_uid : Bool) (items : List FetchItem) (row : Row) → Contains view uid → IsNumbered view → IsRowOf uid (Some row) → AreToldParts items
+FetchTellsUid = (view : List ℕ) (uid : ℕ) (by_uid : Bool) (items : List FetchItem) (row : Row) → Contains view uid → IsNumbered view
+    → IsRowOf uid (Some row) → AreToldParts items
     → (by_uid || list_any is_uid items) ≡ true → HearsUid view uid (row_answer (position uid view) by_uid items row)
 
 -- What is known stays known, whatever else is told of a message at its position,
 abbrev pub RowKeepsUids : Type 0
-RowKeepsUids = (view : List ℕ) (uid : ℕ) (by_uid : Bool) (items : List FetchItem) (row : Row) → Contains view uid → IsNumbered view → IsRowOf uid (Some row) → AreToldParts items
+RowKeepsUids = (view : List ℕ) (uid : ℕ) (by_uid : Bool) (items : List FetchItem) (row : Row) → Contains view uid → IsNumbered view
+    → IsRowOf uid (Some row) → AreToldParts items
     → KeepsUids view (row_answer (position uid view) by_uid items row)
 
 abbrev pub FlagsKeepUids : Type 0
-FlagsKeepUids = (view : List ℕ) (uid : ℕ) (by_uid : Bool) (flags : Flags) → Contains view uid → IsNumbered view → KeepsUids view (flags_answer by_uid (position uid view) uid flags)
+FlagsKeepUids = (view : List ℕ) (uid : ℕ) (by_uid : Bool) (flags : Flags) → Contains view uid → IsNumbered view
+    → KeepsUids view (flags_answer by_uid (position uid view) uid flags)
 
 -- and by the lines of changes, as long as the message is there. Of those that come with these changes nothing is known before.
 abbrev pub LinesKeepUids : Type 0
-LinesKeepUids = (view : List ℕ) (changes : List Change) (known : ℕ → Bool) (list : List Known) → MayShow view changes → All (λ uid. known uid ≡ false) (added changes)
+LinesKeepUids = (view : List ℕ) (changes : List Change) (known : ℕ → Bool) (list : List Known) → MayShow view changes
+    → All (λ uid. known uid ≡ false) (added changes)
     → Each (IsKnownTo known) view list → Follows (IsKnownTo known) list (lines view changes) (replay view changes)
 
 -- ---- a whole talk
 
--- Whatever comes, one line, turn, literal or verdict behind the other: a client that was right about the session's view reads all that is written, and is right about the view to which it leads.
+-- Whatever comes, one line, turn, literal or verdict behind the other: a client that was right about the session's view reads all that is written,
+-- and is right about the view to which it leads.
 abbrev pub TalkIsFollowed : Type 0
-TalkIsFollowed = (now : Standing) (view : List ℕ) (talk : List Happening) (bytes new : List ℕ) → AreTags now → Talks now view talk bytes new → Leads view bytes new
+TalkIsFollowed = (now : Standing) (view : List ℕ) (talk : List Happening) (bytes new : List ℕ) → AreTags now → Talks now view talk bytes new
+    → Leads view bytes new

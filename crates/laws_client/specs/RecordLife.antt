@@ -21,9 +21,12 @@ one_sent = codes "a1 SELECT INBOX\r\na2 NOOP\r\n"
 
 abbrev pub one_told : List Told
 one_told =
-    Answer (codes "a1 SELECT INBOX") (codes "* FLAGS (\\Answered \\Flagged \\Deleted \\Seen \\Draft)\r\n* 0 EXISTS\r\n* OK [UIDVALIDITY 1] UIDs valid\r\n* OK [UIDNEXT 1] Predicted next UID\r\n* OK [PERMANENTFLAGS (\\Answered \\Flagged \\Deleted \\Seen \\Draft)] Flags kept\r\n* LIST () \"/\" INBOX\r\na1 OK [READ-WRITE] SELECT completed\r\n")
+    Answer (codes "a1 SELECT INBOX")
+    (codes
+    "* FLAGS (\\Answered \\Flagged \\Deleted \\Seen \\Draft)\r\n* 0 EXISTS\r\n* OK [UIDVALIDITY 1] UIDs valid\r\n* OK [UIDNEXT 1] Predicted next UID\r\n* OK [PERMANENTFLAGS (\\Answered \\Flagged \\Deleted \\Seen \\Draft)] Flags kept\r\n* LIST () \"/\" INBOX\r\na1 OK [READ-WRITE] SELECT completed\r\n")
     ∷ Answer (codes "a2 NOOP") (codes "* 1 EXISTS\r\na2 OK NOOP completed\r\n") ∷ []
 
 -- It is lived, in the house with one of each; its client then has a list of one message, and its session counts one.
 abbrev pub OneLifeIsLived : Type 0
-OneLifeIsLived = (w : World) × Lives one_house 0 one_first empty_world one_sent one_told one_last w × (view_of w 0 ≡ 1 ∷ []) × (hears_all None one_told ≡ Some (knowing (Some (unknown ∷ []))))
+OneLifeIsLived = (w : World) × Lives one_house 0 one_first empty_world one_sent one_told one_last w × (view_of w 0 ≡ 1 ∷ [])
+    × (hears_all None one_told ≡ Some (knowing (Some (unknown ∷ []))))

@@ -15,5 +15,7 @@ stays_by answer = true
 
 -- Then it is in the same mailbox, since the same SELECT, with the handle that it had, gone on by as many changes as were shown.
 abbrev pub ServedSessionsStay : Type 0
-ServedSessionsStay = (old new : LockedStore) (events : List Event) (here : Entry) → Met Holds old events new → list_all (λ (e : Event). stays_by e.answer) events ≡ true → old.entered ≡ Some here
-    → In new (λ there. (there.mailbox ≡ here.mailbox) × (there.start ≡ here.start) × (there.handle ≡ record here.handle { at = here.handle.at + length (shown_since [] events) }))
+ServedSessionsStay = (old new : LockedStore) (events : List Event) (here : Entry) → Met Holds old events new
+    → list_all (λ (e : Event). stays_by e.answer) events ≡ true → old.entered ≡ Some here
+    → In new (λ there. (there.mailbox ≡ here.mailbox) × (there.start ≡ here.start)
+    × (there.handle ≡ record here.handle { at = here.handle.at + length (shown_since [] events) }))

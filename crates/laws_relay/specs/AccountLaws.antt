@@ -26,11 +26,13 @@ abbrev pub ConnectionsAreKnown : Type 0
 ConnectionsAreKnown = (house : Premises) (seat serial : ℕ) (bytes replied : List ℕ) (judged : List Judged) → IsInLine house.host
     → IsConnection house seat serial bytes replied judged
     → (more told untold : List ℕ) → told ++ untold ≡ replied
-    → MayForget house.host house.directory (handed_over (bytes ++ more) told) (handed_over (bytes ++ more) replied) (map (λ (j : Judged). j.message) judged) (map (λ (j : Judged). j.verdicts) judged)
+    → MayForget house.host house.directory (handed_over (bytes ++ more) told) (handed_over (bytes ++ more) replied)
+    (map (λ (j : Judged). j.message) judged) (map (λ (j : Judged). j.verdicts) judged)
 
 -- What was taken from the lanes with this worker's seat is what it said there. `said`: on each lane
 abbrev pub TakenIsItsOwn : ℕ → List (List Job) → List (List (Entry Job)) → Type 0
-TakenIsItsOwn seat copies said = (lane : ℕ) (copy : Job) → Contains (slice_index_or copies lane []) copy → copy.key.seat ≡ seat → Contains (slice_index_or said lane []) (Item seat copy)
+TakenIsItsOwn seat copies said = (lane : ℕ) (copy : Job) → Contains (slice_index_or copies lane []) copy → copy.key.seat ≡ seat
+    → Contains (slice_index_or said lane []) (Item seat copy)
 
 -- Nothing was accepted of a connection for a mailbox of a shard that its worker has closed by then.
 abbrev pub ClosedHaveNothing : Premises → ℕ → List (List (CopyKey × ℕ)) → Type 0

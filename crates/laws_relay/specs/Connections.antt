@@ -1,4 +1,5 @@
--- A connection as it goes on, call by call: what came, what was said and what was submitted so far, and what a relay at its other end may conclude of that.
+-- A connection as it goes on, call by call: what came, what was said and what was submitted so far, and what a relay at its other end may conclude of
+-- that.
 use Rattle.std.specs.Prelude.{◌≡◌, ℕ, ◌<◌, Bool, List, [], ◌∷◌, ◌++◌, length, map, slice_index_or}
 use Rattle.delivery_token.specs.declared.Verdict.{Verdict}
 use Rattle.envelope.specs.Directory.{Directory, marked}
@@ -16,9 +17,10 @@ use Rattle.laws_relay.specs.Moments.{Moment, EachMomentMayHappen, dialogue_over,
 use Rattle.laws_relay.specs.Conclusions.{MayForget}
 use Rattle.laws_relay.specs.Numbers.{no_submission}
 
--- A connection has come so far: these bytes were taken, these replies said behind the greeting, these messages submitted, and these verdicts told, of a dialogue that stands here now. Which
--- shards were shut may have changed on the way.
-pub record HasCome (setting : Setting) (directory : Directory) (taken : List ℕ) (said : List Reply) (submitted : List Submission) (told : List (List Verdict)) (c : Conversation) : Type 0 where
+-- A connection has come so far: these bytes were taken, these replies said behind the greeting, these messages submitted, and these verdicts told, of
+-- a dialogue that stands here now. Which shards were shut may have changed on the way.
+pub record HasCome (setting : Setting) (directory : Directory) (taken : List ℕ) (said : List Reply) (submitted : List Submission)
+    (told : List (List Verdict)) (c : Conversation) : Type 0 where
   pub moments : List Moment
   pub may : EachMomentMayHappen setting directory fresh moments
   pub cut : IsCut taken (lines_of (events_of moments)) c.unfinished
@@ -33,34 +35,41 @@ Begins = (setting : Setting) (directory : Directory) → HasCome setting directo
 
 -- bytes are taken, in whatever pieces, whichever shards are shut then
 abbrev pub TakesBytes : Type 0
-TakesBytes = (setting : Setting) (directory : Directory) (taken : List ℕ) (said : List Reply) (submitted : List Submission) (told : List (List Verdict)) (before after : Conversation)
+TakesBytes = (setting : Setting) (directory : Directory) (taken : List ℕ) (said : List Reply) (submitted : List Submission)
+    (told : List (List Verdict)) (before after : Conversation)
     → HasCome setting directory taken said submitted told before
     → (shut : List Bool) (more : List ℕ) (turn : Turn) → Leads setting (marked shut directory) before more turn after
     → HasCome setting directory (taken ++ more) (said ++ turn.replies) (submitted ++ turn.submissions) told after
 
 -- the verdicts that are awaited are told
 abbrev pub TellsVerdicts : Type 0
-TellsVerdicts = (setting : Setting) (directory : Directory) (taken : List ℕ) (said : List Reply) (submitted : List Submission) (told : List (List Verdict)) (c : Conversation)
+TellsVerdicts = (setting : Setting) (directory : Directory) (taken : List ℕ) (said : List Reply) (submitted : List Submission)
+    (told : List (List Verdict)) (c : Conversation)
     → HasCome setting directory taken said submitted told c
     → (shut : List Bool) (verdicts : List Verdict) → c.standing.phase ≡ Waiting (length verdicts)
-    → HasCome setting directory taken (said ++ map verdict_reply verdicts) submitted (told ++ verdicts ∷ []) (led_by setting (marked shut directory) c (Answered verdicts))
+    → HasCome setting directory taken (said ++ map verdict_reply verdicts) submitted (told ++ verdicts ∷ [])
+    (led_by setting (marked shut directory) c (Answered verdicts))
 
 -- the server shuts down while it listens
 abbrev pub ShutsDown : Type 0
-ShutsDown = (setting : Setting) (directory : Directory) (taken : List ℕ) (said : List Reply) (submitted : List Submission) (told : List (List Verdict)) (c : Conversation)
+ShutsDown = (setting : Setting) (directory : Directory) (taken : List ℕ) (said : List Reply) (submitted : List Submission)
+    (told : List (List Verdict)) (c : Conversation)
     → HasCome setting directory taken said submitted told c
     → (shut : List Bool) → IsListening c.standing.phase
     → HasCome setting directory taken (said ++ ShuttingDown ∷ []) submitted told (led_by setting (marked shut directory) c Shut)
 
 -- What the relay may conclude then: it sent the bytes that were taken and perhaps more, and was told a front of what was said.
 abbrev pub Concludes : Type 0
-Concludes = (host : List ℕ) (setting : Setting) (directory : Directory) (taken : List ℕ) (said : List Reply) (submitted : List Submission) (told : List (List Verdict)) (c : Conversation) → IsInLine host
+Concludes = (host : List ℕ) (setting : Setting) (directory : Directory) (taken : List ℕ) (said : List Reply) (submitted : List Submission)
+    (told : List (List Verdict)) (c : Conversation) → IsInLine host
     → HasCome setting directory taken said submitted told c
     → (waiting heard unheard : List ℕ) → heard ++ unheard ≡ wire host (Greeting ∷ said)
     → MayForget host directory (handed_over (taken ++ waiting) heard) (handed_over (taken ++ waiting) (heard ++ unheard)) submitted told
 
--- The n-th message that was submitted is the connection's message of the number n: with the fates' numbers it is known which keys have the copies of each message that the relay handed over.
+-- The n-th message that was submitted is the connection's message of the number n: with the fates' numbers it is known which keys have the copies of
+-- each message that the relay handed over.
 abbrev pub NumbersMessages : Type 0
-NumbersMessages = (setting : Setting) (directory : Directory) (taken : List ℕ) (said : List Reply) (submitted : List Submission) (told : List (List Verdict)) (c : Conversation)
+NumbersMessages = (setting : Setting) (directory : Directory) (taken : List ℕ) (said : List Reply) (submitted : List Submission)
+    (told : List (List Verdict)) (c : Conversation)
     → HasCome setting directory taken said submitted told c
     → (n : ℕ) → n < length submitted → IsMessage setting (length directory.homes) n (slice_index_or submitted n no_submission)

@@ -35,4 +35,5 @@ ends_over setting directory s (moment ∷ moments) =
 abbrev pub EachMomentMayHappen : Setting → Directory → Standing → List Moment → Type 0
 EachMomentMayHappen setting directory s [] = Unit {0}
 EachMomentMayHappen setting directory s (moment ∷ moments) =
-    MayHappen s.phase moment.event × EachMomentMayHappen setting directory (on_event setting (marked moment.shut directory) s moment.event).standing moments
+    MayHappen s.phase moment.event × EachMomentMayHappen setting directory
+    (on_event setting (marked moment.shut directory) s moment.event).standing moments

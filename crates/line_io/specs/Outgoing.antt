@@ -15,7 +15,8 @@ pub record Outgoing : Type 0 where
 abbrev pub IsReady : Outgoing → Type 0
 IsReady o = (b : Buffer) × (o.buffer ≡ Some b) × (b.failed ≡ false) × (b.pending ≡ [])
 
--- A buffer was flushed: nothing was said by it, and nothing is pending. After Ok all that was said was sent, after an error its first bytes were, and not all.
+-- A buffer was flushed: nothing was said by it, and nothing is pending. After Ok all that was said was sent, after an error its first bytes were, and
+-- not all.
 pub record Flushed (before : Buffer) (result : Result (Unit {0}) FlushFault) (after : Buffer) : Type 0 where
   pub same : after ≡ record before { taken = after.taken; pending = []; failed = after.failed }
   pub all : OnOk result (SentAll after)

@@ -46,7 +46,8 @@ IsQuiet turn = (turn.replies ≡ []) × (turn.submissions ≡ [])
 
 -- The bytes used lead from the conversation before the call to one for which the connection stands now,
 -- and what was written is what is said on the way.
-pub record Follows (Stands : Conversation → Type 0) (setting : Setting) (host : List ℕ) (directory : Directory) (before : Conversation) (piece : List ℕ) (fed : Fed)
+pub record Follows (Stands : Conversation → Type 0) (setting : Setting) (host : List ℕ) (directory : Directory) (before : Conversation)
+    (piece : List ℕ) (fed : Fed)
     (old new : List ℕ) (pending : List Submission) : Type 0 where
   pub turn : Turn
   pub after : Conversation
@@ -62,6 +63,7 @@ pub record Follows (Stands : Conversation → Type 0) (setting : Setting) (host 
   pub ended : before.standing.phase ≡ Ended → fed.used ≡ 0
 
 -- an event of the server's own
-pub record Happens (Stands : Conversation → Type 0) (setting : Setting) (host : List ℕ) (directory : Directory) (before : Conversation) (event : Event) (old new : List ℕ) : Type 0 where
+pub record Happens (Stands : Conversation → Type 0) (setting : Setting) (host : List ℕ) (directory : Directory) (before : Conversation)
+    (event : Event) (old new : List ℕ) : Type 0 where
   pub stands : Stands (led_by setting directory before event)
   pub said : new ≡ old ++ wire host (on_event setting directory before.standing event).replies

@@ -47,19 +47,20 @@ EachMayBeHeard setting directory s [] = Unit {0}
 EachMayBeHeard setting directory s (event ∷ events) =
     MayHear s.phase event × EachMayBeHeard setting directory (on_event setting directory s event).standing events
 
--- Taking these bytes leads from one conversation to another, with all that is said and submitted on the way: what had come of the
--- next line, and then these bytes, are whole lines, each an event, and the beginning of another line. Only while the dialogue listens
--- are lines heard and more bytes taken: so nothing behind the end of a message's data is taken before its verdicts were said.
-pub record Leads (setting : Setting) (directory : Directory) (before : Conversation) (taken : List ℕ) (turn : Turn) (after : Conversation) : Type 0 where
-  pub lines : List (List ℕ)
-  pub events : List Event
-  pub cut : IsCut (before.unfinished ++ taken) lines after.unfinished
-  pub heard : Heard lines events
-  pub may : EachMayBeHeard setting directory before.standing events
-  pub turns : turn ≡ dialogue setting directory before.standing events
-  pub stands : after.standing ≡ turn.standing
-  -- behind the last of the lines, bytes are taken only while it listens still
-  pub behind : IsListening turn.standing.phase ⊎ (taken ≡ []) ⊎ (after.unfinished ≡ [])
+module _ (setting : Setting) (directory : Directory) where
+  -- Taking these bytes leads from one conversation to another, with all that is said and submitted on the way: what had come of the
+  -- next line, and then these bytes, are whole lines, each an event, and the beginning of another line. Only while the dialogue listens
+  -- are lines heard and more bytes taken: so nothing behind the end of a message's data is taken before its verdicts were said.
+  pub record Leads (before : Conversation) (taken : List ℕ) (turn : Turn) (after : Conversation) : Type 0 where
+    pub lines : List (List ℕ)
+    pub events : List Event
+    pub cut : IsCut (before.unfinished ++ taken) lines after.unfinished
+    pub heard : Heard lines events
+    pub may : EachMayBeHeard setting directory before.standing events
+    pub turns : turn ≡ dialogue setting directory before.standing events
+    pub stands : after.standing ≡ turn.standing
+    -- behind the last of the lines, bytes are taken only while it listens still
+    pub behind : IsListening turn.standing.phase ⊎ (taken ≡ []) ⊎ (after.unfinished ≡ [])
 
 -- one turn after the other
 infixr 12 ◌⨾◌

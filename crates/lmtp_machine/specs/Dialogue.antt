@@ -97,15 +97,16 @@ on_mail Ready n path =
     if n == last_number then turn Ended n (ShuttingDown ∷ []) else turn (Transaction (sender_text path) []) n (SenderOk ∷ [])
 on_mail phase n path = turn phase n (BadSequence ∷ [])
 
-abbrev pub on_recipient : Directory → List ℕ → List ℕ → ℕ → Result ℕ NoSuch → Turn
-on_recipient directory sender recipients n (Err System) = turn (Transaction sender recipients) n (DomainUnknown ∷ [])
-on_recipient directory sender recipients n (Err User) = turn (Transaction sender recipients) n (MailboxUnknown ∷ [])
-on_recipient directory sender recipients n (Ok mailbox) =
-    if is_shut directory (shard_of directory mailbox)
-    then turn (Transaction sender recipients) n (ShardClosed ∷ [])
-    else if length recipients == 100
-    then turn (Transaction sender recipients) n (TooManyRecipients ∷ [])
-    else turn (Transaction sender (recipients ++ mailbox ∷ [])) n (RecipientOk ∷ [])
+module _ (directory : Directory) (sender recipients : List ℕ) where
+  abbrev pub on_recipient : ℕ → Result ℕ NoSuch → Turn
+  on_recipient n (Err System) = turn (Transaction sender recipients) n (DomainUnknown ∷ [])
+  on_recipient n (Err User) = turn (Transaction sender recipients) n (MailboxUnknown ∷ [])
+  on_recipient n (Ok mailbox) =
+      if is_shut directory (shard_of directory mailbox)
+      then turn (Transaction sender recipients) n (ShardClosed ∷ [])
+      else if length recipients == 100
+      then turn (Transaction sender recipients) n (TooManyRecipients ∷ [])
+      else turn (Transaction sender (recipients ++ mailbox ∷ [])) n (RecipientOk ∷ [])
 
 abbrev pub on_rcpt : Directory → Phase → ℕ → Path → Turn
 on_rcpt directory (Transaction sender recipients) n path = on_recipient directory sender recipients n (lookup directory path)
@@ -155,33 +156,36 @@ keys_from setting message i (mailbox ∷ mailboxes) =
 abbrev pub failed : ℕ → List ℕ → Reply → Turn
 failed n recipients reply = turn Ready n (replicate (length recipients) reply)
 
-abbrev pub on_outcome : Setting → ℕ → List ℕ → List ℕ → List (List ℕ) → Outcome → Turn
-on_outcome setting n sender recipients lines outcomes.TooBig = failed n recipients MessageTooBig
-on_outcome setting n sender recipients lines outcomes.Nul = failed n recipients NulByte
-on_outcome setting n sender recipients lines outcomes.NoMemory = failed n recipients OutOfMemory
-on_outcome setting n sender recipients lines outcomes.Ok = record {
-  standing = record { phase = Waiting (length recipients); submitted = n + 1 };
-  replies = [];
-  submissions = record {
-    keys = keys_from setting n 0 recipients;
-    mailboxes = recipients;
-    text = undated (stored_text sender lines);
-  } ∷ [];
-}
+module _ (setting : Setting) (n : ℕ) (sender recipients : List ℕ) where
+  abbrev pub on_outcome : List (List ℕ) → Outcome → Turn
+  on_outcome lines outcomes.TooBig = failed n recipients MessageTooBig
+  on_outcome lines outcomes.Nul = failed n recipients NulByte
+  on_outcome lines outcomes.NoMemory = failed n recipients OutOfMemory
+  on_outcome lines outcomes.Ok = record {
+    standing = record { phase = Waiting (length recipients); submitted = n + 1 };
+    replies = [];
+    submissions = record {
+      keys = keys_from setting n 0 recipients;
+      mailboxes = recipients;
+      text = undated (stored_text sender lines);
+    } ∷ [];
+  }
 
-abbrev pub at_end : Setting → Bool → ℕ → List ℕ → List ℕ → List (List ℕ) → Turn
-at_end setting refused n sender recipients lines =
-    on_outcome setting n sender recipients lines (outcome setting.max_message refused (plain lines))
+module _ (setting : Setting) (refused : Bool) where
+  abbrev pub at_end : ℕ → List ℕ → List ℕ → List (List ℕ) → Turn
+  at_end n sender recipients lines =
+      on_outcome setting n sender recipients lines (outcome setting.max_message refused (plain lines))
 
 abbrev pub is_dot : List ℕ → Bool
 is_dot [] = false
 is_dot (b ∷ []) = b == 46
 is_dot (b ∷ c ∷ bs) = false
 
-abbrev pub on_data_line : Setting → ℕ → List ℕ → List ℕ → List (List ℕ) → List ℕ → Turn
-on_data_line setting n sender recipients lines line =
-    if is_dot line then at_end setting false n sender recipients lines
-    else turn (Data sender recipients (lines ++ line ∷ [])) n []
+module _ (setting : Setting) (n : ℕ) (sender recipients : List ℕ) where
+  abbrev pub on_data_line : List (List ℕ) → List ℕ → Turn
+  on_data_line lines line =
+      if is_dot line then at_end setting false n sender recipients lines
+      else turn (Data sender recipients (lines ++ line ∷ [])) n []
 
 -- ---- verdicts
 
@@ -198,14 +202,15 @@ verdict_reply (Refused refusal) = refusal_reply refusal
 
 -- ---- events
 
-abbrev pub on_line : Setting → Directory → Phase → ℕ → List ℕ → Turn
-on_line setting directory Start n line = on_command_line directory (record { phase = Start; submitted = n }) line
-on_line setting directory Ready n line = on_command_line directory (record { phase = Ready; submitted = n }) line
-on_line setting directory (Transaction sender recipients) n line =
-    on_command_line directory (record { phase = Transaction sender recipients; submitted = n }) line
-on_line setting directory (Data sender recipients lines) n line = on_data_line setting n sender recipients lines line
-on_line setting directory (Waiting count) n line = turn (Waiting count) n []
-on_line setting directory Ended n line = turn Ended n []
+module _ (setting : Setting) (directory : Directory) where
+  abbrev pub on_line : Phase → ℕ → List ℕ → Turn
+  on_line Start n line = on_command_line directory (record { phase = Start; submitted = n }) line
+  on_line Ready n line = on_command_line directory (record { phase = Ready; submitted = n }) line
+  on_line (Transaction sender recipients) n line =
+      on_command_line directory (record { phase = Transaction sender recipients; submitted = n }) line
+  on_line (Data sender recipients lines) n line = on_data_line setting n sender recipients lines line
+  on_line (Waiting count) n line = turn (Waiting count) n []
+  on_line Ended n line = turn Ended n []
 
 abbrev pub on_starved : Setting → Phase → ℕ → Turn
 on_starved setting (Data sender recipients lines) n = at_end setting true n sender recipients lines

@@ -30,11 +30,12 @@ pub record IsMessage (setting : Setting) (mailboxes : ℕ) (number : ℕ) (submi
   pub each : All (λ mailbox. mailbox < mailboxes) submission.mailboxes
   pub number_fits : number < last_number
 
--- the submissions are the messages from the first number on, up to the next number, which is that of none of them
-abbrev pub AreMessages : Setting → ℕ → ℕ → List Submission → ℕ → Type 0
-AreMessages setting mailboxes first [] next = first ≡ next
-AreMessages setting mailboxes first (submission ∷ submissions) next =
-    IsMessage setting mailboxes first submission × AreMessages setting mailboxes (first + 1) submissions next
+module _ (setting : Setting) (mailboxes : ℕ) where
+  -- the submissions are the messages from the first number on, up to the next number, which is that of none of them
+  abbrev pub AreMessages : ℕ → List Submission → ℕ → Type 0
+  AreMessages first [] next = first ≡ next
+  AreMessages first (submission ∷ submissions) next =
+      IsMessage setting mailboxes first submission × AreMessages (first + 1) submissions next
 
 -- the same as a record, for those who have the submissions as one of their values
 pub record Numbered (setting : Setting) (mailboxes : ℕ) (before : Standing) (submissions : List Submission) (after : Standing) : Type 0 where

@@ -34,8 +34,8 @@ abbrev pub NotAbove : Option CopyKey → CopyKey → Type 0
 NotAbove None key = ⊥
 NotAbove (Some last) key = (key ≡ last) ⊎ Below key last
 
--- The mailbox is as these events leave it: it stands for their log, has accepted just their copies, and the text of each message that is there is that of
--- the copy which was stored under its UID. Of each seat, no key on which there was a verdict is above the last one that is kept.
+-- The mailbox is as these events leave it: it stands for their log, has accepted just their copies, and the text of each message that is there is
+-- that of the copy which was stored under its UID. Of each seat, no key on which there was a verdict is above the last one that is kept.
 pub record Keeps (m : Mailbox) (number : ℕ) (events : List Event) (last : List (Option CopyKey)) : Type 0 where
   pub here : number ≡ m.number
   pub log : Stands m (changes_in number events)
@@ -73,13 +73,14 @@ pub data Answers (job : Job) (verdict : Verdict) (found left : LockedMailbox) : 
   judges : IsNext found job → Judges job verdict found left → Answers job verdict found left
   declines : (IsNext found job → ⊥) → verdict ≡ Refused NoMemory → left ≡ found → Answers job verdict found left
 
--- A lock was taken: this was found, this was done to it, it was left like that, and the lock was let go. Of what one hold leaves and the next one finds
--- nothing is said.
+-- A lock was taken: this was found, this was done to it, it was left like that, and the lock was let go. Of what one hold leaves and the next one
+-- finds nothing is said.
 abbrev pub InOneHold : {V : Type 0} → (V → V → Type 0) → Type 0
 InOneHold {V} P = (found : V) × (left : V) × P found left
 
 -- at `&mut`s to x and y the call may give r, and leave x' and y' there
-pub record ReturnsLent {F T A R : Type 0} (g : Once F (MutBor T × (MutBor A × Unit {0})) (R × (MutBor T × (MutBor A × Unit {0})))) (f : F) (x : T) (y : A) (r : R) (x' : T) (y' : A) : Type 0 where
+pub record ReturnsLent {F T A R : Type 0} (g : Once F (MutBor T × (MutBor A × Unit {0})) (R × (MutBor T × (MutBor A × Unit {0})))) (f : F) (x : T)
+    (y : A) (r : R) (x' : T) (y' : A) : Type 0 where
   pub shown : MutBor T
   pub shows : shown.now ≡ x
   pub lent : MutBor A
@@ -97,17 +98,18 @@ abbrev pub on_ok : {A F : Type 0} → Result A F → Event → List Event
 on_ok (Ok x) event = event ∷ []
 on_ok (Err fault) event = []
 
--- Who held the mailbox knows how the history begins, with all that has happened here: what had happened when it was found, and then just what was said.
--- The mailbox that was found stood for the log that its events had made; the one that was left stands for the log that they make now, which is the
--- history's.
-pub record Knows (found left : LockedMailbox) (said : List Event) (before after : List Event) : Type 0 where
-  pub goes_on : IsPrefix before after
-  pub legal : Legal after
-  pub same : left.mailbox.number ≡ found.mailbox.number
-  pub last : left.last ≡ found.last
-  pub history : left.history ≡ found.history
-  pub events : left.events ≡ found.events ++ said
-  pub own : part concerns found.mailbox.number after ≡ left.events
-  pub all : changes_in found.mailbox.number after ≡ changes_in found.mailbox.number left.events
-  pub found_log : Stands found.mailbox (changes_in found.mailbox.number found.events)
-  pub left_log : Stands left.mailbox (changes_in found.mailbox.number left.events)
+module _ (found left : LockedMailbox) where
+  -- Who held the mailbox knows how the history begins, with all that has happened here: what had happened when it was found, and then just what was
+  -- said. The mailbox that was found stood for the log that its events had made; the one that was left stands for the log that they make now, which
+  -- is the history's.
+  pub record Knows (said : List Event) (before after : List Event) : Type 0 where
+    pub goes_on : IsPrefix before after
+    pub legal : Legal after
+    pub same : left.mailbox.number ≡ found.mailbox.number
+    pub last : left.last ≡ found.last
+    pub history : left.history ≡ found.history
+    pub events : left.events ≡ found.events ++ said
+    pub own : part concerns found.mailbox.number after ≡ left.events
+    pub all : changes_in found.mailbox.number after ≡ changes_in found.mailbox.number left.events
+    pub found_log : Stands found.mailbox (changes_in found.mailbox.number found.events)
+    pub left_log : Stands left.mailbox (changes_in found.mailbox.number left.events)

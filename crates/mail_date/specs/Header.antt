@@ -33,7 +33,8 @@ pub record Named (word text behind : List ℕ) : Type 0 where
 pub data FirstReceived : List ℕ → List ℕ → Type 0 where
   here : {text : List ℕ} (body rest : List ℕ) → Named (codes "Received") text (body ++ rest) → Unbroken body → AtEnd rest → FirstReceived text body
   later : {text body : List ℕ} (field more : List ℕ) → text ≡ field ++ 10 ∷ more → Unbroken field → is_folded more ≡ false
-      → is_empty_line text ≡ false → ((behind : List ℕ) → Named (codes "Received") text behind → ⊥) → FirstReceived more body → FirstReceived text body
+      → is_empty_line text ≡ false → ((behind : List ℕ) → Named (codes "Received") text behind → ⊥) → FirstReceived more body
+      → FirstReceived text body
 
 -- ---- the date within the field
 

@@ -30,7 +30,8 @@ next_of log at n = take n (drop at log)
 -- What every mailbox keeps, whatever was called, and so each lock around one.
 pub record IsKept (m : Mailbox) : Type 0 where
   -- where the window still has what a client is to be shown, its view with these changes replayed is the messages' UIDs
-  pub views : (slot : ℕ) (o : Open) → in_slot m.cursors slot ≡ Some o → m.window.base ≤ o.at → replay o.view (changes_from o.at m.window) ≡ uids_of m.messages
+  pub views : (slot : ℕ) (o : Open) → in_slot m.cursors slot ≡ Some o → m.window.base ≤ o.at
+      → replay o.view (changes_from o.at m.window) ≡ uids_of m.messages
   -- no cursor is past the end of the log
   pub within : (slot : ℕ) (o : Open) → in_slot m.cursors slot ≡ Some o → o.at ≤ total m.window
   pub rising : IsStrictlyIncreasing (uids_of m.messages)

@@ -142,7 +142,8 @@ pub record AsksForServer (rows : List Row) (config : Config) (uidvalidity : Uidv
 -- Where clap found this subcommand with these rows, it is asked for, with the settings that these give.
 abbrev pub AsksBy : Option (Text × List Row) → Asked → Type 0
 AsksBy found (Script config form) = (rows : List Row) × (found ≡ Some (codes "script", rows)) × AsksForScript rows config × (form ≡ form_given rows)
-AsksBy found (Serve config uidvalidity report) = (rows : List Row) × (found ≡ Some (codes "serve", rows)) × AsksForServer rows config uidvalidity report
+AsksBy found (Serve config uidvalidity report) = (rows : List Row) × (found ≡ Some (codes "serve", rows))
+    × AsksForServer rows config uidvalidity report
 
 -- These words, the first of which is the program's name, ask for that. What clap finds in them is said there (`subcommand_of`).
 abbrev pub AsksFor : List Text → Asked → Type 0

@@ -22,7 +22,11 @@ flag_rule name = record (new_rule name) { long = Some name; action = Some SetTru
 
 -- one mailbox or more
 abbrev pub mailbox_rule : Rule
-mailbox_rule = record (new_rule (codes "MAILBOX")) { action = Some Append; range = Some (record { start_inclusive = 1; end_inclusive = usize_max }); required = true }
+mailbox_rule = record (new_rule (codes "MAILBOX")) {
+  action = Some Append;
+  range = Some (record { start_inclusive = 1; end_inclusive = usize_max });
+  required = true;
+}
 
 -- what both subcommands take
 abbrev pub house_rules : List Rule
@@ -78,8 +82,9 @@ program = record {
 abbrev pub faults_at : List Text → Kinds
 faults_at words = fault_of program words
 
--- what clap takes, and the program doesn't: a number that is spelled with other than digits, a port of users or of the page that is neither 0 nor high enough, more sessions
--- than the standard profile has, a limit on memory that is no size or a size of 2 ^ 64 bytes or more, no mailbox, no subcommand
+-- what clap takes, and the program doesn't: a number that is spelled with other than digits, a port of users or of the page that is neither 0 nor
+-- high enough, more sessions than the standard profile has, a limit on memory that is no size or a size of 2 ^ 64 bytes or more, no mailbox, no
+-- subcommand
 abbrev pub own_faults : Kinds
 own_faults = kind.ValueValidation ∷ kind.MissingRequiredArgument ∷ kind.MissingSubcommand ∷ []
 

@@ -32,7 +32,8 @@ pub record IsGathered {B : Type 0} (producers : List (Worked B)) (consumers : Li
   pub worst : g.worst ≡ worst_of producers consumers
 
 -- What came of each queue, with what all threads left of their permits; the rest of what they left, in their order; and the gravest fault.
-pub record IsClosing {B : Type 0} (lanes : List (ShardQueue Job)) (channels : List (ReplyChannel Noted)) (producers : List (Worked B)) (consumers : List (Consumed B)) (c : Closings B) : Type 0 where
+pub record IsClosing {B : Type 0} (lanes : List (ShardQueue Job)) (channels : List (ReplyChannel Noted)) (producers : List (Worked B))
+    (consumers : List (Consumed B)) (c : Closings B) : Type 0 where
   pub of_lanes : MatchOption c.lanes (AreTornWith lanes (map (λ w. w.ended.items) producers) (map (λ d. d.permit) consumers))
       (λ closed. AreClosedWith lanes (map (λ w. w.ended.items) producers) (map (λ d. d.permit) consumers) closed.items)
   pub of_channels : MatchOption c.channels (AreChannelsTornWith channels (map (λ d. d.senders.items) consumers) (map (λ w. w.receiver) producers))
@@ -44,15 +45,18 @@ pub record IsClosing {B : Type 0} (lanes : List (ShardQueue Job)) (channels : Li
 
 -- ---- the books
 
--- No thread had a fault. Each queue was closed, with what all threads left of their permits; the rest of what they left is in the books, in their order.
-pub record IsBalanced {B : Type 0} (lanes : List (ShardQueue Job)) (channels : List (ReplyChannel Noted)) (producers : List (Worked B)) (consumers : List (Consumed B)) (books : Books B) : Type 0 where
+-- No thread had a fault. Each queue was closed, with what all threads left of their permits; the rest of what they left is in the books, in their
+-- order.
+pub record IsBalanced {B : Type 0} (lanes : List (ShardQueue Job)) (channels : List (ReplyChannel Noted)) (producers : List (Worked B))
+    (consumers : List (Consumed B)) (books : Books B) : Type 0 where
   pub fates : All (λ w. fault_of_fate w.fate ≡ None) producers
   pub services : All (λ c. fault_of_consumer c ≡ None) consumers
   pub replies : books.replies.items ≡ map (λ w. w.replies) producers
   pub logs : books.logs.items ≡ map (λ w. w.log) producers
   pub taken : books.taken.items ≡ map (λ c. c.taken) consumers
   pub lanes_closed : AreClosedWith lanes (map (λ w. w.ended.items) producers) (map (λ c. c.permit) consumers) books.closed.lanes.items
-  pub channels_closed : AreChannelsClosedWith channels (map (λ c. c.senders.items) consumers) (map (λ w. w.receiver) producers) books.closed.channels.items
+  pub channels_closed : AreChannelsClosedWith channels (map (λ c. c.senders.items) consumers)
+      (map (λ w. w.receiver) producers) books.closed.channels.items
 
 -- There was this fault, the gravest; or there was none, and some queue couldn't be closed.
 abbrev pub IsWhyNot : {B : Type 0} → List (ShardQueue Job) → List (ReplyChannel Noted) → List (Worked B) → List (Consumed B) → Fault → Type 0

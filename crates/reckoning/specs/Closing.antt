@@ -24,8 +24,11 @@ abbrev pub AreTornWith : List (ShardQueue Job) → List (List (Ended Job)) → L
 AreTornWith lanes hands consumers = (lists : List (List (Ended Job))) × AllIn hands lists × IsTorn lanes lists consumers
 
 -- The same of the channels.
-abbrev pub AreChannelsClosedWith : List (ReplyChannel Noted) → List (List (SenderEnded Noted)) → List (ReceiverPermit Noted) → List (ReplyClosed Noted) → Type 0
-AreChannelsClosedWith channels hands receivers closed = (lists : List (List (SenderEnded Noted))) × AllSendersIn hands lists × AreChannelsClosed channels lists receivers closed
+abbrev pub AreChannelsClosedWith : List (ReplyChannel Noted) → List (List (SenderEnded Noted)) → List (ReceiverPermit Noted)
+    → List (ReplyClosed Noted) → Type 0
+AreChannelsClosedWith channels hands receivers closed = (lists : List (List (SenderEnded Noted))) × AllSendersIn hands lists
+    × AreChannelsClosed channels lists receivers closed
 
 abbrev pub AreChannelsTornWith : List (ReplyChannel Noted) → List (List (SenderEnded Noted)) → List (ReceiverPermit Noted) → Type 0
-AreChannelsTornWith channels hands receivers = (lists : List (List (SenderEnded Noted))) × AllSendersIn hands lists × AreChannelsTorn channels lists receivers
+AreChannelsTornWith channels hands receivers = (lists : List (List (SenderEnded Noted))) × AllSendersIn hands lists
+    × AreChannelsTorn channels lists receivers

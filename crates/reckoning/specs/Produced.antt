@@ -25,28 +25,30 @@ use Rattle.house_floor.specs.Left.{Plans, most_of}
 use Rattle.house_floor.specs.declared.floor.Floor.{Floor}
 use Rattle.house_floor.specs.declared.floor.Guest.{Guest}
 
--- A session of this user with these steps said this: it was greeted in no mailbox, and lived through its steps, over so many mailboxes. These messages of its
--- client were carried on the way, in this order. `began` is how the house's history begins, as far as it had seen it when it came.
+-- A session of this user with these steps said this: it was greeted in no mailbox, and lived through its steps, over so many mailboxes. These
+-- messages of its client were carried on the way, in this order. `began` is how the house's history begins, as far as it had seen it when it came.
 pub record WasGuest (house : Premises) (mailboxes turns : ℕ) (guest : Guest) (carried : List Carried) (text : List ℕ) : Type 0 where
   pub user : List ℕ
   pub named : user_numbered guest.user house.directory.homes ≡ Some user
   pub began : List Event
   pub last : Moment
-  pub lives : Lives turns (greeted_at (Some (most_of house.max_message)) (folders_of house.directory user) (record { mailboxes = mailboxes; entered = None; history = began }) (greeting Standard)) guest.steps.items carried last
+  pub lives : Lives turns (greeted_at (Some (most_of house.max_message)) (folders_of house.directory user)
+      (record { mailboxes = mailboxes; entered = None; history = began }) (greeting Standard)) guest.steps.items carried last
   pub wrote : text ≡ last.text
 
--- The account of a session that made its steps, as that of a worker: what it said, and of the messages that its client appended what its log has and what it
--- has put on each lane, its end included. It is the first of its seat.
-pub record SessionAccount (house : Premises) (mailboxes turns seat : ℕ) (guest : Guest) (replies : List (List ℕ)) (notes : List Noted) (heard : List (Entry Noted)) (put : List (List (Entry Job))) : Type 0 where
+-- The account of a session that made its steps, as that of a worker: what it said, and of the messages that its client appended what its log has and
+-- what it has put on each lane, its end included. It is the first of its seat.
+pub record SessionAccount (house : Premises) (mailboxes turns seat : ℕ) (guest : Guest) (replies : List (List ℕ)) (notes : List Noted)
+    (heard : List (Entry Noted)) (put : List (List (Entry Job))) : Type 0 where
   pub carried : List Carried
   pub text : List ℕ
   pub stayed : WasGuest house mailboxes turns guest carried text
   pub alone : replies ≡ text ∷ []
   pub copies : AreAccountedFor house seat (map (judged_of seat 0) carried) notes heard put
 
--- What producer n left: its ended permits are its own on each lane, its receiver is of its channel, and the log is its own. Where a worker went through all its
--- connections, that is its account of them; where a session, behind the workers, made all its steps, that is its account of these. Either then heard as many
--- verdicts as it put copies: each was awaited, and nothing else came but ends.
+-- What producer n left: its ended permits are its own on each lane, its receiver is of its channel, and the log is its own. Where a worker went
+-- through all its connections, that is its account of them; where a session, behind the workers, made all its steps, that is its account of these.
+-- Either then heard as many verdicts as it put copies: each was awaited, and nothing else came but ends.
 pub record IsProduceOf {B : Type 0} (floor : Floor B) (plans : Plans) (guests : List Guest) (n : ℕ) (w : Worked B) : Type 0 where
   pub ended : AreEnded floor.office.lanes.items n w.ended.items
   pub receiver : (channel : ReplyChannel Noted) → slice_get floor.depot.channels.items n ≡ Some channel → IsReceiver channel w.receiver
@@ -55,6 +57,8 @@ pub record IsProduceOf {B : Type 0} (floor : Floor B) (plans : Plans) (guests : 
   -- Where it came whole the history has what it put and heard, and nothing else of its seat.
   pub backed : w.fate ≡ Whole → IsBackedBy n w.dispatch (received w.receiver) (map said w.ended.items)
   pub worker : (plan : Vec (Vec ℕ Global) Global) → slice_get plans n ≡ Some plan → w.fate ≡ Whole
-      → Account (premises_of floor.office) n (map (λ b. b.items) plan.items) (map (λ b. b.items) w.replies.items) w.log.notes (received w.receiver) (map said w.ended.items)
+      → Account (premises_of floor.office) n (map (λ b. b.items) plan.items) (map (λ b. b.items) w.replies.items) w.log.notes (received w.receiver)
+      (map said w.ended.items)
   pub session : (k : ℕ) (guest : Guest) → n ≡ length plans + k → slice_get guests k ≡ Some guest → w.fate ≡ Whole
-      → SessionAccount (premises_of floor.office) (length floor.depot.mailboxes.items) floor.turns n guest (map (λ b. b.items) w.replies.items) w.log.notes (received w.receiver) (map said w.ended.items)
+      → SessionAccount (premises_of floor.office) (length floor.depot.mailboxes.items) floor.turns n guest
+      (map (λ b. b.items) w.replies.items) w.log.notes (received w.receiver) (map said w.ended.items)

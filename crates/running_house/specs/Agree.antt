@@ -65,28 +65,31 @@ copies_taken r = map items_of (histories r)
 
 -- ---- the report
 
--- All that was put on a queue was taken, each of so many has put its end, and nobody else put anything. How much room the queue had is not said: nothing waits there any more,
--- so none is wanted.
+-- All that was put on a queue was taken, each of so many has put its end, and nobody else put anything. How much room the queue had is not said:
+-- nothing waits there any more, so none is wanted.
 abbrev pub IsEmptied : {T : Type 0} → ℕ → List (Entry T) → Type 0
 IsEmptied producers got = IsWhole producers 0 got
 
--- What the consumer of a shard told a producer: of these entries, which it took, one verdict on each copy of that producer, in their order, and then its end.
--- It told nothing else. `heard`: all that came on the producer's reply channel
+-- What the consumer of a shard told a producer: of these entries, which it took, one verdict on each copy of that producer, in their order, and then
+-- its end. It told nothing else. `heard`: all that came on the producer's reply channel
 pub record WasAnswered (mailboxes shard producer : ℕ) (taken : List (Entry Job)) (heard : List (Entry Noted)) : Type 0 where
   pub told : List (Entry Noted)
   pub each : WereAnswered mailboxes shard producer taken told
   pub ended : of shard heard ≡ told ++ End shard ∷ []
 
 pub record Agrees (plan : Plan) (r : Report) : Type 0 where
-  -- Each worker's replies and log are what its connections come to by the dialogue, where it heard what was received on its channel; and what was taken of
-  -- it from each lane is what its connections submitted, then its end.
+  -- Each worker's replies and log are what its connections come to by the dialogue, where it heard what was received on its channel; and what was
+  -- taken of it from each lane is what its connections submitted, then its end.
   pub accounts : (p : ℕ) → p < length (connections_of plan)
-      → Account (premises_for plan) p (slice_index_or (connections_of plan) p []) (slice_index_or (replies_of r) p []) (slice_index_or (notes_of r) p [])
+      → Account (premises_for plan) p (slice_index_or (connections_of plan) p []) (slice_index_or (replies_of r) p [])
+      (slice_index_or (notes_of r) p [])
       (slice_index_or (answers r) p []) (map (of p) (histories r))
   -- So it is of each session, by its steps: what it said, hold by hold, its log, and what was taken of it from each lane are what these come to.
   pub sessions : (n : ℕ) (guest : Guest) → slice_get plan.sessions.items n ≡ Some guest
-      → SessionAccount (premises_for plan) (length (premises_for plan).directory.homes) plan.turns (length plan.workers.items + n) guest (slice_index_or (said_of r) n [] ∷ [])
-      (slice_index_or (notes_of r) (length plan.workers.items + n) []) (slice_index_or (answers r) (length plan.workers.items + n) []) (map (of (length plan.workers.items + n)) (histories r))
+      → SessionAccount (premises_for plan) (length (premises_for plan).directory.homes) plan.turns (length plan.workers.items + n) guest
+      (slice_index_or (said_of r) n [] ∷ [])
+      (slice_index_or (notes_of r) (length plan.workers.items + n) []) (slice_index_or (answers r) (length plan.workers.items + n) [])
+      (map (of (length plan.workers.items + n)) (histories r))
   -- What each mailbox accepted of each of them is what the log has as stored there, and nothing else was accepted; each message that is there
   -- has the text of its copy, and where no session could remove one, every accepted copy is there.
   pub lists : ListsAgree (premises_for plan).directory (length plan.sessions.items == 0) (notes_of r) (copies_taken r) (accepted_of r) (texts_of r)
@@ -95,13 +98,15 @@ pub record Agrees (plan : Plan) (r : Report) : Type 0 where
       → WasAnswered (length (premises_for plan).directory.homes) s p (slice_index_or (histories r) s []) (slice_index_or (answers r) p [])
   -- And each of them heard as many verdicts as copies of it were taken: it awaited each, and nothing else came but ends.
   pub only : (p : ℕ) → p < producers_in plan → verdicts_in (slice_index_or (answers r) p []) ≡ copies_in (map (of p) (histories r))
-  -- The copies that a mailbox accepted have the UIDs from the first on, with no gap; no message that is there is told twice; and the messages stand in the
-  -- order in which their copies were taken.
+  -- The copies that a mailbox accepted have the UIDs from the first on, with no gap; no message that is there is told twice; and the messages stand
+  -- in the order in which their copies were taken.
   pub uids : (m : ℕ) → m < length (premises_for plan).directory.homes
-      → map (λ pair. pair.1) (slice_index_or (accepted_of r) m []) ≡ range_with_len plan.config.first_uid (length (slice_index_or (accepted_of r) m []))
+      → map (λ pair. pair.1) (slice_index_or (accepted_of r) m [])
+      ≡ range_with_len plan.config.first_uid (length (slice_index_or (accepted_of r) m []))
   pub once : (m : ℕ) → m < length (premises_for plan).directory.homes → AreToldOnce (slice_index_or (texts_of r) m [])
   pub in_order : (m : ℕ) → m < length (premises_for plan).directory.homes
-      → AreInLaneOrder m (slice_index_or (texts_of r) m []) (slice_index_or (accepted_of r) m []) (slice_index_or (copies_taken r) (shard_of (premises_for plan).directory m) [])
+      → AreInLaneOrder m (slice_index_or (texts_of r) m []) (slice_index_or (accepted_of r) m [])
+      (slice_index_or (copies_taken r) (shard_of (premises_for plan).directory m) [])
   -- A copy was refused for want of room on its lane, in its mailbox, or of UIDs, only where that can have been.
   pub refusals : (p : ℕ) → p < producers_in plan
       → All (MayCome plan.config (premises_for plan).directory (accepted_of r) (histories r)) (slice_index_or (notes_of r) p [])

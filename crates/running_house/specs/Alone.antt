@@ -10,7 +10,8 @@ use Rattle.shard_queue.specs.Permits.{WasFull}
 abbrev pub CanBeFull : Room → (seat : ℕ) → List (Entry Job) → Type 0
 CanBeFull room seat sent = (seen : List (Entry Job)) × WasFull room.producers room.capacity seat sent seen
 
--- The lane's only producer had put as many as have room, and that is all: where it had, and of any lane with others, there is a run of the lane in which it was full.
+-- The lane's only producer had put as many as have room, and that is all: where it had, and of any lane with others, there is a run of the lane in
+-- which it was full.
 abbrev pub FilledAloneIsAll : Type 0
 FilledAloneIsAll = (room : Room) (seat : ℕ) (jobs : List Job) → seat < room.producers
     → FilledAlone room seat (map (λ job. Item seat job) jobs) ↔ CanBeFull room seat (map (λ job. Item seat job) jobs)

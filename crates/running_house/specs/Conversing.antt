@@ -10,7 +10,8 @@ use Rattle.running_house.specs.Woven.{IsWholeDialogue}
 -- Connections one after another: these bytes came, these were the replies, and these messages were judged. Each goes by the closings before it.
 pub data HaveConversed (house : Premises) (seat : ℕ) : List (List ℕ) → List (List ℕ) → List Judged → Type 0 where
   none : HaveConversed house seat [] [] []
-  next : {connections : List (List ℕ)} {replies : List (List ℕ)} {judged : List Judged} (bytes : List ℕ) (own : Directory) (said : List Reply) (more : List Judged)
+  next : {connections : List (List ℕ)} {replies : List (List ℕ)} {judged : List Judged} (bytes : List ℕ) (own : Directory) (said : List Reply)
+      (more : List Judged)
       → HaveConversed house seat connections replies judged
       → IsMarkedBy (closings_of house seat) (length connections) house.directory own
       → IsWholeDialogue (setting_at house seat (length connections)) own bytes said more
@@ -31,4 +32,5 @@ pub record AreDialogues (house : Premises) (seat : ℕ) (connections replies : L
   pub as_many_replies : length replies ≡ length connections
   pub as_many_parts : length parts ≡ length connections
   pub together : judged ≡ flat_map (λ (part : List Judged). part) parts
-  pub each : (i : ℕ) → i < length connections → IsConnection house seat i (slice_index_or connections i []) (slice_index_or replies i []) (slice_index_or parts i [])
+  pub each : (i : ℕ) → i < length connections → IsConnection house seat i (slice_index_or connections i []) (slice_index_or replies i [])
+      (slice_index_or parts i [])

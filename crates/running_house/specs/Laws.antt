@@ -54,28 +54,34 @@ EachIsADialogue = (house : Premises) (seat : ℕ) (connections replies : List (L
 abbrev pub ClosedGetNothing : Type 0
 ClosedGetNothing = (house : Premises) (seat serial : ℕ) (bytes replied : List ℕ) (judged : List Judged)
     → IsConnection house seat serial bytes replied judged → 0 < house.directory.shards
-    → All (λ (j : Judged). All (λ mailbox. list_any (is_closed_by serial (shard_of house.directory mailbox)) (closings_of house seat) ≡ false) j.message.mailboxes) judged
+    → All (λ (j : Judged). All (λ mailbox. list_any (is_closed_by serial (shard_of house.directory mailbox)) (closings_of house seat) ≡ false)
+    j.message.mailboxes) judged
 
 -- a copy that the log has as stored was put on its mailbox's lane, and its verdict was heard
 abbrev pub StoredIsOnItsLane : Type 0
-StoredIsOnItsLane = (house : Premises) (seat : ℕ) (connections replies : List (List ℕ)) (notes : List Noted) (heard : List (Entry Noted)) (said : List (List (Entry Job)))
+StoredIsOnItsLane = (house : Premises) (seat : ℕ) (connections replies : List (List ℕ)) (notes : List Noted) (heard : List (Entry Noted))
+    (said : List (List (Entry Job)))
     → Account house seat connections replies notes heard said
-    → (noted : Noted) (uid lane : ℕ) → Contains notes noted → noted.verdict ≡ Stored uid → shard_of house.directory noted.mailbox ≡ lane → lane < length said
+    → (noted : Noted) (uid lane : ℕ) → Contains notes noted → noted.verdict ≡ Stored uid → shard_of house.directory noted.mailbox ≡ lane
+    → lane < length said
     → WasPut seat (slice_index_or said lane []) heard noted
 
 -- what the worker put on a lane is its own, and a copy of a message that its connections submitted, with a verdict in the log
 abbrev pub PutWasSubmitted : Type 0
-PutWasSubmitted = (house : Premises) (seat : ℕ) (connections replies : List (List ℕ)) (notes : List Noted) (heard : List (Entry Noted)) (said : List (List (Entry Job)))
+PutWasSubmitted = (house : Premises) (seat : ℕ) (connections replies : List (List ℕ)) (notes : List Noted) (heard : List (Entry Noted))
+    (said : List (List (Entry Job)))
     → (account : Account house seat connections replies notes heard said)
     → (lane p : ℕ) (copy : Job) → lane < length said → Contains (slice_index_or said lane []) (Item p copy)
     → (p ≡ seat) × WasSubmitted house.directory account.judged notes heard lane copy
 
 -- the log has exactly one verdict for each copy, in order
 abbrev pub LogHasEachVerdict : Type 0
-LogHasEachVerdict = (house : Premises) (seat : ℕ) (connections replies : List (List ℕ)) (notes : List Noted) (heard : List (Entry Noted)) (said : List (List (Entry Job)))
+LogHasEachVerdict = (house : Premises) (seat : ℕ) (connections replies : List (List ℕ)) (notes : List Noted) (heard : List (Entry Noted))
+    (said : List (List (Entry Job)))
     → (account : Account house seat connections replies notes heard said) → AreVerdicts account.judged notes
 
 -- so it is of the whole account
 abbrev pub AccountIsOfLines : Type 0
-AccountIsOfLines = (house : Premises) (seat : ℕ) (connections replies : List (List ℕ)) (notes : List Noted) (heard : List (Entry Noted)) (said : List (List (Entry Job)))
+AccountIsOfLines = (house : Premises) (seat : ℕ) (connections replies : List (List ℕ)) (notes : List Noted) (heard : List (Entry Noted))
+    (said : List (List (Entry Job)))
     → Account house seat connections replies notes heard said → AccountOfLines house seat connections replies notes heard said

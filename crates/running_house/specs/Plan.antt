@@ -71,8 +71,8 @@ after_settings plan None =
     else if is_someone_missing (directory_for plan.config).homes plan.sessions.items then Some settings.BadName
     else None
 
--- what is wrong: with the settings; that there are too many workers, producers, or sessions of one user; that a shard that is to be closed, or a session's user,
--- isn't there
+-- what is wrong: with the settings; that there are too many workers, producers, or sessions of one user; that a shard that is to be closed, or a
+-- session's user, isn't there
 abbrev pub plan_fault : Plan → Option ConfigFault
 plan_fault plan = after_settings plan (config_fault plan.config)
 

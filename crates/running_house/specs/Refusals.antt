@@ -18,13 +18,15 @@ abbrev pub IsNotLater : CopyKey → Entry Job → Type 0
 IsNotLater key (Item producer job) = producer ≡ key.seat → Precedes job.key key
 IsNotLater key (End producer) = producer ≢ key.seat
 
--- The entry may have waited as the copy with this key was refused: it is another producer's, or an earlier copy of the same message. A copy of an earlier
--- message of its own producer had been answered by then, and so been taken: whoever puts a message's copies puts none of the next before each was answered.
+-- The entry may have waited as the copy with this key was refused: it is another producer's, or an earlier copy of the same message. A copy of an
+-- earlier message of its own producer had been answered by then, and so been taken: whoever puts a message's copies puts none of the next before each
+-- was answered.
 abbrev pub MayWait : CopyKey → Entry Job → Type 0
 MayWait key (Item producer job) = producer ≡ key.seat → Precedes job.key key × (job.key.serial ≡ key.serial) × (job.key.message ≡ key.message)
 MayWait key (End producer) = producer ≢ key.seat
 
--- So it is of any two: the second may have been put while the first waited, where they are of different producers, or copies of one message. An end comes behind all answers.
+-- So it is of any two: the second may have been put while the first waited, where they are of different producers, or copies of one message. An end
+-- comes behind all answers.
 abbrev pub MayWaitTogether : (first second : Entry Job) → Type 0
 MayWaitTogether (Item p one) (Item q other) = p ≡ q → (one.key.serial ≡ other.key.serial) × (one.key.message ≡ other.key.message)
 MayWaitTogether (Item p one) (End q) = p ≢ q
@@ -35,8 +37,8 @@ abbrev pub AreTogether : List (Entry Job) → Type 0
 AreTogether [] = Unit {0}
 AreTogether (entry ∷ entries) = All (MayWaitTogether entry) entries × AreTogether entries
 
--- Of these entries so many, one behind the other, may have waited together as the copy with this key was refused that a lane of this depth had no room for one more. What was put
--- behind them is others'.
+-- Of these entries so many, one behind the other, may have waited together as the copy with this key was refused that a lane of this depth had no
+-- room for one more. What was put behind them is others'.
 pub record WasFilled (depth : ℕ) (key : CopyKey) (entries : List (Entry Job)) : Type 0 where
   pub gone : List (Entry Job)
   pub waiting : List (Entry Job)
@@ -73,8 +75,8 @@ StandAmong mailbox (pair ∷ accepted) [] = ⊥
 StandAmong mailbox (pair ∷ accepted) (entry ∷ entries) =
     (IsCopyFor mailbox pair.0 entry × StandAmong mailbox accepted entries) ⊎ StandAmong mailbox (pair ∷ accepted) entries
 
--- The copy with this key was taken from the lane, and at least so many of the first copies that its mailbox accepted were taken before it. So the mailbox had accepted as many
--- when that copy was judged.
+-- The copy with this key was taken from the lane, and at least so many of the first copies that its mailbox accepted were taken before it. So the
+-- mailbox had accepted as many when that copy was judged.
 pub record CameBehind (count : ℕ) (mailbox : ℕ) (key : CopyKey) (accepted : List (CopyKey × ℕ)) (taken : List (Entry Job)) : Type 0 where
   pub before : List (Entry Job)
   pub producer : ℕ
@@ -88,12 +90,14 @@ pub record CameBehind (count : ℕ) (mailbox : ℕ) (key : CopyKey) (accepted : 
   pub stood : StandAmong mailbox first before
   pub many : count ≤ length first
 
--- What has to be so where this was the verdict on the copy with this key for this mailbox. Nothing has to, where it was stored, which the lists say; nor where its producer
--- had closed the shard, which its account says; nor where memory was refused, which may be at any time. `accepted`: what each mailbox accepted; `taken`: what was taken from
--- each shard's lane
-abbrev pub Allows : Config → Directory → (accepted : List (List (CopyKey × ℕ))) → (taken : List (List (Entry Job))) → CopyKey → (mailbox : ℕ) → Verdict → Type 0
+-- What has to be so where this was the verdict on the copy with this key for this mailbox. Nothing has to, where it was stored, which the lists say;
+-- nor where its producer had closed the shard, which its account says; nor where memory was refused, which may be at any time. `accepted`: what each
+-- mailbox accepted; `taken`: what was taken from each shard's lane
+abbrev pub Allows : Config → Directory → (accepted : List (List (CopyKey × ℕ))) → (taken : List (List (Entry Job))) → CopyKey → (mailbox : ℕ)
+    → Verdict → Type 0
 Allows config directory accepted taken key mailbox (Stored uid) = Unit {0}
-Allows config directory accepted taken key mailbox (Refused why.Full) = HadNoRoom config.depth key (slice_index_or taken (shard_of directory mailbox) [])
+Allows config directory accepted taken key mailbox (Refused why.Full) =
+    HadNoRoom config.depth key (slice_index_or taken (shard_of directory mailbox) [])
 Allows config directory accepted taken key mailbox (Refused why.MailboxFull) =
     CameBehind config.messages mailbox key (slice_index_or accepted mailbox []) (slice_index_or taken (shard_of directory mailbox) [])
 Allows config directory accepted taken key mailbox (Refused why.NoMemory) = Unit {0}

@@ -19,7 +19,8 @@ pub record WasPut (seat : ℕ) (entries : List (Entry Job)) (heard : List (Entry
   pub verdict : IsHeard heard noted
 
 -- A copy on a lane is one of a message that was judged, for a mailbox of the lane's shard; a verdict on it was heard, and that stands in the log.
-pub record WasSubmitted (directory : Directory) (judged : List Judged) (notes : List Noted) (heard : List (Entry Noted)) (lane : ℕ) (copy : Job) : Type 0 where
+pub record WasSubmitted (directory : Directory) (judged : List Judged) (notes : List Noted) (heard : List (Entry Noted)) (lane : ℕ)
+    (copy : Job) : Type 0 where
   pub message : Judged
   pub there : Contains judged message
   pub among : Contains (copies_of message.message) copy
@@ -33,8 +34,8 @@ pub record IsFull (judged : Judged) : Type 0 where
   pub mailboxes : length judged.message.mailboxes ≡ length judged.message.keys
   pub verdicts : length judged.verdicts ≡ length judged.message.keys
 
--- The log has one verdict for each copy of each message, in the order of the messages and of their recipients, and no others. The keys rise: so no two notes
--- are of one copy.
+-- The log has one verdict for each copy of each message, in the order of the messages and of their recipients, and no others. The keys rise: so no
+-- two notes are of one copy.
 pub record AreVerdicts (judged : List Judged) (notes : List Noted) : Type 0 where
   pub full : All IsFull judged
   pub keys : map (λ (n : Noted). n.key) notes ≡ flat_map (λ (j : Judged). j.message.keys) judged

@@ -12,10 +12,12 @@ use Rattle.running_house.specs.Plan.{connections_of, premises_for, producers_in}
 use Rattle.running_house.specs.declared.plan.Plan.{Plan}
 use Rattle.running_house.specs.Report.{Report}
 
--- worker p's account: its connections by the whole lines of their whole strings, what its log has of their messages, and what was taken of it from each lane
+-- worker p's account: its connections by the whole lines of their whole strings, what its log has of their messages, and what was taken of it from
+-- each lane
 abbrev pub AccountOf : Plan → Report → ℕ → Type 0
 AccountOf plan r p =
-    AccountOfLines (premises_for plan) p (slice_index_or (connections_of plan) p []) (slice_index_or (replies_of r) p []) (slice_index_or (notes_of r) p [])
+    AccountOfLines (premises_for plan) p (slice_index_or (connections_of plan) p []) (slice_index_or (replies_of r) p [])
+    (slice_index_or (notes_of r) p [])
     (slice_index_or (answers r) p []) (map (of p) (histories r))
 
 -- A copy that producer p's log has as stored was taken from its mailbox's lane, and its mailbox accepted it, under that UID.
@@ -34,10 +36,12 @@ AccountsAreOfLines = (plan : Plan) (r : Report) → Agrees plan r → (p : ℕ) 
 -- the same of a worker and of a session
 abbrev pub StoredWasAccepted : Type 0
 StoredWasAccepted = (plan : Plan) (r : Report) → Agrees plan r → 0 < plan.config.shards → (p : ℕ) → p < producers_in plan
-    → (noted : Noted) (uid : ℕ) → Contains (slice_index_or (notes_of r) p []) noted → noted.verdict ≡ Stored uid → noted.mailbox < length (premises_for plan).directory.homes
+    → (noted : Noted) (uid : ℕ) → Contains (slice_index_or (notes_of r) p []) noted → noted.verdict ≡ Stored uid
+    → noted.mailbox < length (premises_for plan).directory.homes
     → IsStored plan r p noted uid
 
 -- what was taken from a lane is a producer's, and the producer's account has it among what it said there
 abbrev pub TakenIsAProducers : Type 0
-TakenIsAProducers = (plan : Plan) (r : Report) → Agrees plan r → (lane p : ℕ) (copy : Job) → lane < length (histories r) → Contains (slice_index_or (histories r) lane []) (Item p copy)
+TakenIsAProducers = (plan : Plan) (r : Report) → Agrees plan r → (lane p : ℕ) (copy : Job) → lane < length (histories r)
+    → Contains (slice_index_or (histories r) lane []) (Item p copy)
     → (p < producers_in plan) × Contains (slice_index_or (map (of p) (histories r)) lane []) (Item p copy)

@@ -34,7 +34,8 @@ is_zone a b = beq a.is_west b.is_west && (a.hours == b.hours && a.minutes == b.m
 
 abbrev pub is_stamp : Stamp → Stamp → Bool
 is_stamp a b =
-    a.year == b.year && (a.month == b.month && (a.day == b.day && (a.hour == b.hour && (a.minute == b.minute && (a.second == b.second && is_zone a.zone b.zone)))))
+    a.year == b.year && (a.month == b.month && (a.day == b.day
+    && (a.hour == b.hour && (a.minute == b.minute && (a.second == b.second && is_zone a.zone b.zone)))))
 
 abbrev pub is_text : Text → Text → Bool
 is_text a b = bytes_eq a.bytes b.bytes && option_eq is_stamp a.date b.date

@@ -10,8 +10,8 @@ use Rattle.house.specs.House.{House}
 use Rattle.script.specs.Script.{Asks, Closes, Enters, Leaves, LineDoes, Script, ScriptLine, Sends, Vanishes, held_after, held_by, none_held}
 use Rattle.script.specs.Promise.{DeliversOnce}
 
--- These bytes were written, they are what a script of these lines prints, and deliver exactly once; the house that is left stands for the scene that it
--- leads to.
+-- These bytes were written, they are what a script of these lines prints, and deliver exactly once; the house that is left stands for the scene that
+-- it leads to.
 pub record Writes (k : Setup) (lines : List ScriptLine) (h : House) (old new : Option (List ℕ)) : Type 0 where
   pub after : Scene
   pub printed : List ℕ
@@ -33,9 +33,10 @@ pub record WritesFirst (k : Setup) (lines : List ScriptLine) (sent : ℕ) (h : H
   pub within : sent < length printed
   pub out : Appends old new (take sent printed)
 
--- What some of the first lines print was written, whole, and of the house that is left, by the shards that are held then, the lines behind them and the scene
--- that these lead to, this holds.
-pub record WritesBeginning (k : Setup) (lines : List ScriptLine) (Left : ℕ → (held : List Bool) → List ScriptLine → Scene → Type 0) (old new : Option (List ℕ)) : Type 0 where
+-- What some of the first lines print was written, whole, and of the house that is left, by the shards that are held then, the lines behind them and
+-- the scene that these lead to, this holds.
+pub record WritesBeginning (k : Setup) (lines : List ScriptLine) (Left : ℕ → (held : List Bool) → List ScriptLine → Scene → Type 0)
+    (old new : Option (List ℕ)) : Type 0 where
   pub some : List ScriptLine
   pub others : List ScriptLine
   pub split : lines ≡ some ++ others
@@ -74,4 +75,5 @@ pub data PlayWanting (k : Setup) (number : ℕ) (held : List Bool) (line : Scrip
 -- Memory was wanting before the next line was read, or as it was played. What it printed isn't written.
 pub data IsLeftWanting (k : Setup) (h : House) (number : ℕ) (held : List Bool) (others : List ScriptLine) (s : Scene) : Type 0 where
   unread : StandsFor k h s → IsLeftWanting k h number held others s
-  unwritten : (line : ScriptLine) (more : List ScriptLine) → others ≡ line ∷ more → PlayWanting k number held line s h → IsLeftWanting k h number held others s
+  unwritten : (line : ScriptLine) (more : List ScriptLine) → others ≡ line ∷ more → PlayWanting k number held line s h
+      → IsLeftWanting k h number held others s

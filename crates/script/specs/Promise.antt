@@ -32,7 +32,8 @@ text_of_part k (OfHouse entry) = text_of k entry.piece
 text_of_part k (Refusal number why) = refusal number (word_of why)
 text_of_part k (Window word box) = window_text word box
 
--- What a part is, from the scene before it: an entry of the house's record, any refusal, or the window of the mailbox that the word names, as it is there.
+-- What a part is, from the scene before it: an entry of the house's record, any refusal, or the window of the mailbox that the word names, as it is
+-- there.
 abbrev pub IsPartFrom : Setup → Scene → Part → Type 0
 IsPartFrom k s (OfHouse entry) = IsEntry k s entry
 IsPartFrom k s (Refusal number why) = Unit {0}

@@ -95,8 +95,8 @@ pub record TellsFirst (form : Form) (k : Setup) (lines : List (List ℕ)) (sent 
   pub within : sent < length (told form 1 some texts)
   pub out : Appends old new (take sent (told form 1 some texts))
 
--- What tells of some of the first lines was written, whole, and of the house that is left, by the shards that are held then, what the lines behind them ask for
--- and the scene that these lead to, this holds.
+-- What tells of some of the first lines was written, whole, and of the house that is left, by the shards that are held then, what the lines behind
+-- them ask for and the scene that these lead to, this holds.
 pub record TellsBeginning (form : Form) (k : Setup) (lines : List (List ℕ)) (Left : ℕ → (held : List Bool) → List ScriptLine → Scene → Type 0)
     (old new : Option (List ℕ)) : Type 0 where
   pub some : List (List ℕ)

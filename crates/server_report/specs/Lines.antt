@@ -12,7 +12,8 @@ use Rattle.server_report.specs.Reasons.{reason_words}
 
 -- ---- who calls
 
--- The number of a call, from 1 on. So many places take calls at a time, and each place one after another, with serials from 0: no two calls have one number.
+-- The number of a call, from 1 on. So many places take calls at a time, and each place one after another, with serials from 0: no two calls have one
+-- number.
 abbrev pub call_number : (places place serial : ℕ) → ℕ
 call_number places place serial = serial * places + place + 1
 
@@ -47,12 +48,14 @@ verdict_words size (Refused why) = codes "refused " ++ reason_words why
 -- what became of one copy of a caller's message, which is counted from 1
 abbrev pub copy_line : List Home → Caller → (message mailbox : ℕ) → (size : Option ℕ) → Verdict → List ℕ
 copy_line homes caller message mailbox size verdict =
-    caller_words caller ++ codes " message " ++ decimal (message + 1) ++ codes " " ++ mailbox_words homes mailbox ++ codes " " ++ verdict_words size verdict ++ codes "\n"
+    caller_words caller ++ codes " message " ++ decimal (message + 1) ++ codes " " ++ mailbox_words homes mailbox ++ codes " "
+    ++ verdict_words size verdict ++ codes "\n"
 
 -- of a copy of mail, with its verdict: who called is told by its key
 abbrev pub mail_line : List Home → (workers : ℕ) → Job × Verdict → List ℕ
 mail_line homes workers judged =
-    copy_line homes (Mail (call_number workers judged.0.key.seat judged.0.key.serial)) judged.0.key.message judged.0.mailbox (Some (length judged.0.text.bytes)) judged.1
+    copy_line homes (Mail (call_number workers judged.0.key.seat judged.0.key.serial)) judged.0.key.message judged.0.mailbox
+    (Some (length judged.0.text.bytes)) judged.1
 
 -- a line for each copy, in their order
 abbrev pub mail_lines : List Home → (workers : ℕ) → List (Job × Verdict) → List ℕ

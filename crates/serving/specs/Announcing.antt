@@ -1,4 +1,5 @@
--- What is said of a server's listeners: a line for each. A socket has no model: of a port that the system chooses no more is said than how far it goes.
+-- What is said of a server's listeners: a line for each. A socket has no model: of a port that the system chooses no more is said than how far it
+-- goes.
 use Rattle.std.specs.Prelude.{ℕ, zero, suc, ◌≡◌, ◌≢◌, ◌+◌, ◌++◌, ◌∷◌, [], List, All, Option, Some, None, ⊤, codes, decimal, if◌then◌else◌, length, take}
 use Rattle.std.specs.Io.KnownBytes.{Appends}
 use Rattle.envelope.specs.Directory.{Home}

@@ -27,8 +27,8 @@ histories finished = map history finished.lanes.items
 abbrev pub answers : Finished → List (List (Entry Noted))
 answers finished = map reply_history finished.channels.items
 
--- What the clerk of a shard told a producer: of these entries, which it took, one verdict on each copy of that producer, in their order, and then its end.
--- `heard`: all that came on the producer's reply channel
+-- What the clerk of a shard told a producer: of these entries, which it took, one verdict on each copy of that producer, in their order, and then its
+-- end. `heard`: all that came on the producer's reply channel
 pub record WasAnswered (mailboxes shard producer : ℕ) (taken : List (Entry Job)) (heard : List (Entry Noted)) : Type 0 where
   pub told : List (Entry Noted)
   pub each : WereAnswered mailboxes shard producer taken told
@@ -52,14 +52,15 @@ pub record HasLeft (config : Config) (finished : Finished) : Type 0 where
   -- There was a lane for each shard, and the first of the producers were the workers.
   pub shards : length finished.lanes.items ≡ (directory_for config).shards
   pub workers : config.workers ≤ length finished.channels.items
-  -- The one history of all threads is legal, and has what each producer put and heard, and nothing else of its seat. Of each mailbox it has just what happened there, and the mailbox is as
-  -- that leaves it.
+  -- The one history of all threads is legal, and has what each producer put and heard, and nothing else of its seat. Of each mailbox it has just what
+  -- happened there, and the mailbox is as that leaves it.
   pub legal : Legal finished.front
-  pub backed : (n : ℕ) → n < length finished.channels.items → IsBacked n finished.front (slice_index_or (answers finished) n []) (map (of n) (histories finished))
+  pub backed : (n : ℕ) → n < length finished.channels.items → IsBacked n finished.front (slice_index_or (answers finished) n [])
+      (map (of n) (histories finished))
   pub mailboxes : AllAt (IsRecorded finished.front) 0 finished.mailboxes.items
   pub each_mailbox : vec_len finished.mailboxes ≡ length (directory_for config).homes
-  -- What was taken of a worker from each lane is what the connections at its line submitted, one after another with the serials from 0 on, and then its end; and the verdict on
-  -- each of these copies came on its channel.
+  -- What was taken of a worker from each lane is what the connections at its line submitted, one after another with the serials from 0 on, and then
+  -- its end; and the verdict on each of these copies came on its channel.
   pub mail : (n : ℕ) → n < config.workers → IsWorkerOf house n finished
   -- So it is of each berth: what was taken of it is what its clients appended, one client after another with the serials from 0 on.
   pub clients : (n : ℕ) → config.workers ≤ n → n < length finished.channels.items

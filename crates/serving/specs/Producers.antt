@@ -22,6 +22,7 @@ abbrev pub after_settings : Config → Option ConfigFault → Option ConfigFault
 after_settings c (Some fault) = Some fault
 after_settings c None = if nat_lt 255 (producers_in c) then Some settings.TooMany else None
 
--- The first fault of the settings, if there is one: what a house has against them, or that there would be more producers than a seat's number tells apart.
+-- The first fault of the settings, if there is one: what a house has against them, or that there would be more producers than a seat's number tells
+-- apart.
 abbrev pub server_fault : Config → Option ConfigFault
 server_fault c = after_settings c (config_fault c)

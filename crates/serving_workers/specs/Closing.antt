@@ -27,14 +27,16 @@ GoOn [] (list ∷ after) = ⊥
 GoOn (list ∷ before) [] = ⊥
 GoOn (first ∷ before) (list ∷ after) = IsStartOf first list × GoOn before after
 
--- Each clerk stood in its place, and nobody met what he didn't await. These are what was taken of each queue: each lane was closed with what the producers
--- left of their permits there and with its consumer's, each reply channel with what the clerks left of theirs and with its own receiver.
+-- Each clerk stood in its place, and nobody met what he didn't await. These are what was taken of each queue: each lane was closed with what the
+-- producers left of their permits there and with its consumer's, each reply channel with what the clerks left of theirs and with its own receiver.
 -- `told`: what a line tells
-pub record WasClosed {B L : Type 0} (told : L → Told) (floor : Floor B) (served : List (Served B L)) (dismissed : Dismissed B) (finished : Finished) : Type 0 where
+pub record WasClosed {B L : Type 0} (told : L → Told) (floor : Floor B) (served : List (Served B L)) (dismissed : Dismissed B)
+    (finished : Finished) : Type 0 where
   pub in_order : dismissed.in_order ≡ true
   pub producers : list_any (λ s. s.torn) served ≡ false
   pub clerks : list_any (λ c. c.torn) dismissed.consumed.items ≡ false
-  pub lanes : AreClosedWith floor.office.lanes.items (map (λ s. s.ended.items) served) (map (λ c. c.permit) dismissed.consumed.items) finished.lanes.items
+  pub lanes : AreClosedWith floor.office.lanes.items (map (λ s. s.ended.items) served)
+      (map (λ c. c.permit) dismissed.consumed.items) finished.lanes.items
   pub channels : (receivers : List (ReceiverPermit Noted)) × AreReceivers floor.depot.channels.items receivers
       × AreChannelsClosedWith floor.depot.channels.items (map (λ c. c.senders.items) dismissed.consumed.items) receivers finished.channels.items
   -- what each producer had heard stands in front of all that came on its channel

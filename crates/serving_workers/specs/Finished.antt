@@ -9,8 +9,8 @@ use Rattle.serving_workers.specs.Lines.{Told}
 use Rattle.shard_queue.specs.declared.queue.Closed.{Closed}
 use Rattle.shard_queue.specs.declared.reply.ReplyClosed.{ReplyClosed}
 
--- What was taken of each shard's lane and of each producer's reply channel, the mailboxes out of their locks, how the house's history begins; and of each producer what its line tells,
--- if it is a worker.
+-- What was taken of each shard's lane and of each producer's reply channel, the mailboxes out of their locks, how the house's history begins; and of
+-- each producer what its line tells, if it is a worker.
 pub record Finished : Type 0 where
   pub lanes : Vec (Closed Job) Global
   pub channels : Vec (ReplyClosed Noted) Global

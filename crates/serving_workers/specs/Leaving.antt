@@ -29,27 +29,30 @@ use Rattle.serving_workers.specs.declared.threads.Hired.TheVariants.{There, Here
 
 -- ---- mail
 
--- What of these replies was written to a connection of which these bytes were taken: all of it, where the output took all that was written to it, and perhaps behind it that the server
--- shuts down; a beginning, where the output failed; and nothing, where memory was refused before it was greeted.
+-- What of these replies was written to a connection of which these bytes were taken: all of it, where the output took all that was written to it, and
+-- perhaps behind it that the server shuts down; a beginning, where the output failed; and nothing, where memory was refused before it was greeted.
 pub data AreWritten (host bytes : List ℕ) (replies : List Reply) (phase : Phase) : (written : List ℕ) → (failed : Bool) → Type 0 where
   all_written : AreWritten host bytes replies phase (wire host replies) false
   with_last_words : AreWritten host bytes replies phase (wire host (replies ++ last_words phase)) false
   cut_short : {written : List ℕ} → IsPrefix written (wire host (replies ++ last_words phase)) → AreWritten host bytes replies phase written true
   never_greeted : bytes ≡ [] → AreWritten host bytes replies phase [] false
 
--- So many connections of the worker with this seat, one after another, each with the next serial from 0 on: on each nothing was said, or bytes came that lead, in a conversation
--- with that seat and that serial, to messages that were judged, and its replies were written. What was spoken on each, and the messages of all, in their order.
+-- So many connections of the worker with this seat, one after another, each with the next serial from 0 on: on each nothing was said, or bytes came
+-- that lead, in a conversation with that seat and that serial, to messages that were judged, and its replies were written. What was spoken on each,
+-- and the messages of all, in their order.
 pub data HaveConversed (house : Premises) (seat : ℕ) : (connections : ℕ) → List Spoken → List Judged → Type 0 where
   none : HaveConversed house seat 0 [] []
   passed : {n : ℕ} {spoken : List Spoken} {judged : List Judged} → HaveConversed house seat n spoken judged
       → HaveConversed house seat (n + 1) (spoken ++ record { read = []; written = []; failed = false } ∷ []) judged
-  next : {n : ℕ} {spoken : List Spoken} {judged : List Judged} (bytes : List ℕ) (replies : List Reply) (more : List Judged) (at : Conversation) (dropped written : List ℕ) (failed : Bool)
+  next : {n : ℕ} {spoken : List Spoken} {judged : List Judged} (bytes : List ℕ) (replies : List Reply) (more : List Judged) (at : Conversation)
+      (dropped written : List ℕ) (failed : Bool)
       → HaveConversed house seat n spoken judged → HasTaken (setting_at house seat n) house.directory bytes replies more at
       → AreWritten house.host bytes replies at.standing.phase written failed
       → HaveConversed house seat (n + 1) (spoken ++ record { read = bytes ++ dropped; written = written; failed = failed } ∷ []) (judged ++ more)
 
 -- So many connections came in at this line. What was put on each lane is what they submitted, and the verdict on each copy that was put was heard.
-pub record AreServed (house : Premises) (seat : ℕ) (line : Told) (connections : ℕ) (heard : List (Entry Noted)) (sent : List (List (Entry Job))) : Type 0 where
+pub record AreServed (house : Premises) (seat : ℕ) (line : Told) (connections : ℕ) (heard : List (Entry Noted))
+    (sent : List (List (Entry Job))) : Type 0 where
   pub judged : List Judged
   pub spoken : List Spoken
   pub over : WereOver line spoken
@@ -65,16 +68,18 @@ pub record HasServedMail (house : Premises) (seat : ℕ) (line : Told) (heard : 
 
 -- ---- clients of a berth
 
--- So many clients of the berth with this seat, one after another, each with the next serial from 0 on: of each these messages were carried, in their order, or none.
--- These are the copies of all, with the verdicts on them.
+-- So many clients of the berth with this seat, one after another, each with the next serial from 0 on: of each these messages were carried, in their
+-- order, or none. These are the copies of all, with the verdicts on them.
 pub data HaveAppended (seat : ℕ) : (clients : ℕ) → List (Job × Verdict) → Type 0 where
   nobody : HaveAppended seat 0 []
-  another : {n : ℕ} {copies : List (Job × Verdict)} (carried : List Carried) → HaveAppended seat n copies → HaveAppended seat (n + 1) (copies ++ map (judged_of seat n) carried)
+  another : {n : ℕ} {copies : List (Job × Verdict)} (carried : List Carried) → HaveAppended seat n copies
+      → HaveAppended seat (n + 1) (copies ++ map (judged_of seat n) carried)
 
 -- What was put on each lane is what these clients appended, and the verdict on each copy that was put was heard.
 abbrev pub AreAttended : Premises → (seat clients : ℕ) → (heard : List (Entry Noted)) → (sent : List (List (Entry Job))) → Type 0
 AreAttended house seat clients heard sent =
-    (copies : List (Job × Verdict)) × HaveAppended seat clients copies × AreBooksOf house.directory house.rooms seat copies (λ told. Unit {0}) heard sent
+    (copies : List (Job × Verdict)) × HaveAppended seat clients copies
+    × AreBooksOf house.directory house.rooms seat copies (λ told. Unit {0}) heard sent
 
 -- Of a berth that wasn't torn: what it said on each lane is what its clients appended, and then its end.
 pub record HasServedClients (house : Premises) (seat : ℕ) (heard : List (Entry Noted)) (words : List (List (Entry Job))) : Type 0 where
@@ -85,8 +90,9 @@ pub record HasServedClients (house : Premises) (seat : ℕ) (heard : List (Entry
 
 -- ---- all of them
 
--- What producer n leaves: its ended permits on all lanes, and its end of its own channel. A worker's words are its connections' own, which came in at its line, and those of
--- another its clients'. The history that the house shares has what it put and heard, and nothing else of its seat, however it came to its end. `told`: what a line tells
+-- What producer n leaves: its ended permits on all lanes, and its end of its own channel. A worker's words are its connections' own, which came in at
+-- its line, and those of another its clients'. The history that the house shares has what it put and heard, and nothing else of its seat, however it
+-- came to its end. `told`: what a line tells
 pub record IsServed {B L : Type 0} (told : L → Told) (floor : Floor B) (n : ℕ) (s : Served B L) : Type 0 where
   pub ended : AreEnded floor.office.lanes.items n s.ended.items
   pub receiver : (channel : ReplyChannel Noted) → slice_get floor.depot.channels.items n ≡ Some channel → IsReceiver channel s.receiver

@@ -2,8 +2,8 @@
 use Rattle.std.specs.Prelude.{◌≡◌, ◌++◌, ℕ, Bool, List, [], ◌∷◌, Option, Some, None, IfSome, map}
 use mathlib.Core.List.{IsPrefix}
 
--- Of each connection that came, in their order, all that its peer sends; and of each that is over, all that was written to it, and whether its output had failed. A line tells that of
--- its connections, or nothing.
+-- Of each connection that came, in their order, all that its peer sends; and of each that is over, all that was written to it, and whether its output
+-- had failed. A line tells that of its connections, or nothing.
 pub record Told : Type 0 where
   pub came : Option (List (List ℕ))
   pub said : Option (List (List ℕ × Bool))

@@ -88,11 +88,12 @@ pub record TellsVerdict (one : Carried) (before after : Moment) : Type 0 where
   pub carries : one ≡ carried_of sent.append one.verdict
   pub uid : HasUid one.verdict
   pub how : After
-  pub answered : AnswersVerdict Holds before.dialogue.standing one.verdict before.selection after.selection before.text after.text how after.dialogue.standing
+  pub answered : AnswersVerdict Holds before.dialogue.standing one.verdict before.selection after.selection before.text after.text how
+      after.dialogue.standing
   pub begun : after.dialogue.begun ≡ before.dialogue.begun
 
--- So many of these bytes were taken, in one go or in several. Each line that ended in them was answered, and so was, before anything more was taken, the
--- verdict on each message that was submitted there: these, in this order.
+-- So many of these bytes were taken, in one go or in several. Each line that ended in them was answered, and so was, before anything more was taken,
+-- the verdict on each message that was submitted there: these, in this order.
 pub data Speaks (bytes : List ℕ) (first : Moment) : ℕ → List Carried → Moment → Type 0 where
   silent : Speaks bytes first 0 [] first
   takes : (used more : ℕ) (carried : List Carried) (now next : Moment) → Speaks bytes first used carried now → takes_more now.dialogue.standing ≡ true
@@ -123,12 +124,14 @@ Does turns (Await count) carried before after = (carried ≡ []) × Awaits turns
 -- One step: a session that has ended, or awaits a verdict, does nothing.
 abbrev pub Steps : ℕ → Step → List Carried → Moment → Moment → Type 0
 Steps turns step carried before after =
-    ((takes_more before.dialogue.standing ≡ false) × (carried ≡ []) × (after ≡ before)) ⊎ ((takes_more before.dialogue.standing ≡ true) × Does turns step carried before after)
+    ((takes_more before.dialogue.standing ≡ false) × (carried ≡ []) × (after ≡ before))
+    ⊎ ((takes_more before.dialogue.standing ≡ true) × Does turns step carried before after)
 
 -- These steps were made, and these messages were carried on the way, in this order.
 pub data Lives (turns : ℕ) (first : Moment) : List Step → List Carried → Moment → Type 0 where
   begins : Lives turns first [] [] first
-  goes_on : (steps : List Step) (step : Step) (carried more : List Carried) (now next : Moment) → Lives turns first steps carried now → Steps turns step more now next
+  goes_on : (steps : List Step) (step : Step) (carried more : List Carried) (now next : Moment) → Lives turns first steps carried now
+      → Steps turns step more now next
       → Lives turns first (steps ++ step ∷ []) (carried ++ more) next
 
 -- ---- where it stops
@@ -143,8 +146,10 @@ IsShortInTurn room now = IsShort room now ⊎ Holds now.selection (Feed most_cha
 
 -- Of these bytes some were taken, and then the session stopped: it was short of room, or no verdict came on the message that it had submitted.
 pub data SaysInPart (room : ℕ) (bytes : List ℕ) (why : Lost) (before after : Moment) : Type 0 where
-  short : (used : ℕ) (carried : List Carried) → Speaks bytes before used carried after → IsShort room after → why ≡ lost.NoMemory → SaysInPart room bytes why before after
-  unheard : (used : ℕ) (carried : List Carried) → Speaks bytes before used carried after → may_send after.dialogue.standing ≡ Submit → SaysInPart room bytes why before after
+  short : (used : ℕ) (carried : List Carried) → Speaks bytes before used carried after → IsShort room after → why ≡ lost.NoMemory
+      → SaysInPart room bytes why before after
+  unheard : (used : ℕ) (carried : List Carried) → Speaks bytes before used carried after → may_send after.dialogue.standing ≡ Submit
+      → SaysInPart room bytes why before after
 
 -- A step was begun, and the session stopped in it: so it was with its bytes; or some of its turns were had, memory was refused, and there was still
 -- something to wait for.

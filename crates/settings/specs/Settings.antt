@@ -80,10 +80,11 @@ has_slash word = list_any (λ b. b == 47) word
 abbrev pub users_in : Config → ℕ
 users_in c = count_by (λ w. not (has_slash w.items)) c.mailboxes.items
 
--- The port that mail comes to is not that of SMTP, nor that of some user: these are as many as there are users, from the first one on. 0 is no port of a user: the
--- system chooses theirs then.
+-- The port that mail comes to is not that of SMTP, nor that of some user: these are as many as there are users, from the first one on. 0 is no port
+-- of a user: the system chooses theirs then.
 abbrev pub are_ports_wrong : Config → Bool
-are_ports_wrong c = (c.lmtp_port == 25) || (not (c.imap_port == 0) && (not (nat_lt c.lmtp_port c.imap_port) && nat_lt c.lmtp_port (c.imap_port + users_in c)))
+are_ports_wrong c = (c.lmtp_port == 25) || (not (c.imap_port == 0)
+    && (not (nat_lt c.lmtp_port c.imap_port) && nat_lt c.lmtp_port (c.imap_port + users_in c)))
 
 -- what is wrong with the numbers, where the names are right
 unfoldable pub fault_of_numbers : Config → Option ConfigFault

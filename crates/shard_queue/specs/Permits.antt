@@ -18,7 +18,8 @@ numbers k (suc n) = k ∷ numbers (suc k) n
 module _ {T : Type 0} where
   -- at one moment as many entries waited as there is room for, this producer had sent these, and all had been put that it had seen when it last put
   abbrev pub WasFull : ℕ → ℕ → ℕ → List (Entry T) → List (Entry T) → Type 0
-  WasFull producers room p sent seen = (l : Lane T) × IsMerge producers room l × (length l.waiting ≡ room) × (l.sent p ≡ sent) × IsStartOf seen (l.got ++ l.waiting)
+  WasFull producers room p sent seen = (l : Lane T) × IsMerge producers room l × (length l.waiting ≡ room) × (l.sent p ≡ sent)
+      × IsStartOf seen (l.got ++ l.waiting)
 
   -- at one moment nothing waited, and these had been taken; so all was taken that the consumer had seen when it last took
   abbrev pub WasEmpty : ℕ → ℕ → List (Entry T) → List (Entry T) → Type 0
@@ -86,4 +87,5 @@ module _ {T : Type 0} where
 
   -- the permit of this queue's consumer
   abbrev pub IsConsumer : ShardQueue T → ConsumerPermit T → Type 0
-  IsConsumer q s = IsPassOf q.queue s.pass × (view s.pass ≡ consumer q.producers q.producers (got s) None (take_seen s)) × AreMarks q.producers s.ended (got s)
+  IsConsumer q s = IsPassOf q.queue s.pass × (view s.pass ≡ consumer q.producers q.producers (got s) None (take_seen s))
+      × AreMarks q.producers s.ended (got s)

@@ -39,4 +39,5 @@ pub record StandsForLane {A : Type 0} (count room : ℕ) (l : PlainLane A) (w : 
 
 -- Each lane for which the old one stood is led by this move, which is legal there, to one for which the new one stands.
 abbrev pub Makes : {A : Type 0} → PlainLane A → Move A → PlainLane A → Type 0
-Makes {A} old move new = (count room : ℕ) (w : Lane A) → StandsForLane count room old w → (v : Lane A) × Moves count room w move v × StandsForLane count room new v
+Makes {A} old move new = (count room : ℕ) (w : Lane A) → StandsForLane count room old w → (v : Lane A) × Moves count room w move v
+    × StandsForLane count room new v

@@ -55,12 +55,15 @@ module _ {T : Type 0} where
 
   -- the permit of a sender of this channel that may send more
   abbrev pub IsSender : ReplyChannel T → SenderPermit T → Type 0
-  IsSender c s = IsSeatAt (sends_on c.sender) s.pass × (view s.pass ≡ sender c.senders s.number (sent_on s) (send_seen s)) × (has_end (sent_on s) ≡ false)
+  IsSender c s = IsSeatAt (sends_on c.sender) s.pass × (view s.pass ≡ sender c.senders s.number (sent_on s) (send_seen s))
+      × (has_end (sent_on s) ≡ false)
 
   -- what is left of such a permit after its end
   abbrev pub IsSenderEnded : ReplyChannel T → SenderEnded T → Type 0
-  IsSenderEnded c s = IsSeatAt (sends_on c.sender) s.pass × (view s.pass ≡ sender c.senders s.number (said_on s) (last_seen s)) × (has_end (said_on s) ≡ true)
+  IsSenderEnded c s = IsSeatAt (sends_on c.sender) s.pass × (view s.pass ≡ sender c.senders s.number (said_on s) (last_seen s))
+      × (has_end (said_on s) ≡ true)
 
   -- the permit of this channel's receiver
   abbrev pub IsReceiver : ReplyChannel T → ReceiverPermit T → Type 0
-  IsReceiver c s = IsSeatAt (sends_on c.sender) s.pass × (view s.pass ≡ consumer c.senders c.senders (received s) None (receive_seen s)) × AreMarks c.senders s.ended (received s)
+  IsReceiver c s = IsSeatAt (sends_on c.sender) s.pass × (view s.pass ≡ consumer c.senders c.senders (received s) None (receive_seen s))
+      × AreMarks c.senders s.ended (received s)

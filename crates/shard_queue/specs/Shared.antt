@@ -12,8 +12,8 @@ module _ {T : Type 0} where
   abbrev pub IsStartOf : List (Entry T) → List (Entry T) → Type 0
   IsStartOf first all = (more : List (Entry T)) × (all ≡ first ++ more)
 
-  -- a consumer that has taken `got`, of a lane with so many producers, of which so many have their permits; `heard` is the producer that was heard out last
-  -- with what it sent; `seen` is all that had been put when it last took
+  -- a consumer that has taken `got`, of a lane with so many producers, of which so many have their permits; `heard` is the producer that was heard
+  -- out last with what it sent; `seen` is all that had been put when it last took
   abbrev pub consumer : ℕ → ℕ → List (Entry T) → Option (ℕ × List (Entry T)) → List (Entry T) → View T
   consumer producers made got heard seen = views.Consumer producers made got heard seen
 
@@ -49,7 +49,8 @@ module _ {T : Type 0} where
 
   -- what a permit knows is true of this lane, which has so many producers, of which so many have their permits
   abbrev pub Knows : ℕ → ℕ → Lane T → View T → Type 0
-  Knows producers made l (views.Consumer n m got heard seen) = (n ≡ producers) × (m ≡ made) × (got ≡ l.got) × KnowsHeard l heard × IsStartOf seen (l.got ++ l.waiting)
+  Knows producers made l (views.Consumer n m got heard seen) = (n ≡ producers) × (m ≡ made) × (got ≡ l.got) × KnowsHeard l heard
+      × IsStartOf seen (l.got ++ l.waiting)
   Knows producers made l (views.Producer n p sent seen) = (n ≡ producers) × (sent ≡ l.sent p) × IsStartOf seen (l.got ++ l.waiting)
   Knows producers made l views.Spent = ⊤
 
@@ -67,27 +68,32 @@ module _ {T : Type 0} where
   abbrev pub IsSharedBy : List (Entry T) → List (View T) → Type 0
   IsSharedBy waiting permits = (producers : ℕ) × (made : ℕ) × (l : Lane T) × IsShared producers made l waiting permits
 
-  -- what the consumer has taken and then what waits is, of each producer, what its permit has sent; each entry is a producer's, and nothing follows an end
+  -- what the consumer has taken and then what waits is, of each producer, what its permit has sent; each entry is a producer's, and nothing follows
+  -- an end
   abbrev pub PermitsMerge : List (Entry T) → List (View T) → Type 0
   PermitsMerge waiting permits = (producers made : ℕ) (got : List (Entry T)) (heard : Option (ℕ × List (Entry T))) (seen : List (Entry T))
       → get_elem? permits 0 ≡ some (consumer producers made got heard seen)
-      → (p : ℕ) → ((position : ℕ) (sent seen : List (Entry T)) → get_elem? permits position ≡ some (sender producers p sent seen) → of p (got ++ waiting) ≡ sent)
+      → (p : ℕ) → ((position : ℕ) (sent seen : List (Entry T)) → get_elem? permits position ≡ some (sender producers p sent seen)
+      → of p (got ++ waiting) ≡ sent)
       × (producers ≤ p → of p (got ++ waiting) ≡ []) × EndsLast (of p (got ++ waiting))
 
   -- what a permit learns at one moment, when these entries wait
   abbrev pub Saw : View T → List (Entry T) → Type 0
-  Saw v waiting = (producers : ℕ) × (made : ℕ) × (l : Lane T) × (l.waiting ≡ waiting) × IsMerge producers (length waiting) l × Knows producers made l v
+  Saw v waiting = (producers : ℕ) × (made : ℕ) × (l : Lane T) × (l.waiting ≡ waiting) × IsMerge producers (length waiting) l
+      × Knows producers made l v
 
   -- what a put makes of the producer's permit: it goes behind all that had been put before
   abbrev pub Puts : View T → Entry T → View T → Type 0
   Puts (views.Consumer producers made got heard seen) e w = ⊥
-  Puts (views.Producer producers p sent seen) e w = (before : List (Entry T)) × (w ≡ views.Producer producers p (sent ++ e ∷ []) (before ++ e ∷ [])) × IsStartOf seen before
+  Puts (views.Producer producers p sent seen) e w = (before : List (Entry T)) × (w ≡ views.Producer producers p (sent ++ e ∷ []) (before ++ e ∷ []))
+      × IsStartOf seen before
   Puts views.Spent e w = ⊥
 
   -- what a take makes of the consumer's permit: the entry is of one of the lane's producers, and these others stood behind it
   abbrev pub Takes : View T → Entry T → View T → Type 0
   Takes (views.Consumer producers made got heard seen) e w = (producer e < producers)
-      × ((others : List (Entry T)) × (w ≡ views.Consumer producers made (got ++ e ∷ []) heard ((got ++ e ∷ []) ++ others)) × IsStartOf seen ((got ++ e ∷ []) ++ others))
+      × ((others : List (Entry T)) × (w ≡ views.Consumer producers made (got ++ e ∷ []) heard ((got ++ e ∷ []) ++ others))
+      × IsStartOf seen ((got ++ e ∷ []) ++ others))
   Takes (views.Producer producers p sent seen) e w = ⊥
   Takes views.Spent e w = ⊥
 

@@ -38,7 +38,8 @@ pub record IsEvent (found left : Mailbox) (changes : List Change) : Type 0 where
   pub same : SameMailbox found left
   pub accepted : left.accepted ≡ found.accepted
 
--- The same, where one copy was delivered: the log went on by its message's arrival, with these flags, and this copy alone was added to those that were accepted, under the next UID.
+-- The same, where one copy was delivered: the log went on by its message's arrival, with these flags, and this copy alone was added to those that
+-- were accepted, under the next UID.
 pub record IsDelivery (found left : Mailbox) (key : CopyKey) (flags : Flags) : Type 0 where
   pub found_kept : IsKept found
   pub left_kept : IsKept left
@@ -46,14 +47,16 @@ pub record IsDelivery (found left : Mailbox) (key : CopyKey) (flags : Flags) : T
   pub same : SameMailbox found left
   pub accepted : left.accepted ≡ found.accepted ++ (key, next_uid found) ∷ []
 
--- The handle is no stranger: its cursor stands in this mailbox at the handle's number, and counts this view. The log is at least as long as that number.
+-- The handle is no stranger: its cursor stands in this mailbox at the handle's number, and counts this view. The log is at least as long as that
+-- number.
 pub record HasCursor (m : Mailbox) (handle : CursorHandle) (view : List ℕ) : Type 0 where
   pub cursor : held m.cursors handle ≡ Some (record { serial = handle.serial; at = handle.at; view = view })
   pub within : handle.at ≤ total m.window
 
 -- The cursor in the handle's slot is this handle's now, and counts this view; no other slot changed.
 abbrev pub SetsCursor : Mailbox → Mailbox → CursorHandle → List ℕ → Type 0
-SetsCursor found left handle view = Updates found.cursors left.cursors handle.slot (Some (record { serial = handle.serial; at = handle.at; view = view }))
+SetsCursor found left handle view = Updates found.cursors left.cursors handle.slot
+    (Some (record { serial = handle.serial; at = handle.at; view = view }))
 
 -- ---- what each event does
 
@@ -69,73 +72,77 @@ pub record Enters (found : Mailbox) (opening : Opening) (left : Mailbox) (handle
   pub serials : left.cursors.next ≡ found.cursors.next + 1
   pub rest : left ≡ record found { cursors = left.cursors }
 
--- The client was shown its next changes, at most so many, and the handle went on by as many.
-pub record Feeds (found : Mailbox) (handle : CursorHandle) (limit : ℕ) (view : List ℕ) (changes : List Change) (left : Mailbox) (next : CursorHandle) : Type 0 where
-  pub event : IsEvent found left []
-  pub known : HasCursor found handle view
-  pub current : found.window.base ≤ handle.at
-  pub count : length changes ≡ min limit (total found.window - handle.at)
-  pub shown : changes ≡ next_changes found.window handle.at (length changes)
-  pub goes_on : next ≡ record handle { at = handle.at + length changes }
-  pub counts : HasCursor left next (replay view changes)
-  pub sets : SetsCursor found left next (replay view changes)
-  pub serials : left.cursors.next ≡ found.cursors.next
-  pub rest : left ≡ record found { cursors = left.cursors }
+module _ (found : Mailbox) (handle : CursorHandle) (limit : ℕ) (view : List ℕ) where
+  -- The client was shown its next changes, at most so many, and the handle went on by as many.
+  pub record Feeds (changes : List Change) (left : Mailbox) (next : CursorHandle) : Type 0 where
+    pub event : IsEvent found left []
+    pub known : HasCursor found handle view
+    pub current : found.window.base ≤ handle.at
+    pub count : length changes ≡ min limit (total found.window - handle.at)
+    pub shown : changes ≡ next_changes found.window handle.at (length changes)
+    pub goes_on : next ≡ record handle { at = handle.at + length changes }
+    pub counts : HasCursor left next (replay view changes)
+    pub sets : SetsCursor found left next (replay view changes)
+    pub serials : left.cursors.next ≡ found.cursors.next
+    pub rest : left ≡ record found { cursors = left.cursors }
 
--- The client was shown all that was pending, and then the messages with \Deleted went, those of the set.
-pub record Expunges (found : Mailbox) (handle : CursorHandle) (uids : Option (List ℕ)) (view : List ℕ) (changes : List Change) (gone : ℕ) (left : Mailbox) (next : CursorHandle) : Type 0 where
-  pub event : IsEvent found left (removals (in_set uids) (rows found))
-  pub known : HasCursor found handle view
-  pub current : found.window.base ≤ handle.at
-  pub room : IsTooMany found (removals (in_set uids) (rows found)) → ⊥
-  pub shown : changes ≡ changes_from handle.at found.window
-  pub goes_on : next ≡ record handle { at = total found.window }
-  pub counts : HasCursor left next (replay view changes)
-  pub sets : SetsCursor found left next (replay view changes)
-  pub serials : left.cursors.next ≡ found.cursors.next
-  pub window : Moves left.cursors found.window left.window (removals (in_set uids) (rows found))
-  pub messages : left.messages ≡ remaining (in_set uids) found.messages
-  pub rest : left ≡ record found { messages = left.messages; window = left.window; cursors = left.cursors }
-  pub went : gone ≡ length (removals (in_set uids) (rows found))
+module _ (found : Mailbox) (handle : CursorHandle) (uids : Option (List ℕ)) (view : List ℕ) where
+  -- The client was shown all that was pending, and then the messages with \Deleted went, those of the set.
+  pub record Expunges (changes : List Change) (gone : ℕ) (left : Mailbox) (next : CursorHandle) : Type 0 where
+    pub event : IsEvent found left (removals (in_set uids) (rows found))
+    pub known : HasCursor found handle view
+    pub current : found.window.base ≤ handle.at
+    pub room : IsTooMany found (removals (in_set uids) (rows found)) → ⊥
+    pub shown : changes ≡ changes_from handle.at found.window
+    pub goes_on : next ≡ record handle { at = total found.window }
+    pub counts : HasCursor left next (replay view changes)
+    pub sets : SetsCursor found left next (replay view changes)
+    pub serials : left.cursors.next ≡ found.cursors.next
+    pub window : Moves left.cursors found.window left.window (removals (in_set uids) (rows found))
+    pub messages : left.messages ≡ remaining (in_set uids) found.messages
+    pub rest : left ≡ record found { messages = left.messages; window = left.window; cursors = left.cursors }
+    pub went : gone ≡ length (removals (in_set uids) (rows found))
 
--- The message of a UID was read.
-pub record Reads (found : Mailbox) (handle : CursorHandle) (uid : ℕ) (mark_seen : Bool) (row : Option Row) (left : Mailbox) : Type 0 where
-  pub event : IsEvent found left (seen_logged mark_seen (rows found) uid)
-  pub known : (view : List ℕ) × HasCursor found handle view
-  pub current : found.window.base ≤ handle.at
-  pub room : IsTooMany found (seen_logged mark_seen (rows found) uid) → ⊥
-  pub window : Moves found.cursors found.window left.window (seen_logged mark_seen (rows found) uid)
-  pub messages : left.messages ≡ seen_after mark_seen uid found.messages
-  pub rest : left ≡ record found { messages = left.messages; window = left.window }
-  pub answers : row ≡ option_map (λ (m : Message). record {
-    uid = m.uid;
-    flags = m.flags;
-    newly_seen = was_logged (seen_logged mark_seen (rows found) uid);
-    text = m.text;
-  }) (message_with uid left.messages)
+-- What a call of the client with this handle does to the mailbox that it finds.
+module _ (found : Mailbox) (handle : CursorHandle) where
+  -- The message of a UID was read.
+  pub record Reads (uid : ℕ) (mark_seen : Bool) (row : Option Row) (left : Mailbox) : Type 0 where
+    pub event : IsEvent found left (seen_logged mark_seen (rows found) uid)
+    pub known : (view : List ℕ) × HasCursor found handle view
+    pub current : found.window.base ≤ handle.at
+    pub room : IsTooMany found (seen_logged mark_seen (rows found) uid) → ⊥
+    pub window : Moves found.cursors found.window left.window (seen_logged mark_seen (rows found) uid)
+    pub messages : left.messages ≡ seen_after mark_seen uid found.messages
+    pub rest : left ≡ record found { messages = left.messages; window = left.window }
+    pub answers : row ≡ option_map (λ (m : Message). record {
+      uid = m.uid;
+      flags = m.flags;
+      newly_seen = was_logged (seen_logged mark_seen (rows found) uid);
+      text = m.text;
+    }) (message_with uid left.messages)
 
--- The flags of the message of a UID were changed.
-pub record Alters (found : Mailbox) (handle : CursorHandle) (uid : ℕ) (op : FlagOp) (flags : Option Flags) (left : Mailbox) : Type 0 where
-  pub event : IsEvent found left (flags_logged (rows found) uid op)
-  pub known : (view : List ℕ) × HasCursor found handle view
-  pub current : found.window.base ≤ handle.at
-  pub room : IsTooMany found (flags_logged (rows found) uid op) → ⊥
-  pub window : Moves found.cursors found.window left.window (flags_logged (rows found) uid op)
-  pub messages : left.messages ≡ flagged uid op found.messages
-  pub rest : left ≡ record found { messages = left.messages; window = left.window }
-  pub answers : flags ≡ option_map (λ (m : Message). m.flags) (message_with uid left.messages)
+  -- The flags of the message of a UID were changed.
+  pub record Alters (uid : ℕ) (op : FlagOp) (flags : Option Flags) (left : Mailbox) : Type 0 where
+    pub event : IsEvent found left (flags_logged (rows found) uid op)
+    pub known : (view : List ℕ) × HasCursor found handle view
+    pub current : found.window.base ≤ handle.at
+    pub room : IsTooMany found (flags_logged (rows found) uid op) → ⊥
+    pub window : Moves found.cursors found.window left.window (flags_logged (rows found) uid op)
+    pub messages : left.messages ≡ flagged uid op found.messages
+    pub rest : left ≡ record found { messages = left.messages; window = left.window }
+    pub answers : flags ≡ option_map (λ (m : Message). m.flags) (message_with uid left.messages)
 
--- The handle was closed, and where it was asked for the messages with \Deleted went. The client may have fallen behind the window.
-pub record Leaves (found : Mailbox) (handle : CursorHandle) (remove : Bool) (gone : ℕ) (left : Mailbox) : Type 0 where
-  pub event : IsEvent found left (removals_if remove (rows found))
-  pub known : (view : List ℕ) × HasCursor found handle view
-  pub room : IsTooMany found (removals_if remove (rows found)) → ⊥
-  pub closed : Updates found.cursors left.cursors handle.slot None
-  pub serials : left.cursors.next ≡ found.cursors.next
-  pub window : Moves left.cursors found.window left.window (removals_if remove (rows found))
-  pub messages : left.messages ≡ (if remove then remaining (λ uid. true) found.messages else found.messages)
-  pub rest : left ≡ record found { messages = left.messages; window = left.window; cursors = left.cursors }
-  pub went : gone ≡ length (removals_if remove (rows found))
+  -- The handle was closed, and where it was asked for the messages with \Deleted went. The client may have fallen behind the window.
+  pub record Leaves (remove : Bool) (gone : ℕ) (left : Mailbox) : Type 0 where
+    pub event : IsEvent found left (removals_if remove (rows found))
+    pub known : (view : List ℕ) × HasCursor found handle view
+    pub room : IsTooMany found (removals_if remove (rows found)) → ⊥
+    pub closed : Updates found.cursors left.cursors handle.slot None
+    pub serials : left.cursors.next ≡ found.cursors.next
+    pub window : Moves left.cursors found.window left.window (removals_if remove (rows found))
+    pub messages : left.messages ≡ (if remove then remaining (λ uid. true) found.messages else found.messages)
+    pub rest : left ≡ record found { messages = left.messages; window = left.window; cursors = left.cursors }
+    pub went : gone ≡ length (removals_if remove (rows found))
 
 -- The copy was delivered: its message is the last one, with the copy's flags, and no cursor changed.
 pub record Delivers (found : Mailbox) (job : Job) (receipt : Receipt) (left : Mailbox) : Type 0 where
@@ -157,11 +164,12 @@ Refuses Lapped m handle spent wants = IsLapped m handle
 Refuses Spent m handle spent wants = IsCurrent m handle × spent
 Refuses NoMemory m handle spent wants = IsCurrent m handle × (spent → ⊥) × wants
 
--- The call was refused, and changed nothing.
-pub record IsRefused (found : Mailbox) (handle : CursorHandle) (spent wants : Type 0) (fault : MailFault) (left : Mailbox) : Type 0 where
-  pub kept : IsKept found
-  pub same : left ≡ found
-  pub why : Refuses fault found handle spent wants
+module _ (found : Mailbox) (handle : CursorHandle) where
+  -- The call was refused, and changed nothing.
+  pub record IsRefused (spent wants : Type 0) (fault : MailFault) (left : Mailbox) : Type 0 where
+    pub kept : IsKept found
+    pub same : left ≡ found
+    pub why : Refuses fault found handle spent wants
 
 -- why no handle was made: no serial is left, or one is and memory was refused
 abbrev pub EntersNot : MailFault → Mailbox → Type 0
@@ -189,7 +197,8 @@ DeliversNot copy.NoMemory flags m = (is_spent flags m ≡ false) × (is_full m �
 
 abbrev pub DoesRead : Mailbox → CursorHandle → ℕ → Bool → Result (Option Row) MailFault → Mailbox → Type 0
 DoesRead found handle uid mark_seen (Ok row) left = Reads found handle uid mark_seen row left
-DoesRead found handle uid mark_seen (Err fault) left = IsRefused found handle (IsTooMany found (seen_logged mark_seen (rows found) uid)) (IsSome (message_with uid found.messages)) fault left
+DoesRead found handle uid mark_seen (Err fault) left = IsRefused found handle (IsTooMany found (seen_logged mark_seen (rows found) uid))
+    (IsSome (message_with uid found.messages)) fault left
 
 abbrev pub DoesAlter : Mailbox → CursorHandle → ℕ → FlagOp → Result (Option Flags) MailFault → Mailbox → Type 0
 DoesAlter found handle uid op (Ok flags) left = Alters found handle uid op flags left
@@ -221,12 +230,16 @@ pub record NothingShown (P : Type 0) (handle next : CursorHandle) (before after 
 
 -- It logs nothing, so the log always has room; and it wants memory only where there is something to show.
 abbrev pub DoesFeed : Mailbox → CursorHandle → ℕ → List ℕ → List ℕ → Result ℕ MailFault → Mailbox → CursorHandle → Type 0
-DoesFeed found handle limit before after (Ok n) left next = Shown (λ view changes. Feeds found handle limit view changes left next) found handle before after n
-DoesFeed found handle limit before after (Err fault) left next = NothingShown (IsRefused found handle ⊥ (0 < min limit (total found.window - handle.at)) fault left) handle next before after
+DoesFeed found handle limit before after (Ok n) left next = Shown
+    (λ view changes. Feeds found handle limit view changes left next) found handle before after n
+DoesFeed found handle limit before after (Err fault) left next =
+    NothingShown (IsRefused found handle ⊥ (0 < min limit (total found.window - handle.at)) fault left) handle next before after
 
 abbrev pub DoesExpunge : Mailbox → CursorHandle → Option (List ℕ) → List ℕ → List ℕ → Result ℕ MailFault → Mailbox → CursorHandle → Type 0
-DoesExpunge found handle uids before after (Ok gone) left next = Told (λ view changes. Expunges found handle uids view changes gone left next) found handle before after
-DoesExpunge found handle uids before after (Err fault) left next = NothingShown (IsRefused found handle (IsTooMany found (removals (in_set uids) (rows found))) (handle.at < total found.window) fault left) handle next before after
+DoesExpunge found handle uids before after (Ok gone) left next =
+    Told (λ view changes. Expunges found handle uids view changes gone left next) found handle before after
+DoesExpunge found handle uids before after (Err fault) left next = NothingShown (IsRefused found handle
+    (IsTooMany found (removals (in_set uids) (rows found))) (handle.at < total found.window) fault left) handle next before after
 
 abbrev pub DoesEnter : Mailbox → Result (CursorHandle × Opening) MailFault → Mailbox → Type 0
 DoesEnter found (Ok entered) left = Enters found entered.1 left entered.0
@@ -235,7 +248,8 @@ DoesEnter found (Err fault) left = IsKept found × (left ≡ found) × EntersNot
 -- A handle that may not leave is handed back.
 abbrev pub DoesLeave : Mailbox → CursorHandle → Bool → Result ℕ (CursorHandle × MailFault) → Mailbox → Type 0
 DoesLeave found handle remove (Ok gone) left = Leaves found handle remove gone left
-DoesLeave found handle remove (Err back) left = (back.0 ≡ handle) × IsKept found × (left ≡ found) × LeavesNot back.1 found handle (removals_if remove (rows found))
+DoesLeave found handle remove (Err back) left = (back.0 ≡ handle) × IsKept found × (left ≡ found)
+    × LeavesNot back.1 found handle (removals_if remove (rows found))
 
 abbrev pub DoesDeliver : Mailbox → Job → Result Receipt Refusal → Mailbox → Type 0
 DoesDeliver found job (Ok receipt) left = Delivers found job receipt left

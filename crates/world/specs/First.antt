@@ -10,7 +10,18 @@ use Rattle.world.specs.World.{Config, Event, Put, Take, Deliver, Answer, Hear, E
 
 -- the house with one of each
 abbrev pub one_house : Config
-one_house = record { seats = 1; shards = 1; mailboxes = 1; sessions = 1; depth = 2; messages = 8; ring = 16; ring_max = 16; first_uid = 1; uidvalidity = 1 }
+one_house = record {
+  seats = 1;
+  shards = 1;
+  mailboxes = 1;
+  sessions = 1;
+  depth = 2;
+  messages = 8;
+  ring = 16;
+  ring_max = 16;
+  first_uid = 1;
+  uidvalidity = 1;
+}
 
 -- its key
 abbrev pub one_key : CopyKey

@@ -105,7 +105,8 @@ pub record Headline (k : Config) (w : World) : Type 0 where
   -- a copy that its seat heard as stored stands in its mailbox's history, under that UID, at one position and no other
   pub answered : (p u : ℕ) (r : Noted) → Contains (w.heard p) r → r.verdict ≡ Stored u → StandsOnce (pairs (w.box r.mailbox).accepted) r.key u
   -- a copy that its seat heard as refused stands in no mailbox's history
-  pub refused : (p : ℕ) (r : Noted) (f : Refusal) → Contains (w.heard p) r → r.verdict ≡ Refused f → (m : ℕ) → All (λ a. a.0.key ≢ r.key) (w.box m).accepted
+  pub refused : (p : ℕ) (r : Noted) (f : Refusal) → Contains (w.heard p) r → r.verdict ≡ Refused f → (m : ℕ)
+      → All (λ a. a.0.key ≢ r.key) (w.box m).accepted
   -- no copy has two verdicts
   pub one_verdict : (p : ℕ) → AllPairs (λ a b. a.key ≢ b.key) (w.heard p)
   -- of each seat, the keys of a mailbox's history strictly rise

@@ -13,7 +13,18 @@ use Rattle.world.specs.First.{one_copy}
 
 -- the house with one of each, and room for one entry
 abbrev pub narrow_house : Config
-narrow_house = record { seats = 1; shards = 1; mailboxes = 1; sessions = 1; depth = 1; messages = 8; ring = 16; ring_max = 16; first_uid = 1; uidvalidity = 1 }
+narrow_house = record {
+  seats = 1;
+  shards = 1;
+  mailboxes = 1;
+  sessions = 1;
+  depth = 1;
+  messages = 8;
+  ring = 16;
+  ring_max = 16;
+  first_uid = 1;
+  uidvalidity = 1;
+}
 
 -- its seat has put its end
 abbrev pub ended : World
@@ -25,7 +36,12 @@ filled = puts empty_world 0 (Item 0 one_copy)
 
 -- the copy for the next recipient
 abbrev pub next_copy : Job
-next_copy = record { key = record { seat = 0; serial = 0; message = 0; recipient = 1 }; mailbox = 0; text = undated (104 ∷ 105 ∷ []); flags = no_flags }
+next_copy = record {
+  key = record { seat = 0; serial = 0; message = 0; recipient = 1 };
+  mailbox = 0;
+  text = undated (104 ∷ 105 ∷ []);
+  flags = no_flags;
+}
 
 -- the seat has heard that it was refused
 abbrev pub told : World → Refusal → World

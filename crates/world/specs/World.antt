@@ -208,7 +208,8 @@ pub data DeliverStep (k : Config) (w : World) (s : ℕ) (v : World) : Type 0 whe
   delivers : (c : Job) (b : Box) → w.hand s ≡ Taken c → HasUid k c.flags (w.box c.mailbox) → length (rows_of (w.box c.mailbox).log) < k.messages
       → Logs k (w.box c.mailbox) (arrival (next_uid k (w.box c.mailbox)) c.flags) ((c, next_uid k (w.box c.mailbox)) ∷ []) b
       → v ≡ delivered w s c.mailbox b (reply_to c (Stored (next_uid k (w.box c.mailbox)))) → DeliverStep k w s v
-  deliver_spent : (c : Job) → w.hand s ≡ Taken c → IsSpent k c.flags (w.box c.mailbox) → v ≡ refused w s (reply_to c (Refused UidSpent)) → DeliverStep k w s v
+  deliver_spent : (c : Job) → w.hand s ≡ Taken c → IsSpent k c.flags (w.box c.mailbox) → v ≡ refused w s (reply_to c (Refused UidSpent))
+      → DeliverStep k w s v
   deliver_full : (c : Job) → w.hand s ≡ Taken c → HasUid k c.flags (w.box c.mailbox) → is_full k (w.box c.mailbox)
       → v ≡ refused w s (reply_to c (Refused MailboxFull)) → DeliverStep k w s v
   -- a growth was refused
@@ -220,13 +221,15 @@ pub data DeliverStep (k : Config) (w : World) (s : ℕ) (v : World) : Type 0 whe
 -- the reply in the hand of shard s goes into the reply lane of its seat, unless that is full
 pub data AnswerStep (w : World) (s : ℕ) (v : World) : Type 0 where
   answers : (r : Noted) → w.hand s ≡ Done r → length (w.replies r.key.seat).waiting < reply_room
-      → v ≡ record w { hand = set_at w.hand s Empty; replies = set_at w.replies r.key.seat (put (w.replies r.key.seat) (Item s r)) } → AnswerStep w s v
+      → v ≡ record w { hand = set_at w.hand s Empty; replies = set_at w.replies r.key.seat (put (w.replies r.key.seat) (Item s r)) }
+      → AnswerStep w s v
   answer_full : (r : Noted) → w.hand s ≡ Done r → reply_room ≤ length (w.replies r.key.seat).waiting → v ≡ w → AnswerStep w s v
 
 -- seat p hears the first reply that waits
 pub data HearStep (w : World) (p : ℕ) (v : World) : Type 0 where
   hears_one : (s : ℕ) (r : Noted) (others : List (Entry Noted)) → (w.replies p).waiting ≡ Item s r ∷ others
-      → v ≡ record w { replies = set_at w.replies p (took (w.replies p) (Item s r) others); heard = set_at w.heard p (w.heard p ++ r ∷ []) } → HearStep w p v
+      → v ≡ record w { replies = set_at w.replies p (took (w.replies p) (Item s r) others); heard = set_at w.heard p (w.heard p ++ r ∷ []) }
+      → HearStep w p v
 
 -- Sessions
 
@@ -292,7 +295,8 @@ Step k w (Enter n m) v = EnterStep k w n m v
 Step k w (Status m) v = v ≡ w
 Step k w (Read n u mark) v = Selected w n (λ s. MailStep k w n s true [] (seen_logged mark (rows_of (w.box s.mailbox).log) u) v)
 Step k w (Store n u op) v = Selected w n (λ s. MailStep k w n s false [] (flags_logged (rows_of (w.box s.mailbox).log) u op) v)
-Step k w (Expunge n may_go) v = Selected w n (λ s. MailStep k w n s true (pending (w.box s.mailbox) s) (removals may_go (rows_of (w.box s.mailbox).log)) v)
+Step k w (Expunge n may_go) v = Selected w n (λ s. MailStep k w n s true (pending (w.box s.mailbox) s)
+    (removals may_go (rows_of (w.box s.mailbox).log)) v)
 Step k w (Feed n limit) v = Selected w n (λ s. MailStep k w n s true (take limit (pending (w.box s.mailbox) s)) [] v)
 Step k w (Leave n removing) v = Selected w n (λ s. LeaveStep k w n s (removals_if removing (rows_of (w.box s.mailbox).log)) v)
 Step k w (Discard m goes) v = DiscardStep k w m (discards goes (rows_of (w.box m).log)) v

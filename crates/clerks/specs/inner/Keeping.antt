@@ -11,7 +11,8 @@ use Rattle.lane_work.specs.Permits.{AreSenders}
 use Rattle.lane_work.specs.declared.consumer.Stall.{Stall}
 use Rattle.clerks.specs.Keeping.{IsOnLane, Parts}
 
--- Of a hall with this depot: its senders are of all channels, and what was said on each is the answers to the copies that were taken, and nothing else. It is torn where one of these was nobody's.
+-- Of a hall with this depot: its senders are of all channels, and what was said on each is the answers to the copies that were taken, and nothing
+-- else. It is torn where one of these was nobody's.
 pub record IsAnswering {B : Type 0} (depot : Parts) (stall : Stall B) (is_torn : Bool) : Type 0 where
   pub senders : AreSenders depot.channels stall.shard stall.senders.items
   pub answered : HaveAnswered depot.mailboxes (length depot.channels) stall.shard (got stall.permit) [] (map sent_on stall.senders.items)

@@ -11,6 +11,8 @@ use Rattle.clerks.specs.declared.turn.Turn.TheVariants.{Copy, End, Empty}
 
 -- a copy was taken, and whether it was one of a house with so many mailboxes and channels; or an end was; or nothing waited, and nothing was taken
 abbrev pub Turned : (mailboxes channels : ℕ) → ShardQueue Job → ConsumerPermit Job → Turn → ConsumerPermit Job → Type 0
-Turned mailboxes channels lane old (Copy ours) new = (p : ℕ) × (job : Job) × (got new ≡ got old ++ entries.Item p job ∷ []) × (ours ≡ is_ours mailboxes channels p job)
+Turned mailboxes channels lane old (Copy ours) new = (p : ℕ) × (job : Job) × (got new ≡ got old ++ entries.Item p job ∷ [])
+    × (ours ≡ is_ours mailboxes channels p job)
 Turned mailboxes channels lane old End new = (p : ℕ) × (got new ≡ got old ++ entries.End p ∷ [])
-Turned mailboxes channels lane old Empty new = (got new ≡ got old) × (take_seen new ≡ take_seen old) × WasEmpty (producers_of lane) (capacity_of lane) (got old) (take_seen old)
+Turned mailboxes channels lane old Empty new = (got new ≡ got old) × (take_seen new ≡ take_seen old)
+    × WasEmpty (producers_of lane) (capacity_of lane) (got old) (take_seen old)

@@ -13,8 +13,10 @@ use Rattle.delivery_core.specs.Stands.{StandsForBox}
 -- From this box a mailbox took the copy, or refused it, and stands for the box that the world allows.
 pub data BoxDelivers (k : Config) (w : Box) (c : Job) (verdict : Verdict) (new : Mailbox) : Type 0 where
   stores : (u : Box) → HasUid k c.flags w → length (rows_of w.log) < k.messages
-      → Logs k w (arrival (next_uid k w) c.flags) ((c, next_uid k w) ∷ []) u → verdict ≡ Stored (next_uid k w) → StandsForBox k new u → BoxDelivers k w c verdict new
+      → Logs k w (arrival (next_uid k w) c.flags) ((c, next_uid k w) ∷ []) u → verdict ≡ Stored (next_uid k w) → StandsForBox k new u
+      → BoxDelivers k w c verdict new
   has_no_uid : IsSpent k c.flags w → verdict ≡ Refused UidSpent → StandsForBox k new w → BoxDelivers k w c verdict new
   has_no_space : HasUid k c.flags w → is_full k w → verdict ≡ Refused MailboxFull → StandsForBox k new w → BoxDelivers k w c verdict new
   -- a growth was refused
-  has_no_memory : HasUid k c.flags w → length (rows_of w.log) < k.messages → verdict ≡ Refused NoMemory → StandsForBox k new w → BoxDelivers k w c verdict new
+  has_no_memory : HasUid k c.flags w → length (rows_of w.log) < k.messages → verdict ≡ Refused NoMemory → StandsForBox k new w
+      → BoxDelivers k w c verdict new

@@ -12,7 +12,8 @@ use Rattle.house.specs.Printing.{Speaks, Idles, IsWhole, with_session}
 -- ---- sessions
 
 -- From this session, whose client is there, its seat went on over a store and printed this, and stands for the session after it.
-pub record WentOn {S : Type 0} (step : S → Call → Answer → S → Type 0) (whole : Bool) (seat n : ℕ) (next : CopyKey) (heard : List Noted) (before : SeatedVisitor) (old new : S) (text text_after : List ℕ) (p : SeatedSession) : Type 0 where
+pub record WentOn {S : Type 0} (step : S → Call → Answer → S → Type 0) (whole : Bool) (seat n : ℕ) (next : CopyKey) (heard : List Noted)
+    (before : SeatedVisitor) (old new : S) (text text_after : List ℕ) (p : SeatedSession) : Type 0 where
   pub after : SeatedVisitor
   pub printed : List ℕ
   pub speaks : Speaks step whole seat n heard before old new after printed
@@ -22,7 +23,8 @@ pub record WentOn {S : Type 0} (step : S → Call → Answer → S → Type 0) (
 
 -- From this session its seat had a turn while it idles, which showed so many changes, and printed this; it stands for the session after it. Where
 -- the turn was made whole, all that was said is printed.
-pub record Idled {S : Type 0} (step : S → Call → Answer → S → Type 0) (whole : Bool) (seat n : ℕ) (count : ℕ) (next : CopyKey) (heard : List Noted) (before : SeatedVisitor) (old new : S) (text text_after : List ℕ) (p : SeatedSession) : Type 0 where
+pub record Idled {S : Type 0} (step : S → Call → Answer → S → Type 0) (whole : Bool) (seat n : ℕ) (count : ℕ) (next : CopyKey) (heard : List Noted)
+    (before : SeatedVisitor) (old new : S) (text text_after : List ℕ) (p : SeatedSession) : Type 0 where
   pub after : Visitor
   pub printed : List ℕ
   pub idles : Idles step n before.session old new after count printed
@@ -31,11 +33,14 @@ pub record Idled {S : Type 0} (step : S → Call → Answer → S → Type 0) (w
   pub out : text_after ≡ text ++ printed
 
 -- Memory was refused for a turn: the seat stands for the session as it was, and nothing was printed.
-pub record Missed {S : Type 0} (step : S → Call → Answer → S → Type 0) (seat : ℕ) (next : CopyKey) (heard : List Noted) (before : SeatedVisitor) (old new : S) (text text_after : List ℕ) (p : SeatedSession) : Type 0 where
+pub record Missed {S : Type 0} (step : S → Call → Answer → S → Type 0) (seat : ℕ) (next : CopyKey) (heard : List Noted) (before : SeatedVisitor)
+    (old new : S) (text text_after : List ℕ) (p : SeatedSession) : Type 0 where
   pub starves : Starves step old new
   pub stands : StandsForSeated seat next heard p before
   pub out : text_after ≡ text
 
 -- The same, or the turn was made, and its words wait to be printed.
-abbrev pub IdledInPart : {S : Type 0} → (S → Call → Answer → S → Type 0) → (seat n : ℕ) → CopyKey → List Noted → SeatedVisitor → S → S → List ℕ → List ℕ → SeatedSession → Type 0
-IdledInPart step seat n next heard before old new text text_after p = Missed step seat next heard before old new text text_after p ⊎ ((count : ℕ) × Idled step false seat n count next heard before old new text text_after p)
+abbrev pub IdledInPart : {S : Type 0} → (S → Call → Answer → S → Type 0) → (seat n : ℕ) → CopyKey → List Noted → SeatedVisitor → S → S → List ℕ
+    → List ℕ → SeatedSession → Type 0
+IdledInPart step seat n next heard before old new text text_after p = Missed step seat next heard before old new text text_after p
+    ⊎ ((count : ℕ) × Idled step false seat n count next heard before old new text text_after p)

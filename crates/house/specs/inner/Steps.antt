@@ -86,7 +86,8 @@ IsStillThere k seat next heard what h None = what ≡ Quit
 IsStillThere k seat next heard what h (Some b) = (what ≡ Quit → ⊥) × StandsForConnection k seat next heard h b
 
 -- From this caller the connection did what it could and this was printed, and it stands for the caller after it.
-pub record ConnectionWent (k : Terms) (whole : Bool) (seat : ℕ) (next : CopyKey) (heard : List Noted) (b : Caller) (what : What) (h : HouseConnection) (old new : List ℕ) : Type 0 where
+pub record ConnectionWent (k : Terms) (whole : Bool) (seat : ℕ) (next : CopyKey) (heard : List Noted) (b : Caller) (what : What) (h : HouseConnection)
+    (old new : List ℕ) : Type 0 where
   pub left : Option Caller
   pub printed : List ℕ
   pub goes : ConnectionGoes k whole seat heard b left printed
@@ -94,7 +95,8 @@ pub record ConnectionWent (k : Terms) (whole : Bool) (seat : ℕ) (next : CopyKe
   pub out : new ≡ old ++ printed
 
 -- the caller at a seat went on, and printed this
-pub record CallerWentOn (k : Terms) (whole : Bool) (seat : ℕ) (next : CopyKey) (heard : List Noted) (b : Caller) (h : Option HouseConnection) (old new : List ℕ) : Type 0 where
+pub record CallerWentOn (k : Terms) (whole : Bool) (seat : ℕ) (next : CopyKey) (heard : List Noted) (b : Caller) (h : Option HouseConnection)
+    (old new : List ℕ) : Type 0 where
   pub left : Option Caller
   pub printed : List ℕ
   pub goes : ConnectionGoes k whole seat heard b left printed
@@ -138,7 +140,8 @@ pub record HasLingered (seat : ℕ) (next : CopyKey) (heard : List Noted) (b : S
   pub there : StandsForSomebody seat next heard p left
 
 -- The session at a place went on, and printed this; the delivery side stands for what it did.
-pub record PlaceVisited (k : Setup) (whole : Bool) (place : ℕ) (next : CopyKey) (heard : List Noted) (w : World) (b : SeatedVisitor) (p : Option SeatedSession) (new : DeliveryCore) (before after : List ℕ) : Type 0 where
+pub record PlaceVisited (k : Setup) (whole : Bool) (place : ℕ) (next : CopyKey) (heard : List Noted) (w : World) (b : SeatedVisitor)
+    (p : Option SeatedSession) (new : DeliveryCore) (before after : List ℕ) : Type 0 where
   pub left : Option SeatedVisitor
   pub moved : World
   pub printed : List ℕ
@@ -148,7 +151,8 @@ pub record PlaceVisited (k : Setup) (whole : Bool) (place : ℕ) (next : CopyKey
   pub out : after ≡ before ++ printed
 
 -- The same of one whose client is there.
-pub record PlaceTalked (k : Setup) (whole : Bool) (place : ℕ) (next : CopyKey) (heard : List Noted) (w : World) (b : SeatedVisitor) (p : Option SeatedSession) (new : DeliveryCore) (before after : List ℕ) : Type 0 where
+pub record PlaceTalked (k : Setup) (whole : Bool) (place : ℕ) (next : CopyKey) (heard : List Noted) (w : World) (b : SeatedVisitor)
+    (p : Option SeatedSession) (new : DeliveryCore) (before after : List ℕ) : Type 0 where
   pub left : Option SeatedVisitor
   pub moved : World
   pub printed : List ℕ
@@ -158,7 +162,8 @@ pub record PlaceTalked (k : Setup) (whole : Bool) (place : ℕ) (next : CopyKey)
   pub out : after ≡ before ++ printed
 
 -- The session at a place had a turn while it idles, and printed this; the delivery side stands for what it did.
-pub record PlaceIdled (k : Setup) (whole : Bool) (place : ℕ) (next : CopyKey) (heard : List Noted) (w : World) (b : SeatedVisitor) (old : DeliveryCore) (p : Option SeatedSession) (new : DeliveryCore) (before after : List ℕ) : Type 0 where
+pub record PlaceIdled (k : Setup) (whole : Bool) (place : ℕ) (next : CopyKey) (heard : List Noted) (w : World) (b : SeatedVisitor)
+    (old : DeliveryCore) (p : Option SeatedSession) (new : DeliveryCore) (before after : List ℕ) : Type 0 where
   pub left : Option SeatedVisitor
   pub moved : World
   pub printed : List ℕ
@@ -169,17 +174,21 @@ pub record PlaceIdled (k : Setup) (whole : Bool) (place : ℕ) (next : CopyKey) 
   pub out : after ≡ before ++ printed
 
 -- It had none, and all is as it was.
-pub record PlaceKept (k : Setup) (place : ℕ) (next : CopyKey) (heard : List Noted) (w : World) (b : SeatedVisitor) (old : DeliveryCore) (p : Option SeatedSession) (new : DeliveryCore) (before after : List ℕ) : Type 0 where
+pub record PlaceKept (k : Setup) (place : ℕ) (next : CopyKey) (heard : List Noted) (w : World) (b : SeatedVisitor) (old : DeliveryCore)
+    (p : Option SeatedSession) (new : DeliveryCore) (before after : List ℕ) : Type 0 where
   pub there : StandsForSomebody (session_seat k place) next heard p (Some b)
   pub core : core.StandsFor k.config new w
   pub rest : SameDelivery old new
   pub out : after ≡ before
 
 -- where memory was wanting: no turn, or one whose words aren't printed yet
-abbrev pub PlaceIdledInPart : Setup → ℕ → CopyKey → List Noted → World → SeatedVisitor → DeliveryCore → Option SeatedSession → DeliveryCore → List ℕ → List ℕ → Type 0
-PlaceIdledInPart k place next heard w b old p new before after = PlaceIdled k false place next heard w b old p new before after ⊎ PlaceKept k place next heard w b old p new before after
+abbrev pub PlaceIdledInPart : Setup → ℕ → CopyKey → List Noted → World → SeatedVisitor → DeliveryCore → Option SeatedSession → DeliveryCore → List ℕ
+    → List ℕ → Type 0
+PlaceIdledInPart k place next heard w b old p new before after = PlaceIdled k false place next heard w b old p new before after
+    ⊎ PlaceKept k place next heard w b old p new before after
 
 -- In no world for which the delivery side stood does the session at a place have a turn.
 abbrev pub HasNoTurn : ℕ → Option SeatedSession → DeliveryCore → Type 0
-HasNoTurn place p old = (k : Setup) (next : CopyKey) (heard : List Noted) (w v : World) (b : SeatedVisitor) (o : Option SeatedVisitor) (printed : List ℕ) → core.StandsFor k.config old w → StandsForSomebody (session_seat k place) next heard p (Some b)
+HasNoTurn place p old = (k : Setup) (next : CopyKey) (heard : List Noted) (w v : World) (b : SeatedVisitor) (o : Option SeatedVisitor)
+    (printed : List ℕ) → core.StandsFor k.config old w → StandsForSomebody (session_seat k place) next heard p (Some b)
     → SessionIdles k true place w b v o printed → ⊥

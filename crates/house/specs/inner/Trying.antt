@@ -82,7 +82,8 @@ abbrev pub Goes : (Setup → Type 0) → (Setup → Scene → Scene → List ℕ
 Goes Q P before old h new = (k : Setup) (s : Scene) → Q k → StandsFor k before s → Went P k s h old new
 
 -- something happened, and less is left to do
-pub record Moved (Q : Setup → Type 0) (P : Setup → Scene → Scene → List ℕ → Type 0) (before : House) (old : List ℕ) (h : House) (new : List ℕ) : Type 0 where
+pub record Moved (Q : Setup → Type 0) (P : Setup → Scene → Scene → List ℕ → Type 0) (before : House) (old : List ℕ) (h : House)
+    (new : List ℕ) : Type 0 where
   pub went : (k : Setup) (s : Scene) → Q k → StandsFor k before s → Went P k s h old new
   pub less : effort h < effort before
 
@@ -93,30 +94,36 @@ pub record Rests (Q : Setup → Type 0) (I : Setup → Scene → Type 0) (before
   pub changes_nothing : (k : Setup) (s : Scene) → Q k → StandsFor k before s → I k s
 
 -- memory was wanting: what happened by then stands
-pub record Wants (Q : Setup → Type 0) (B : Setup → Scene → Scene → List ℕ → Type 0) (before : House) (old : List ℕ) (h : House) (new : List ℕ) : Type 0 where
+pub record Wants (Q : Setup → Type 0) (B : Setup → Scene → Scene → List ℕ → Type 0) (before : House) (old : List ℕ) (h : House)
+    (new : List ℕ) : Type 0 where
   pub broke_off : (k : Setup) (s : Scene) → Q k → StandsFor k before s → Went B k s h old new
 
 -- what came of trying: whether something happened
-abbrev pub Did : (Setup → Type 0) → (Setup → Scene → Scene → List ℕ → Type 0) → (Setup → Scene → Type 0) → House → List ℕ → House → List ℕ → Bool → Type 0
+abbrev pub Did : (Setup → Type 0) → (Setup → Scene → Scene → List ℕ → Type 0) → (Setup → Scene → Type 0) → House → List ℕ → House → List ℕ → Bool
+    → Type 0
 Did Q P I before old h new true = Moved Q P before old h new
 Did Q P I before old h new false = Rests Q I before old h new
 
-abbrev pub Came : {E : Type 0} → (Setup → Type 0) → (P B : Setup → Scene → Scene → List ℕ → Type 0) → (Setup → Scene → Type 0) → House → List ℕ → House → List ℕ → Result Bool E → Type 0
+abbrev pub Came : {E : Type 0} → (Setup → Type 0) → (P B : Setup → Scene → Scene → List ℕ → Type 0) → (Setup → Scene → Type 0) → House → List ℕ
+    → House → List ℕ → Result Bool E → Type 0
 Came Q P B I before old h new (Ok moved) = Did Q P I before old h new moved
 Came Q P B I before old h new (Err e) = Wants Q B before old h new
 
 -- what came of trying an event, some events in turn, and a stint
 abbrev pub CameOne : {E : Type 0} → Event → House → List ℕ → House → List ℕ → Result Bool E → Type 0
 CameOne event before old h new r =
-    Came (λ k. IsAmong k event) (λ k s t printed. Tries k s event t printed) (λ k s t printed. BreaksOff k s event t printed) (λ k s. HasNothing k s event) before old h new r
+    Came (λ k. IsAmong k event) (λ k s t printed. Tries k s event t printed) (λ k s t printed. BreaksOff k s event t printed)
+    (λ k s. HasNothing k s event) before old h new r
 
 abbrev pub CameInTurn : {E : Type 0} → List Event → House → List ℕ → House → List ℕ → Result Bool E → Type 0
 CameInTurn group before old h new r =
-    Came (λ k. All (IsAmong k) group) (λ k s t printed. InTurn k group s t printed) (λ k s t printed. TurnBreaksOff k group s t printed) (λ k s. All (HasNothing k s) group) before old h new r
+    Came (λ k. All (IsAmong k) group) (λ k s t printed. InTurn k group s t printed) (λ k s t printed. TurnBreaksOff k group s t printed)
+    (λ k s. All (HasNothing k s) group) before old h new r
 
 abbrev pub CameStint : {E : Type 0} → List Event → House → List ℕ → House → List ℕ → Result Bool E → Type 0
 CameStint group before old h new r =
-    Came (λ k. All (IsAmong k) group) (λ k s t printed. Stint k group s t printed) (λ k s t printed. StintBreaksOff k group s t printed) (λ k s. All (HasNothing k s) group) before old h new r
+    Came (λ k. All (IsAmong k) group) (λ k s t printed. Stint k group s t printed) (λ k s t printed. StintBreaksOff k group s t printed)
+    (λ k s. All (HasNothing k s) group) before old h new r
 
 -- what came of stints one after another
 abbrev pub DidStints : (Setup → Type 0) → (Setup → List (List Event)) → House → List ℕ → House → List ℕ → Bool → Type 0

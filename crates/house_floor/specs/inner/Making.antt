@@ -107,7 +107,8 @@ abbrev pub IsWholeSeating : {B : Type 0} → Seating B → Type 0
 IsWholeSeating seating = (seating.seats ≡ 0) × (281474976710656 ≤ seating.tickets)
 
 -- what is to be dealt to so many producers and consumers over these lanes and channels, and the empty lists that it goes into
-pub record AreUndealt {B : Type 0} (producers shards : ℕ) (lanes : List (ShardQueue Job)) (channels : List (ReplyChannel Noted)) (u : Undealt B) : Type 0 where
+pub record AreUndealt {B : Type 0} (producers shards : ℕ) (lanes : List (ShardQueue Job)) (channels : List (ReplyChannel Noted))
+    (u : Undealt B) : Type 0 where
   pub lane_permits : Rows lanes 0 (map (λ v. v.items) u.lane_permits.items)
   pub receivers : AreReceivers channels u.receivers.items
   pub unheard : All (λ s. received s ≡ []) u.receivers.items

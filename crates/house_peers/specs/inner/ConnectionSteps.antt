@@ -10,6 +10,7 @@ use Rattle.house_peers.specs.inner.Meeting.{meets}
 use Rattle.house_peers.specs.ConnectionStands.{StandsForConnection}
 
 -- the verdicts were said, and nothing is awaited any more
-pub record SaidVerdicts (k : Terms) (seat : ℕ) (next : CopyKey) (heard : List Noted) (b : Caller) (verdicts : List Verdict) (h : HouseConnection) : Type 0 where
+pub record SaidVerdicts (k : Terms) (seat : ℕ) (next : CopyKey) (heard : List Noted) (b : Caller) (verdicts : List Verdict)
+    (h : HouseConnection) : Type 0 where
   pub answered : IsAnswered heard b verdicts
   pub stands : StandsForConnection k seat next heard h (meets k seat b (dialogue.Answered verdicts))

@@ -13,6 +13,7 @@ AwaitsIn None pending = pending ≡ []
 AwaitsIn (Some what) pending = Awaits what pending
 
 -- bytes were taken, and it came to this
-abbrev pub TakenBy : (Conversation → Type 0) → Setting → List ℕ → Directory → Conversation → List ℕ → List ℕ → List ℕ → Option What → List Submission → Type 0
+abbrev pub TakenBy : (Conversation → Type 0) → Setting → List ℕ → Directory → Conversation → List ℕ → List ℕ → List ℕ → Option What → List Submission
+    → Type 0
 TakenBy Stands setting host directory c bytes old new None pending = (what : What) × Taken Stands setting host directory c bytes old new what pending
 TakenBy Stands setting host directory c bytes old new (Some what) pending = Taken Stands setting host directory c bytes old new what pending

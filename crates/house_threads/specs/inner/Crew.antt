@@ -49,16 +49,19 @@ IsKept floor n (kept.Here c) = IsServiceOf floor n (manually_drop_value c)
 -- ---- a session
 
 -- the session that had this selection, of a user with this name, lived through these steps, and said this
-pub record HasLived {B : Type 0} (floor : Floor B) (user : List ℕ) (selection : LockedStore) (guest : Guest) (carried : List Carried) (text : List ℕ) : Type 0 where
+pub record HasLived {B : Type 0} (floor : Floor B) (user : List ℕ) (selection : LockedStore) (guest : Guest) (carried : List Carried)
+    (text : List ℕ) : Type 0 where
   pub last : Moment
-  pub lives : Lives floor.turns (greeted_at (Some (most_of floor.office.max_message)) (folders_of floor.office.directory user) selection (greeting Standard)) guest.steps.items carried last
+  pub lives : Lives floor.turns (greeted_at (Some (most_of floor.office.max_message)) (folders_of floor.office.directory user) selection
+      (greeting Standard)) guest.steps.items carried last
   pub wrote : text ≡ last.text
 
--- What a session leaves: its ended permits are its own on each lane, its receiver is of its channel, and where it made all its steps, it heard as many verdicts as it put copies, this is
--- its account of them, and the history has what it put and heard.
+-- What a session leaves: its ended permits are its own on each lane, its receiver is of its channel, and where it made all its steps, it heard as
+-- many verdicts as it put copies, this is its account of them, and the history has what it put and heard.
 abbrev pub IsAttended : {B : Type 0} → Floor B → ReplyChannel Noted → ℕ → Guest → Worked B → Type 0
 IsAttended floor channel seat guest w =
     AreEnded floor.office.lanes.items seat w.ended.items × IsReceiver channel w.receiver × (w.log.seat ≡ seat)
     × (w.fate ≡ Whole → verdicts_in (received w.receiver) ≡ copies_in (map said w.ended.items))
-    × (w.fate ≡ Whole → SessionAccount (premises_of floor.office) (length floor.depot.mailboxes.items) floor.turns seat guest (map (λ b. b.items) w.replies.items) w.log.notes (received w.receiver) (map said w.ended.items))
+    × (w.fate ≡ Whole → SessionAccount (premises_of floor.office) (length floor.depot.mailboxes.items) floor.turns seat guest
+    (map (λ b. b.items) w.replies.items) w.log.notes (received w.receiver) (map said w.ended.items))
     × (w.fate ≡ Whole → IsBackedBy seat w.dispatch (received w.receiver) (map said w.ended.items))

@@ -1,4 +1,5 @@
--- Ranges of positions in a view, by which messages are chosen at the cost of what is chosen. Which messages a set names is said in Sets; no public clause speaks of these.
+-- Ranges of positions in a view, by which messages are chosen at the cost of what is chosen. Which messages a set names is said in Sets; no public
+-- clause speaks of these.
 use Rattle.std.specs.Prelude.{ℕ, Bool, true, false, List, length, min, max, nat_le, ◌&&◌}
 use Rattle.std.specs.List.{list_any}
 use Rattle.imap_grammar.specs.Sets.{at_positions, by_uid, is_named, numeric}

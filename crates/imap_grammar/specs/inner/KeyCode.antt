@@ -145,7 +145,8 @@ text_again : (text : List ℕ) → map byte_back (map byte_code text) ≡ text
 text_again [] = refl
 text_again (b ∷ bs) = ap (λ x. b ∷ x) (text_again bs)
 
-fields_again : (name words : List ℕ) (n : ℕ) → length name ≡ n → (both : List ℕ) → both ≡ name ++ words → InField (take n both) (drop n both) ≡ InField name words
+fields_again : (name words : List ℕ) (n : ℕ) → length name ≡ n → (both : List ℕ) → both ≡ name ++ words
+    → InField (take n both) (drop n both) ≡ InField name words
 fields_again name words n e both h =
     ap (λ x. InField (take n x) (drop n x)) h ∙ ap (λ x. InField x (drop n (name ++ words))) (take_at name words n e)
     ∙ ap (InField name) (drop_at name words n e)
@@ -168,7 +169,8 @@ again (Before day) rest keys = refl
 again (On day) rest keys = refl
 again (Since day) rest keys = refl
 again (InField name words) rest keys =
-    ap (λ x. keys_back rest (x ∷ keys)) (fields_again name words (length name) refl (map byte_back (map byte_code (name ++ words))) (text_again (name ++ words)))
+    ap (λ x. keys_back rest (x ∷ keys)) (fields_again name words (length name) refl (map byte_back (map byte_code (name ++ words)))
+    (text_again (name ++ words)))
 again (InBody words) rest keys = ap (λ x. keys_back rest (InBody x ∷ keys)) (text_again words)
 again (InText words) rest keys = ap (λ x. keys_back rest (InText x ∷ keys)) (text_again words)
 again (Positions set) rest keys = ap (λ x. keys_back rest (Positions x ∷ keys)) (set_again set)

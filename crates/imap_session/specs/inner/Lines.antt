@@ -7,7 +7,8 @@ use Rattle.imap_session.specs.Commands.{most_line, on_joined, on_rest_of, on_tex
 use Rattle.imap_session.specs.Store.{Met}
 
 -- with some answers the turn is such, and was had over the store
-pub record Had {S : Type 0} (turn : List Answer → Option Turn) (step : S → Call → Answer → S → Type 0) (old new : S) (before after : List ℕ) (how : After) (next : Standing) : Type 0 where
+pub record Had {S : Type 0} (turn : List Answer → Option Turn) (step : S → Call → Answer → S → Type 0) (old new : S) (before after : List ℕ)
+    (how : After) (next : Standing) : Type 0 where
   pub answers : List Answer
   pub events : List Event
   pub bytes : List ℕ
@@ -20,7 +21,8 @@ abbrev pub AnswersText : {S : Type 0} → (S → Call → Answer → S → Type 
 AnswersText step now line old new before after how next = Had (on_text_line now line) step old new before after how next
 
 -- the same of one with its literals in it, under this tag, which ends so
-abbrev pub AnswersJoined : {S : Type 0} → (S → Call → Answer → S → Type 0) → List ℕ → Standing → List ℕ → List ℕ → S → S → List ℕ → List ℕ → After → Standing → Type 0
+abbrev pub AnswersJoined : {S : Type 0} → (S → Call → Answer → S → Type 0) → List ℕ → Standing → List ℕ → List ℕ → S → S → List ℕ → List ℕ → After
+    → Standing → Type 0
 AnswersJoined step tag now line rest old new before after how next = Had (on_joined tag now line rest) step old new before after how next
 
 -- the line that was joined, or one that is too long to be

@@ -31,7 +31,8 @@ origin_of (from.Copied b) = Copied (batch_of b)
 abbrev pub sent_of : sent.Sent → Sent
 sent_of s = record { tag = s.tag; append = s.append; origin = origin_of s.origin }
 
--- Each message has its UID and is stored, left, or on its way; there is room for the UIDs of all copies; and there are no more than one command may copy.
+-- Each message has its UID and is stored, left, or on its way; there is room for the UIDs of all copies; and there are no more than one command may
+-- copy.
 pub record IsUnderWay (b : batch.Batch) : Type 0 where
   pub all : length b.copies.items + (1 + length b.left.items) ≡ length b.uids.items
   pub room : length b.uids.items ≤ vec_capacity b.copies

@@ -29,7 +29,8 @@ LeadsOn tag now next x y events bytes = (more : List Answer) (turn : Turn) → p
     → (whole : List Answer) × (played tag now x whole ≡ Some (onward events bytes turn))
 
 -- an exchange has come so far that y is what is left of x
-pub record Reaches {S : Type 0} (step : S → Call → Answer → S → Type 0) (tag : List ℕ) (now next : Standing) (x y : Exchange) (old new : S) (before after : Response) : Type 0 where
+pub record Reaches {S : Type 0} (step : S → Call → Answer → S → Type 0) (tag : List ℕ) (now next : Standing) (x y : Exchange) (old new : S)
+    (before after : Response) : Type 0 where
   pub events : List Event
   pub bytes : List ℕ
   pub leads : LeadsOn tag now next x y events bytes
@@ -37,7 +38,8 @@ pub record Reaches {S : Type 0} (step : S → Call → Answer → S → Type 0) 
   pub wrote : Adds bytes before after
 
 -- an exchange was stopped by a fault, of which nothing was written yet
-pub record Stops {S : Type 0} (step : S → Call → Answer → S → Type 0) (tag : List ℕ) (now next : Standing) (x : Exchange) (fault : MailFault) (old new : S) (before after : Response) : Type 0 where
+pub record Stops {S : Type 0} (step : S → Call → Answer → S → Type 0) (tag : List ℕ) (now next : Standing) (x : Exchange) (fault : MailFault)
+    (old new : S) (before after : Response) : Type 0 where
   pub events : List Event
   pub bytes : List ℕ
   pub leads : (whole : List Answer) × (played tag now x whole ≡ Some (onward events bytes (refused tag next fault)))
@@ -45,12 +47,14 @@ pub record Stops {S : Type 0} (step : S → Call → Answer → S → Type 0) (t
   pub wrote : Adds bytes before after
 
 -- Part of an exchange was done, with this result: y is left, or a fault stopped it.
-abbrev pub Does : {S V : Type 0} → (S → Call → Answer → S → Type 0) → Exchange → (V → Exchange) → S → S → Response → Response → Result V MailFault → Type 0
+abbrev pub Does : {S V : Type 0} → (S → Call → Answer → S → Type 0) → Exchange → (V → Exchange) → S → S → Response → Response → Result V MailFault
+    → Type 0
 Does step x y old new before after (Ok v) = (tag : List ℕ) (now : Standing) → Reaches step tag now now x (y v) old new before after
 Does step x y old new before after (Err fault) = (tag : List ℕ) (now : Standing) → Stops step tag now now x fault old new before after
 
 -- The same where the selected mailbox may change: it was `from` before, and is `to` after the part that was done.
-abbrev pub Moves : {S V : Type 0} → (S → Call → Answer → S → Type 0) → Option Selected → Option Selected → Exchange → (V → Exchange) → S → S → Response → Response → Result V MailFault → Type 0
+abbrev pub Moves : {S V : Type 0} → (S → Call → Answer → S → Type 0) → Option Selected → Option Selected → Exchange → (V → Exchange) → S → S
+    → Response → Response → Result V MailFault → Type 0
 Moves step from to x y old new before after (Ok v) =
     (tag : List ℕ) (now : Standing) → now.selected ≡ from → Reaches step tag now (record now { selected = to }) x (y v) old new before after
 Moves step from to x y old new before after (Err fault) =
@@ -72,7 +76,8 @@ after_result after (Ok v) = after
 after_result after (Err fault) = refusal_after fault
 
 -- an exchange was played over the store to its end
-pub record Plays {S : Type 0} (step : S → Call → Answer → S → Type 0) (tag : List ℕ) (now next : Standing) (x : Exchange) (old new : S) (before after : List ℕ) (how : After) : Type 0 where
+pub record Plays {S : Type 0} (step : S → Call → Answer → S → Type 0) (tag : List ℕ) (now next : Standing) (x : Exchange) (old new : S)
+    (before after : List ℕ) (how : After) : Type 0 where
   pub answers : List Answer
   pub events : List Event
   pub bytes : List ℕ

@@ -25,4 +25,5 @@ TookFirst before said after = (sent : ℕ) × (sent < length said) × Appends be
 
 -- The buffer is in its place, and nothing was said yet: its sink, which hasn't failed, has taken so much.
 abbrev pub IsFresh : Option (List ℕ) → Outgoing → Type 0
-IsFresh taken out = (b : Buffer) × (out.buffer ≡ Some b) × (b.failed ≡ false) × (b.pending ≡ []) × (b.said ≡ []) × (b.start ≡ taken) × (b.taken ≡ taken)
+IsFresh taken out = (b : Buffer) × (out.buffer ≡ Some b) × (b.failed ≡ false) × (b.pending ≡ []) × (b.said ≡ []) × (b.start ≡ taken)
+    × (b.taken ≡ taken)

@@ -8,4 +8,5 @@ use Rattle.lane_work.specs.Answering.{WereAnswered}
 -- What a consumer has sent on each channel grew by the answers to these entries, and by nothing else.
 abbrev pub HaveAnswered : (mailboxes channels shard : ℕ) → List (Entry Job) → (before after : List (List (Entry Noted))) → Type 0
 HaveAnswered mailboxes channels shard got before after =
-    (p : ℕ) → p < channels → (told : List (Entry Noted)) × WereAnswered mailboxes shard p got told × (slice_index_or after p [] ≡ slice_index_or before p [] ++ told)
+    (p : ℕ) → p < channels → (told : List (Entry Noted)) × WereAnswered mailboxes shard p got told
+    × (slice_index_or after p [] ≡ slice_index_or before p [] ++ told)

@@ -9,8 +9,8 @@ use Rattle.shard_queue.specs.declared.lane.Entry.TheVariants.{Item}
 use Rattle.lane_work.specs.Backing.{WasSent}
 use Rattle.lane_work.specs.Dispatching.{Dispatch}
 
--- More is known of the history, and where each of the entries that had been put on a lane was sent, so was each that has been put now. What was put stays; and each copy that
--- was sent since was put there, or withdrawn.
+-- More is known of the history, and where each of the entries that had been put on a lane was sent, so was each that has been put now. What was put
+-- stays; and each copy that was sent since was put there, or withdrawn.
 pub record GoesOnWith (old new : Dispatch) (before after : List (Entry Job)) : Type 0 where
   pub number : new.number ≡ old.number
   pub goes_on : IsPrefix old.history new.history

@@ -22,7 +22,8 @@ closings_at office number = slice_index_or (map (λ c. c.items) office.closings.
 
 -- nothing is put, and nothing is changed but which permits are over
 abbrev pub KeepsDesk : {B : Type 0} → Desk B → Desk B → Type 0
-KeepsDesk old new = (new.number ≡ old.number) × (new.receiver ≡ old.receiver) × (new.ends ≡ old.ends) × (map put_by new.permits.items ≡ map put_by old.permits.items)
+KeepsDesk old new = (new.number ≡ old.number) × (new.receiver ≡ old.receiver) × (new.ends ≡ old.ends)
+    × (map put_by new.permits.items ≡ map put_by old.permits.items)
     × (new.dispatch ≡ old.dispatch)
 
 -- the shard is closed before an earlier connection

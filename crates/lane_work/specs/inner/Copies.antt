@@ -44,15 +44,19 @@ WereHeard heard (copy ∷ copies) (None ∷ slots) (Some verdict ∷ filled) = I
 -- What a worker has put on each lane grew by these copies, those for the lane's mailboxes that are under way.
 abbrev pub HavePut : Directory → ℕ → List Job → List (Option Verdict) → (before after : List (List (Entry Job))) → Type 0
 HavePut directory seat copies slots before after =
-    (lane : ℕ) → lane < length before → slice_index_or after lane [] ≡ slice_index_or before lane [] ++ map (λ job. Item seat job) (under_way directory lane copies slots)
+    (lane : ℕ) → lane < length before → slice_index_or after lane [] ≡ slice_index_or before lane []
+    ++ map (λ job. Item seat job) (under_way directory lane copies slots)
 
 -- ---- a copy alone
 
 -- A copy was put on the lane of its mailbox's shard, and the verdict on it was heard; or it was refused at once, and nothing was put.
-pub record WasJudged (directory : Directory) (rooms : List Room) (seat : ℕ) (copy : Job) (verdict : Verdict) (heard : List (Entry Noted)) (before after : List (List (Entry Job))) : Type 0 where
+pub record WasJudged (directory : Directory) (rooms : List Room) (seat : ℕ) (copy : Job) (verdict : Verdict) (heard : List (Entry Noted))
+    (before after : List (List (Entry Job))) : Type 0 where
   pub at_once : Option Verdict
   pub within : shard_of directory copy.mailbox < length before
   pub lanes : length after ≡ length before
-  pub put : MatchOption at_once (after ≡ slice_set before (shard_of directory copy.mailbox) (slice_index_or before (shard_of directory copy.mailbox) [] ++ Item seat copy ∷ []))
-      (λ v. (after ≡ before) × IsAtOnce (FilledAlone (room_at rooms (shard_of directory copy.mailbox)) seat (slice_index_or before (shard_of directory copy.mailbox) [])) v)
+  pub put : MatchOption at_once (after ≡ slice_set before (shard_of directory copy.mailbox)
+      (slice_index_or before (shard_of directory copy.mailbox) [] ++ Item seat copy ∷ []))
+      (λ v. (after ≡ before) × IsAtOnce (FilledAlone (room_at rooms (shard_of directory copy.mailbox)) seat
+      (slice_index_or before (shard_of directory copy.mailbox) [])) v)
   pub told : MatchOption at_once (IsHeard heard (note_of (copy, verdict))) (λ v. verdict ≡ v)

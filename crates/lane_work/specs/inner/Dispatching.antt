@@ -7,7 +7,8 @@ use Rattle.delivery_token.specs.Keys.{AtLeast, Precedes}
 -- it is the highest key of these copies, and of the seat; there is none where nothing was sent
 abbrev pub IsLast : ℕ → Option CopyKey → List (Job × ℕ) → Type 0
 IsLast number None sent = sent ≡ []
-IsLast number (Some last) sent = (last.seat ≡ number) × ((one : Job × ℕ) × Contains sent one × (one.0.key ≡ last)) × All (λ (one : Job × ℕ). AtLeast one.0.key last) sent
+IsLast number (Some last) sent = (last.seat ≡ number) × ((one : Job × ℕ) × Contains sent one × (one.0.key ≡ last))
+    × All (λ (one : Job × ℕ). AtLeast one.0.key last) sent
 
 -- the key is the seat's, and behind this one
 pub record IsBehind (number : ℕ) (last : Option CopyKey) (key : CopyKey) : Type 0 where

@@ -17,8 +17,11 @@ use Rattle.lane_work.specs.Speaking.{Stands}
 use Rattle.lane_work.specs.declared.piece.Next.{Next}
 use Rattle.lane_work.specs.declared.piece.Next.TheVariants as nexts
 
--- Of this piece, behind the bytes that came before it, the connection has taken the front: all of it, where the next bytes may be read and the dialogue hasn't ended.
-pub record TookPiece (directory : Directory) (rooms : List Room) (seat : ℕ) (done : List Judged) (bytes piece : List ℕ) (next : Next) (m : LmtpMachine) (out : List ℕ) (keeps : List (Job × Verdict) → Type 0) (heard : List (Entry Noted)) (sent : List (List (Entry Job))) : Type 0 where
+-- Of this piece, behind the bytes that came before it, the connection has taken the front: all of it, where the next bytes may be read and the
+-- dialogue hasn't ended.
+pub record TookPiece (directory : Directory) (rooms : List Room) (seat : ℕ) (done : List Judged) (bytes piece : List ℕ) (next : Next)
+    (m : LmtpMachine) (out : List ℕ) (keeps : List (Job × Verdict) → Type 0) (heard : List (Entry Noted))
+    (sent : List (List (Entry Job))) : Type 0 where
   pub taken : List ℕ
   pub left : List ℕ
   pub over : Bool
@@ -27,7 +30,8 @@ pub record TookPiece (directory : Directory) (rooms : List Room) (seat : ℕ) (d
   pub stands : Stands directory directory rooms seat done (bytes ++ taken) over m out keeps heard sent
 
 -- Memory was refused when the front of the piece had been taken; these are the replies to that, and what it submitted stands in the books.
-pub record SaidByThen (setting : Setting) (host : List ℕ) (directory : Directory) (rooms : List Room) (seat : ℕ) (done : List Judged) (bytes piece out : List ℕ) (keeps : List (Job × Verdict) → Type 0) (heard : List (Entry Noted)) (sent : List (List (Entry Job))) : Type 0 where
+pub record SaidByThen (setting : Setting) (host : List ℕ) (directory : Directory) (rooms : List Room) (seat : ℕ) (done : List Judged)
+    (bytes piece out : List ℕ) (keeps : List (Job × Verdict) → Type 0) (heard : List (Entry Noted)) (sent : List (List (Entry Job))) : Type 0 where
   pub taken : List ℕ
   pub left : List ℕ
   pub said : List Reply

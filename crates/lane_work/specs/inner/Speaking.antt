@@ -13,7 +13,8 @@ use Rattle.lane_work.specs.Account.{AreBooks}
 use Rattle.lane_work.specs.Copies.{Room}
 
 -- The connection is over: all that its peer sent was taken, or the dialogue ended before.
-pub record Spoke (own directory : Directory) (rooms : List Room) (seat : ℕ) (done : List Judged) (bytes : List ℕ) (setting : Setting) (host out : List ℕ) (keeps : List (Job × Verdict) → Type 0) (heard : List (Entry Noted)) (sent : List (List (Entry Job))) : Type 0 where
+pub record Spoke (own directory : Directory) (rooms : List Room) (seat : ℕ) (done : List Judged) (bytes : List ℕ) (setting : Setting)
+    (host out : List ℕ) (keeps : List (Job × Verdict) → Type 0) (heard : List (Entry Noted)) (sent : List (List (Entry Job))) : Type 0 where
   pub said : List Reply
   pub judged : List Judged
   pub talk : WholeTalk setting own bytes said judged

@@ -25,9 +25,11 @@ uncut_front xs ys h (front, back, e) = h (front, back ++ ys, ap (λ t. t ++ ys) 
 -- one byte more is within the line, unless it is the LF of a CRLF
 pub uncut_push : (rest : List ℕ) (byte : ℕ) → IsUncut rest → (byte ≡ 10 → EndsInCr rest → ⊥) → IsUncut (rest ++ byte ∷ [])
 uncut_push rest byte h not_end (front, back, e) = elim (last_of back) [
-  | inl n ↦ (let p : rest ++ byte ∷ [] ≡ (front ++ 13 ∷ []) ++ 10 ∷ [] = e ∙ ap (λ t. front ++ 13 ∷ 10 ∷ t) n ∙ sym (append_assoc front (13 ∷ []) (10 ∷ [])) in
+  | inl n ↦ (let p : rest ++ byte ∷ [] ≡ (front ++ 13 ∷ []) ++ 10 ∷ [] = e ∙ ap (λ t. front ++ 13 ∷ 10 ∷ t) n
+      ∙ sym (append_assoc front (13 ∷ []) (10 ∷ [])) in
       let s = same_from_push rest (front ++ 13 ∷ []) byte 10 p in not_end s.1 (front, s.0))
-  | inr w ↦ (let p : rest ++ byte ∷ [] ≡ (front ++ 13 ∷ 10 ∷ w.0) ++ w.1 ∷ [] = e ∙ ap (λ t. front ++ 13 ∷ 10 ∷ t) w.2 ∙ sym (append_assoc front (13 ∷ 10 ∷ w.0) (w.1 ∷ [])) in
+  | inr w ↦ (let p : rest ++ byte ∷ [] ≡ (front ++ 13 ∷ 10 ∷ w.0) ++ w.1 ∷ [] = e ∙ ap (λ t. front ++ 13 ∷ 10 ∷ t) w.2
+      ∙ sym (append_assoc front (13 ∷ 10 ∷ w.0) (w.1 ∷ [])) in
       let s = same_from_push rest (front ++ 13 ∷ 10 ∷ w.0) byte w.1 p in h (front, w.0, s.0))
 ]
 
@@ -119,16 +121,19 @@ put_line x l ls rest xs h true e =
     let r : l ≡ 10 ∷ drop 1 l = begins l t.1 in
     record {
       whole = ap (λ n. n ∷ xs) (eqb-true x 13 t.0) ∙ ap (λ t. 13 ∷ t) (h.whole ∙ ap (λ u. (u ++ crlf) ++ joined ls ++ rest) r);
-      each = All-cons IsUncut [] (drop 1 l ∷ ls) uncut_nil (All-cons IsUncut (drop 1 l) ls (uncut_tail 10 (drop 1 l) (let P : List ℕ → Type 0 = IsUncut in subst P r (All-head IsUncut l ls h.each))) (All-tail IsUncut l ls h.each));
+      each = All-cons IsUncut [] (drop 1 l ∷ ls) uncut_nil (All-cons IsUncut (drop 1 l) ls
+          (uncut_tail 10 (drop 1 l) (let P : List ℕ → Type 0 = IsUncut in subst P r (All-head IsUncut l ls h.each))) (All-tail IsUncut l ls h.each));
       open_end = h.open_end;
     }
 put_line x l ls rest xs h false e = record {
   whole = ap (λ t. x ∷ t) h.whole;
-  each = All-cons IsUncut (x ∷ l) ls (uncut_cons x l (All-head IsUncut l ls h.each) (λ a b. and_false (x == 13) (begins_with_lf l) e (eq-eqb x 13 a) b)) (All-tail IsUncut l ls h.each);
+  each = All-cons IsUncut (x ∷ l) ls (uncut_cons x l (All-head IsUncut l ls h.each)
+      (λ a b. and_false (x == 13) (begins_with_lf l) e (eq-eqb x 13 a) b)) (All-tail IsUncut l ls h.each);
   open_end = h.open_end;
 }
 
-put_cut : (x : ℕ) (lines : List (List ℕ)) (rest xs : List ℕ) → IsCut xs lines rest → IsCut (x ∷ xs) (put_first x lines rest).lines (put_first x lines rest).rest
+put_cut : (x : ℕ) (lines : List (List ℕ)) (rest xs : List ℕ) → IsCut xs lines rest
+    → IsCut (x ∷ xs) (put_first x lines rest).lines (put_first x lines rest).rest
 put_cut x [] rest xs h = put_rest x rest xs h _ refl
 put_cut x (l ∷ ls) rest xs h = put_line x l ls rest xs h _ refl
 
@@ -173,7 +178,8 @@ cut_same stream (l ∷ ls) (m ∷ ms) r s h k =
     first l ls r = append_assoc (l ++ crlf) (joined ls) r ∙ append_assoc l crlf (joined ls ++ r)
 
 -- so these are the stream's
-pub lines_are : (stream : List ℕ) (lines : List (List ℕ)) (rest : List ℕ) → IsCut stream lines rest → (wire_lines stream ≡ lines) × (wire_rest stream ≡ rest)
+pub lines_are : (stream : List ℕ) (lines : List (List ℕ)) (rest : List ℕ) → IsCut stream lines rest → (wire_lines stream ≡ lines)
+    × (wire_rest stream ≡ rest)
 lines_are stream lines rest h = cut_same stream _ _ _ _ (reading_cut stream) h
 
 -- a byte more that ends no line

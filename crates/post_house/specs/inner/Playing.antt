@@ -41,7 +41,8 @@ abbrev pub WasPlayed : Config → List ScriptLine → (failed : Bool) → Result
 WasPlayed config lines failed (Ok done) old new = (h : House) × Writes (setup_of config) lines h old new
 WasPlayed config lines failed (Err (failures.Config fault)) old new = new ≡ old
 WasPlayed config lines failed (Err failures.Device) old new = StoppedByDevice config lines failed old new
-WasPlayed config lines failed (Err failures.NoMemory) old new = (new ≡ old) ⊎ ((h : House) × WritesBeginning (setup_of config) lines (IsLeftWanting (setup_of config) h) old new)
+WasPlayed config lines failed (Err failures.NoMemory) old new = (new ≡ old)
+    ⊎ ((h : House) × WritesBeginning (setup_of config) lines (IsLeftWanting (setup_of config) h) old new)
 WasPlayed config lines failed (Err failures.Torn) old new = ⊥
 
 -- What tells of these lines with these settings was written in this form, by how it went.
@@ -56,13 +57,15 @@ WasTold form config lines failed (Err failures.NoMemory) old new =
 WasTold form config lines failed (Err failures.Torn) old new = ⊥
 
 -- These bytes were played as a script with these settings, and so it went; what was written delivers exactly once.
-pub record RanScript (config : Config) (bytes : List ℕ) (failed : Bool) (result : Result (Unit {0}) Failure) (old new : Option (List ℕ)) : Type 0 where
+pub record RanScript (config : Config) (bytes : List ℕ) (failed : Bool) (result : Result (Unit {0}) Failure)
+    (old new : Option (List ℕ)) : Type 0 where
   pub wrong : (fault : ConfigFault) → result ≡ Err (failures.Config fault) → config_fault config ≡ Some fault
   pub played : WasPlayed config (script_of bytes) failed result old new
   pub once : WroteOnce (setup_of config) (script_of bytes) old new
 
 -- They were played so, and told in JSON; what was told delivers exactly once, as each of its records says.
-pub record ToldScript (config : Config) (bytes : List ℕ) (failed : Bool) (result : Result (Unit {0}) Failure) (old new : Option (List ℕ)) : Type 0 where
+pub record ToldScript (config : Config) (bytes : List ℕ) (failed : Bool) (result : Result (Unit {0}) Failure)
+    (old new : Option (List ℕ)) : Type 0 where
   pub wrong : (fault : ConfigFault) → result ≡ Err (failures.Config fault) → config_fault config ≡ Some fault
   pub told : WasTold forms.Json config (lines_of bytes) failed result old new
 
@@ -71,23 +74,28 @@ abbrev pub RanIn : Form → Config → (bytes : List ℕ) → (failed : Bool) �
 RanIn forms.Text config bytes failed result old new = RanScript config bytes failed result old new
 RanIn forms.Json config bytes failed result old new = ToldScript config bytes failed result old new
 
--- A server with these settings, and with a page where a port is given for it, ended so; a beginning of its lines was written, and all of them where all went well.
-pub record HasServed (config : Config) (given : Option ℕ) (uidvalidity : Uidvalidity) (result : Result (Unit {0}) ServeFault) (old new : Option (List ℕ)) : Type 0 where
+-- A server with these settings, and with a page where a port is given for it, ended so; a beginning of its lines was written, and all of them where
+-- all went well.
+pub record HasServed (config : Config) (given : Option ℕ) (uidvalidity : Uidvalidity) (result : Result (Unit {0}) ServeFault)
+    (old new : Option (List ℕ)) : Type 0 where
   pub wrong : (fault : ConfigFault) → result ≡ Err (serve_faults.Config fault) → server_fault config ≡ Some fault
   pub right : OnOk result (server_fault config ≡ None)
   -- wrong settings are told, or want of memory is, and nothing was written
-  pub refused : (fault : ConfigFault) → server_fault config ≡ Some fault → ((result ≡ Err (serve_faults.Config fault)) ⊎ (result ≡ Err serve_faults.NoMemory)) × (new ≡ old)
+  pub refused : (fault : ConfigFault) → server_fault config ≡ Some fault
+      → ((result ≡ Err (serve_faults.Config fault)) ⊎ (result ≡ Err serve_faults.NoMemory)) × (new ≡ old)
   pub told : HasBegun config given uidvalidity old new
   pub all : OnOk result (HasAnnounced config given uidvalidity old new)
 
 -- This came of what was asked for: of a script, from an input of which this remained, if that is known, or of a server.
 abbrev pub HasDone : Asked → Done → (remaining : Option (List ℕ)) → (failed : Bool) → (old new : Option (List ℕ)) → Type 0
-HasDone (Script config form) (Played result) remaining failed old new = (bytes : List ℕ) → remaining ≡ Some bytes → RanIn form config bytes failed result old new
+HasDone (Script config form) (Played result) remaining failed old new = (bytes : List ℕ) → remaining ≡ Some bytes
+    → RanIn form config bytes failed result old new
 HasDone (Serve config uidvalidity report) (Served result) remaining failed old new = HasServed config report.status uidvalidity result old new
 HasDone asked done remaining failed old new = ⊥
 
 -- Clap takes the words, they ask for this, with settings that are in their ranges, it was done, and the status tells what came of it.
-pub record HasDoneAsked (words : List Text) (asked : Asked) (done : Done) (remaining : Option (List ℕ)) (failed : Bool) (status : ℕ) (old new : Option (List ℕ)) : Type 0 where
+pub record HasDoneAsked (words : List Text) (asked : Asked) (done : Done) (remaining : Option (List ℕ)) (failed : Bool) (status : ℕ)
+    (old new : Option (List ℕ)) : Type 0 where
   pub taken : faults_at words ≡ []
   pub asks : AsksFor words asked
   pub range : IsAskedInRange asked
@@ -95,7 +103,8 @@ pub record HasDoneAsked (words : List Text) (asked : Asked) (done : Done) (remai
   pub status_is : status ≡ status_of_done done
 
 -- What the words ask for was done; or they ask for nothing that is done, the input wasn't touched (`unread`), and that was told.
-abbrev pub HasRun : (words : List Text) → Outcome → (unread : Type 0) → (remaining : Option (List ℕ)) → (untouched : Type 0) → (failed : Bool) → (status : ℕ)
+abbrev pub HasRun : (words : List Text) → Outcome → (unread : Type 0) → (remaining : Option (List ℕ)) → (untouched : Type 0) → (failed : Bool)
+    → (status : ℕ)
     → (old new : Option (List ℕ)) → Type 0
 HasRun words (Did asked done) unread remaining untouched failed status old new = HasDoneAsked words asked done remaining failed status old new
 HasRun words (Refused why) unread remaining untouched failed status old new = unread × HasRefused words why untouched failed status old new

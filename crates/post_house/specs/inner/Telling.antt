@@ -22,6 +22,7 @@ pub data HasTold (k : ErrorKind) (untouched : Type 0) (failed : Bool) (status : 
   shown : IsRequest k → Tells failed status old new → HasTold k untouched failed status old new
 
 -- These words, the first of which is the program's name, ask for nothing that is done, for this reason, and that was told.
-pub record HasRefused (words : List Text) (why : ErrorKind) (untouched : Type 0) (failed : Bool) (status : ℕ) (old new : Option (List ℕ)) : Type 0 where
+pub record HasRefused (words : List Text) (why : ErrorKind) (untouched : Type 0) (failed : Bool) (status : ℕ)
+    (old new : Option (List ℕ)) : Type 0 where
   pub fails : FailsWith (faults_at words) why
   pub told : HasTold why untouched failed status old new

@@ -52,10 +52,12 @@ pub record LineTold (form : Form) (k : Setup) (number : ℕ) (held : List Bool) 
 -- memory was wanting as the line was played, or, in JSON alone, behind that
 pub data TellWanting (form : Form) (k : Setup) (number : ℕ) (held : List Bool) (line : ScriptLine) (s : Scene) (h : House) : Type 0 where
   playing : PlayWanting k number held line s h → TellWanting form k number held line s h
-  telling : form ≡ Json → (after : Scene) (printed : List ℕ) → LinePlays k number held line s after printed → StandsFor k h after → TellWanting form k number held line s h
+  telling : form ≡ Json → (after : Scene) (printed : List ℕ) → LinePlays k number held line s after printed → StandsFor k h after
+      → TellWanting form k number held line s h
 
 -- A turn: the first line of the input was read and played, and what tells of it was written.
-pub record LineWritten (form : Form) (k : Setup) (number : ℕ) (held : List Bool) (s : Scene) (input : List ℕ) (h : House) (holds : List Bool) (left old new : Option (List ℕ)) (sent : ℕ) : Type 0 where
+pub record LineWritten (form : Form) (k : Setup) (number : ℕ) (held : List Bool) (s : Scene) (input : List ℕ) (h : House) (holds : List Bool)
+    (left old new : Option (List ℕ)) (sent : ℕ) : Type 0 where
   pub line : List ℕ
   pub rest : List ℕ
   pub remaining : left ≡ Some rest
@@ -69,7 +71,8 @@ pub record LineWritten (form : Form) (k : Setup) (number : ℕ) (held : List Boo
   pub count : sent ≡ length (rendered form number line printed)
 
 -- of what tells of it only the first bytes were written
-pub record LineCut (form : Form) (k : Setup) (number : ℕ) (held : List Bool) (s : Scene) (input : List ℕ) (h : House) (old new : Option (List ℕ)) (sent : ℕ) : Type 0 where
+pub record LineCut (form : Form) (k : Setup) (number : ℕ) (held : List Bool) (s : Scene) (input : List ℕ) (h : House) (old new : Option (List ℕ))
+    (sent : ℕ) : Type 0 where
   pub line : List ℕ
   pub others : List (List ℕ)
   pub first : lines_of input ≡ line ∷ others
@@ -92,12 +95,14 @@ pub record IsUnread (k : Setup) (s : Scene) (h : House) (old new : Option (List 
   pub silent : new ≡ old
 
 -- memory was wanting, and nothing was written
-pub record IsUnwritten (form : Form) (k : Setup) (number : ℕ) (held : List Bool) (s : Scene) (input : List ℕ) (h : House) (old new : Option (List ℕ)) : Type 0 where
+pub record IsUnwritten (form : Form) (k : Setup) (number : ℕ) (held : List Bool) (s : Scene) (input : List ℕ) (h : House)
+    (old new : Option (List ℕ)) : Type 0 where
   pub left : IsLeftUntold form k h number held (asked_by (lines_of input)) s
   pub silent : new ≡ old
 
 -- what a turn says by its answer
-abbrev pub TurnTells : Form → Setup → ℕ → (held : List Bool) → Scene → List ℕ → House → (holds : List Bool) → (left old new : Option (List ℕ)) → Result (Option ℕ) TurnFault → Type 0
+abbrev pub TurnTells : Form → Setup → ℕ → (held : List Bool) → Scene → List ℕ → House → (holds : List Bool) → (left old new : Option (List ℕ))
+    → Result (Option ℕ) TurnFault → Type 0
 TurnTells form k number held s input h holds left old new (Ok None) = IsOver k s input h old new
 TurnTells form k number held s input h holds left old new (Ok (Some sent)) = LineWritten form k number held s input h holds left old new sent
 TurnTells form k number held s input h holds left old new (Err (faults.Write sent)) = LineCut form k number held s input h old new sent
@@ -105,7 +110,8 @@ TurnTells form k number held s input h holds left old new (Err faults.Read) = Is
 TurnTells form k number held s input h holds left old new (Err faults.NoMemory) = IsUnwritten form k number held s input h old new
 
 -- The run so far: these lines were played, and what tells of them was written.
-pub record HasRun (form : Form) (k : Setup) (input : List ℕ) (count : ℕ) (h : House) (holds : List Bool) (left old new : Option (List ℕ)) (sent : ℕ) (start : Scene) : Type 0 where
+pub record HasRun (form : Form) (k : Setup) (input : List ℕ) (count : ℕ) (h : House) (holds : List Bool) (left old new : Option (List ℕ)) (sent : ℕ)
+    (start : Scene) : Type 0 where
   pub lines : List (List ℕ)
   pub rest : List ℕ
   pub remaining : left ≡ Some rest

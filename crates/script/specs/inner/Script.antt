@@ -13,7 +13,8 @@ use Rattle.script.specs.Script.{ScriptLine, Bad, brought, begins}
 -- what was cut off a line is its first word, said of a word with no space: whether the line begins with it and a space, and what stands behind that
 abbrev pub IsCut : List ℕ → (word : List ℕ) → Option (Bor (List ℕ) × Bor (List ℕ)) → Type 0
 IsCut line word None = begins (word ++ 32 ∷ []) line ≡ false
-IsCut line word (Some (first, rest)) = (bytes_eq first.now word ≡ begins (word ++ 32 ∷ []) line) × (begins (word ++ 32 ∷ []) line ≡ true → rest.now ≡ drop (length word + 1) line)
+IsCut line word (Some (first, rest)) = (bytes_eq first.now word ≡ begins (word ++ 32 ∷ []) line)
+    × (begins (word ++ 32 ∷ []) line ≡ true → rest.now ≡ drop (length word + 1) line)
 
 -- what was read behind a number, as a line of the script
 abbrev pub as_line : (brings : List ℕ → ScriptLine) → (gone : ScriptLine) → said.Said → ScriptLine

@@ -6,12 +6,14 @@ use Rattle.imap_session.specs.Folders.{admission_of, folders_of}
 use Rattle.house_floor.specs.Left.{most_of}
 use Rattle.imap_stream.specs.Visits.{IsGreeted, Visit}
 
--- The client of a visit in this house was greeted as the user of this number, and nothing else was done: it has that user's folders, over all mailboxes of the house, is in
--- none of them, and may append messages as large as one that a worker takes. In the compatible profile it is to log in as that user. `before` is what its output had taken, where that tells it.
+-- The client of a visit in this house was greeted as the user of this number, and nothing else was done: it has that user's folders, over all
+-- mailboxes of the house, is in none of them, and may append messages as large as one that a worker takes. In the compatible profile it is to log in
+-- as that user. `before` is what its output had taken, where that tells it.
 pub record IsVisitOf {B : Type 0} (floor : Floor B) (compatible : Bool) (user : ℕ) (before : Option (List ℕ)) (visit : Visit) : Type 0 where
   pub name : List ℕ
   pub named : user_numbered user floor.office.directory.homes ≡ Some name
-  pub greeted : IsGreeted (admission_of compatible (Some (most_of floor.office.max_message)) name) (folders_of floor.office.directory name) (record { mailboxes = length floor.depot.mailboxes.items; entered = None; history = floor.depot.front }) before visit
+  pub greeted : IsGreeted (admission_of compatible (Some (most_of floor.office.max_message)) name) (folders_of floor.office.directory name)
+      (record { mailboxes = length floor.depot.mailboxes.items; entered = None; history = floor.depot.front }) before visit
 
 -- what a client is told that is one too many
 abbrev pub turned_away : List ℕ

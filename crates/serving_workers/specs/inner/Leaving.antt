@@ -17,7 +17,8 @@ is_whole NotBegun = false
 is_whole NoMemory = false
 is_whole Torn = false
 
--- What producer n leaves once it has heard the end of each shard: the same; and where it heard these ends alone, the history has what it put and heard.
+-- What producer n leaves once it has heard the end of each shard: the same; and where it heard these ends alone, the history has what it put and
+-- heard.
 pub record HasHeard {B : Type 0} (floor : Floor B) (n : ℕ) (w : Worked B) : Type 0 where
   pub ended : AreEnded floor.office.lanes.items n w.ended.items
   pub receiver : (channel : ReplyChannel Noted) → slice_get floor.depot.channels.items n ≡ Some channel → IsReceiver channel w.receiver

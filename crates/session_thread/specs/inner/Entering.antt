@@ -9,10 +9,12 @@ use Rattle.mailbox.specs.declared.clients.MailFault.TheVariants.{Stranger}
 use Rattle.mailbox.specs.declared.clients.Opening.{Opening}
 use Rattle.workers_sync.specs.Holds.{Enters, EntersNot}
 
--- A client was let into the mailbox of this number, or not: the one that was found has the number, and did so; or it has another, and nothing was done.
+-- A client was let into the mailbox of this number, or not: the one that was found has the number, and did so; or it has another, and nothing was
+-- done.
 abbrev pub DoesEnterAt : ℕ → Mailbox → Result (CursorHandle × Opening) MailFault → Mailbox → Type 0
 DoesEnterAt number found (Ok entered) left = (found.number ≡ number) × Enters found entered.1 left entered.0
-DoesEnterAt number found (Err fault) left = (left ≡ found) × ((found.number ≡ number) × IsKept found × EntersNot fault found ⊎ (found.number ≢ number) × (fault ≡ Stranger))
+DoesEnterAt number found (Err fault) left = (left ≡ found) × ((found.number ≡ number) × IsKept found × EntersNot fault found ⊎ (found.number ≢ number)
+    × (fault ≡ Stranger))
 
 -- What was seen of the history behind a hold that was answered so: a call that is refused leaves it as it was.
 abbrev pub seen_behind : {A F : Type 0} → Result A F → List Event → List Event → List Event

@@ -1,6 +1,6 @@
 -- What each token owns, and what the invariant of a history keeps. No contract speaks of it.
--- For each owner there are two halves of the right to say which entries concern it. The invariant keeps one and the owner the other, so both say the same,
--- and nobody alone can change it.
+-- For each owner there are two halves of the right to say which entries concern it. The invariant keeps one and the owner the other, so both say the
+-- same, and nobody alone can change it.
 use Rattle.core.specs.Prelude.{ℕ, zero, suc, Bool, List, [], ◌∷◌, map}
 use base.Fraction.{full_share}
 use base.Share.{left, right}
