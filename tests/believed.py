@@ -78,17 +78,18 @@ IMPORT = re.compile(r"\s*(?:ghost |pub )?use (Rattle[\w.]*)(?:\.\{(.*)\})?(?: as
 
 
 def at_the_margin(lines):
-    """The lines of a file, those within a module that has parameters at the margin too, each with whether it is one of those."""
-    inside = False
+    """The lines of a file, those within modules that have parameters at the margin too, each with whether it is one of those."""
+    depth, is_head = 0, False
     for line in lines:
-        if re.match(r"module _ .* where$", line):
-            inside = True
-            yield "", inside
-        elif inside and line.startswith("  "):
-            yield line[2:], inside
+        while depth and line and not is_head and not line.startswith("  " * depth):
+            depth -= 1
+        line = line[2 * depth :]
+        if is_head or re.match(r"module _ ", line):
+            # A head is no line of a definition, as an import isn't. What is said above it counts with the first definition behind it.
+            is_head = not line.endswith(" where")
+            depth += not is_head
         else:
-            inside = inside and not line
-            yield line, inside
+            yield line, depth > 0
 
 
 class Source:

@@ -60,12 +60,8 @@ module _ (peers : Peers) where
       pub own : n ≡ place + 1
       pub seat : seat_of number ≡ session_seat k place
       pub puts : SessionPuts peers k false s place t (text_of k (Lines n lines))
-      pub talks : SessionTalks peers k false place (puts.moved.heard (session_seat k place)) puts.moved (record {
-        session = puts.visitor.session;
-        serial = puts.visitor.serial;
-        gone = puts.visitor.gone;
-        to_put = puts.others;
-      }) puts.later puts.left (text_of k (Lines n lines))
+      pub talks : SessionTalks peers k false place (puts.moved.heard (session_seat k place)) puts.moved (record puts.visitor { to_put = puts.others })
+          puts.later puts.left (text_of k (Lines n lines))
       pub cut : IsCut (puts.visitor.session.unsaid ++ talks.speaks.said) lines []
 
     pub record HearsLines (number n : ℕ) (lines : List (List ℕ)) (t : Scene peers) : Type 0 where

@@ -51,11 +51,11 @@ module _ (speech : Speech) where
 module _ (guest : Guest) where
   -- its session stands so
   abbrev pub with_session : Visitor guest → SeatedVisitor guest → SeatedVisitor guest
-  with_session session v = record { session = session; serial = v.serial; gone = v.gone; to_put = v.to_put }
+  with_session session v = record v { session = session }
 
   -- so much of what it said is still to be printed
   abbrev pub still_unsaid : List ℕ → SeatedVisitor guest → SeatedVisitor guest
-  still_unsaid unsaid v = with_session (record { standing = v.session.standing; waits = v.session.waits; unsaid = unsaid }) v
+  still_unsaid unsaid v = with_session (record v.session { unsaid = unsaid }) v
 
   module _ {S : Type 0} (step : S → guest.Call → guest.Answer → S → Type 0) (whole : Bool) (seat n : ℕ) (heard : List Noted)
       (before : SeatedVisitor guest) where

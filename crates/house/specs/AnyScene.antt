@@ -92,8 +92,7 @@ module _ (peers : Peers) where
       pub moved : World
       pub step : Step k.config s.world (world.Put seat (world.shard_of k.config copy.mailbox) copy) moved
       pub left : Option (Caller peers.speech)
-      pub goes : ConnectionGoes peers.speech (terms_of k s.shut) whole seat (moved.heard seat)
-          (record { serial = caller.serial; gone = caller.gone; talk = caller.talk; to_put = others }) left printed
+      pub goes : ConnectionGoes peers.speech (terms_of k s.shut) whole seat (moved.heard seat) (record caller { to_put = others }) left printed
       pub after : t ≡ with_caller (with_world s moved) seat left
 
     -- its seat hears a verdict
@@ -128,10 +127,14 @@ module _ (peers : Peers) where
       parts : peers.guest.ended after.session.standing ≡ true → after.session.unsaid ≡ [] → LeavesMailbox k place w v → o ≡ None → Parts after w v o
       remains : (whole ≡ true → peers.guest.ended after.session.standing ≡ true → ⊥) → v ≡ w → o ≡ Some after → Parts after w v o
 
+  -- One whose client is gone says nothing: it stays for the verdict that it awaits, and is gone as soon as its seat has heard that.
+  pub data Lingers (seat : ℕ) (heard : List Noted) (v : SeatedVisitor peers.guest) (o : Option (SeatedVisitor peers.guest)) : Type 0 where
+    waits : Awaits peers.guest seat heard v → o ≡ Some v → Lingers seat heard v o
+    fades : IsSettled peers.guest seat heard v → o ≡ None → Lingers seat heard v o
+
   -- The session at this place, which was so, in this world, by what its seat has heard.
   module _ (k : Setup) (whole : Bool) (place : ℕ) (heard : List Noted) (w : World) (before : SeatedVisitor peers.guest) where
-    -- The session at a place, whose client is there, does what it can now, by the mailboxes of the world and by what its seat has heard, and this is
-    -- printed. `whole` says that memory wasn't wanting.
+    -- It, whose client is there, does what it can now, by the mailboxes of the world, and this is printed.
     pub record SessionTalks (v : World) (o : Option (SeatedVisitor peers.guest)) (printed : List ℕ) : Type 0 where
       pub after : SeatedVisitor peers.guest
       pub mid : World
@@ -139,15 +142,9 @@ module _ (peers : Peers) where
       pub all : whole ≡ true → IsWhole peers.guest after.session
       pub left : Parts k whole place after mid v o
 
-  -- One whose client is gone says nothing: it stays for the verdict that it awaits, and is gone as soon as its seat has heard that.
-  pub data Lingers (seat : ℕ) (heard : List Noted) (v : SeatedVisitor peers.guest) (o : Option (SeatedVisitor peers.guest)) : Type 0 where
-    waits : Awaits peers.guest seat heard v → o ≡ Some v → Lingers seat heard v o
-    fades : IsSettled peers.guest seat heard v → o ≡ None → Lingers seat heard v o
-
-  module _ (k : Setup) (whole : Bool) (place : ℕ) (heard : List Noted) (w : World) (before : SeatedVisitor peers.guest) where
-    -- the session at a place does what it can now, whether its client is there or not
+    -- it does what it can now, whether its client is there or not
     pub data SessionGoes (v : World) (o : Option (SeatedVisitor peers.guest)) (printed : List ℕ) : Type 0 where
-      talks : before.gone ≡ false → SessionTalks k whole place heard w before v o printed → SessionGoes v o printed
+      talks : before.gone ≡ false → SessionTalks v o printed → SessionGoes v o printed
       lingers : before.gone ≡ true → Lingers (session_seat k place) heard before o → v ≡ w → printed ≡ [] → SessionGoes v o printed
 
   module _ (k : Setup) (whole : Bool) (place : ℕ) (w : World) (before : SeatedVisitor peers.guest) where
@@ -200,21 +197,6 @@ module _ (peers : Peers) where
       pub goes : SessionIdles k whole place s.world visitor moved left printed
       pub after : t ≡ with_visitor (with_world s moved) place left
 
-  module _ (k : Setup) (s : Scene) where
-    -- A session's client is gone: what waited and what was still to be printed is dropped, and the session leaves its mailbox at once. Where it
-    -- awaits a verdict, its seat stays taken till that is heard.
-    pub record LeavePlay (place : ℕ) (t : Scene) (printed : List ℕ) : Type 0 where
-      pub visitor : SeatedVisitor peers.guest
-      pub there : s.visitor place ≡ Some visitor
-      pub was_read : visitor.gone ≡ false
-      pub moved : World
-      pub leaves : LeavesMailbox k place s.world moved
-      pub left : Option (SeatedVisitor peers.guest)
-      pub stays : Lingers (session_seat k place) (s.world.heard (session_seat k place)) (unread_session peers.guest visitor) left
-      pub after : t ≡ with_visitor (with_world s moved) place left
-      pub silent : printed ≡ []
-
-  module _ (k : Setup) (whole : Bool) (s : Scene) where
     -- the copy of the message that it submitted is put
     pub record SessionPuts (place : ℕ) (t : Scene) (printed : List ℕ) : Type 0 where
       pub visitor : SeatedVisitor peers.guest
@@ -226,8 +208,7 @@ module _ (peers : Peers) where
       pub step : Step k.config s.world (world.Put (session_seat k place) (world.shard_of k.config copy.mailbox) copy) moved
       pub later : World
       pub left : Option (SeatedVisitor peers.guest)
-      pub goes : SessionGoes k whole place (moved.heard (session_seat k place)) moved
-          (record { session = visitor.session; serial = visitor.serial; gone = visitor.gone; to_put = others }) later left printed
+      pub goes : SessionGoes k whole place (moved.heard (session_seat k place)) moved (record visitor { to_put = others }) later left printed
       pub after : t ≡ with_visitor (with_world s later) place left
 
     -- its seat hears a verdict
@@ -256,6 +237,19 @@ module _ (peers : Peers) where
   -- ---- events
 
   module _ (k : Setup) (s : Scene) where
+    -- A session's client is gone: what waited and what was still to be printed is dropped, and the session leaves its mailbox at once. Where it
+    -- awaits a verdict, its seat stays taken till that is heard.
+    pub record LeavePlay (place : ℕ) (t : Scene) (printed : List ℕ) : Type 0 where
+      pub visitor : SeatedVisitor peers.guest
+      pub there : s.visitor place ≡ Some visitor
+      pub was_read : visitor.gone ≡ false
+      pub moved : World
+      pub leaves : LeavesMailbox k place s.world moved
+      pub left : Option (SeatedVisitor peers.guest)
+      pub stays : Lingers (session_seat k place) (s.world.heard (session_seat k place)) (unread_session peers.guest visitor) left
+      pub after : t ≡ with_visitor (with_world s moved) place left
+      pub silent : printed ≡ []
+
     -- the world moves, and nobody says a word
     pub record Moves (event : world.Event) (t : Scene) (printed : List ℕ) : Type 0 where
       pub moved : World

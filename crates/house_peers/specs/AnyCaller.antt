@@ -61,7 +61,6 @@ module _ (speech : Speech) where
   abbrev pub IsAnswered : List Noted → Caller → List Verdict → Type 0
   IsAnswered heard b verdicts = AreAnswered heard b.to_put (keys_of b.talk.pending) verdicts
 
-  -- A connection at this seat, on these terms. `whole` says that memory wasn't wanting.
   module _ (k : Terms) (whole : Bool) (seat : ℕ) where
     -- It takes what waits, as far as that goes: what it says stands behind what it had still to say. `whole` says that memory wasn't wanting.
     pub record Works (b : Caller) (what : What) (after : Caller) : Type 0 where
@@ -70,31 +69,23 @@ module _ (speech : Speech) where
       pub works : WorksOff (setting_of k seat b.serial) k.directory b.talk turn what talk
       pub said : talk.unsaid ≡ b.talk.unsaid ++ wire speech k.host (speech.replies turn)
       pub all : whole ≡ true → what ≡ More → talk.waits ≡ []
-      pub is : after ≡ record { serial = b.serial; gone = b.gone; talk = talk; to_put = copies_of (speech.submissions turn) }
+      pub is : after ≡ record b { talk = talk; to_put = copies_of (speech.submissions turn) }
 
   -- something that isn't a line happens to the dialogue, before more is worked off
   abbrev pub meets : Terms → ℕ → Caller → Occasion → Caller
   meets k seat b event =
       let setting = setting_of k seat b.serial in
-      record {
-        serial = b.serial;
-        gone = b.gone;
+      record b {
         to_put = [];
-        talk = record {
+        talk = record b.talk {
           at = speech.moved setting k.directory b.talk.at event;
-          waits = b.talk.waits;
           unsaid = b.talk.unsaid ++ wire speech k.host (speech.said setting k.directory b.talk.at event);
           pending = [];
         };
       }
 
   abbrev pub more_waits : Caller → List ℕ → Caller
-  more_waits b piece = record {
-    serial = b.serial;
-    gone = b.gone;
-    to_put = b.to_put;
-    talk = record { at = b.talk.at; waits = b.talk.waits ++ piece; unsaid = b.talk.unsaid; pending = b.talk.pending };
-  }
+  more_waits b piece = record b { talk = record b.talk { waits = b.talk.waits ++ piece } }
 
   -- a new connection at a seat, which is greeted
   abbrev pub greeted : Terms → ℕ → ℕ → Caller
@@ -107,12 +98,7 @@ module _ (speech : Speech) where
 
   -- so much of what it said is still to be printed
   abbrev pub with_unsaid : List ℕ → Caller → Caller
-  with_unsaid unsaid b = record {
-    serial = b.serial;
-    gone = b.gone;
-    to_put = b.to_put;
-    talk = record { at = b.talk.at; waits = b.talk.waits; unsaid = unsaid; pending = b.talk.pending };
-  }
+  with_unsaid unsaid b = record b { talk = record b.talk { unsaid = unsaid } }
 
   module _ (k : Terms) (whole : Bool) (seat : ℕ) where
     -- It goes on as far as it can, by what its seat has heard: where verdicts are awaited it waits for the last one, and says them all; then it
@@ -135,9 +121,4 @@ module _ (speech : Speech) where
 
   -- the peer is gone: what waited and what was still to be printed is dropped
   abbrev pub unread : Caller → Caller
-  unread b = record {
-    serial = b.serial;
-    gone = true;
-    to_put = b.to_put;
-    talk = record { at = b.talk.at; waits = []; unsaid = []; pending = b.talk.pending };
-  }
+  unread b = record b { gone = true; talk = record b.talk { waits = []; unsaid = [] } }

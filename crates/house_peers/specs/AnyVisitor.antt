@@ -22,7 +22,7 @@ module _ (guest : Guest) where
   greeted coming = record { standing = guest.opened coming; waits = []; unsaid = guest.greeting coming }
 
   abbrev pub session_more_waits : Visitor → List ℕ → Visitor
-  session_more_waits v piece = record { standing = v.standing; waits = v.waits ++ piece; unsaid = v.unsaid }
+  session_more_waits v piece = record v { waits = v.waits ++ piece }
 
   -- The session; the serial of its keys; whether its client is gone, in which case nothing more comes, nothing more is said, and it only waits for
   -- its verdict; and the copy of the message that it submitted, where that is still to be put.
@@ -64,21 +64,15 @@ module _ (guest : Guest) where
   abbrev pub seated_greeted : (serial : ℕ) → guest.Coming → SeatedVisitor
   seated_greeted serial coming = record { session = greeted coming; serial = serial; gone = false; to_put = [] }
 
-  -- This session at this seat, over any store.
   module _ {S : Type 0} (step : S → guest.Call → guest.Answer → S → Type 0) (seat : ℕ) (v : SeatedVisitor) where
     -- It answers what waits over a store, as far as that goes, and says this. Where that ends with a message, the copy of it is to be put.
     pub record Works (old new : S) (after : SeatedVisitor) (said : List ℕ) : Type 0 where
       pub answers : guest.Answers step v.session.standing v.session.waits old new after.session.standing after.session.waits said
-      pub is : after ≡ record { session = after.session; serial = v.serial; gone = v.gone; to_put = copies_of seat v.serial (sent_by after) }
+      pub is : after ≡ record v { session = after.session; to_put = copies_of seat v.serial (sent_by after) }
 
   -- the verdict was answered, and the session stands so
   abbrev pub told : SeatedVisitor → guest.At → SeatedVisitor
-  told v next = record {
-    session = record { standing = next; waits = v.session.waits; unsaid = v.session.unsaid };
-    serial = v.serial;
-    gone = v.gone;
-    to_put = [];
-  }
+  told v next = record v { session = record v.session { standing = next }; to_put = [] }
 
   module _ {S : Type 0} (step : S → guest.Call → guest.Answer → S → Type 0) (whole : Bool) (seat : ℕ) (heard : List Noted) (v : SeatedVisitor) where
     -- It goes on over a store as far as it can, by what its seat has heard: where a verdict is awaited it waits for that, and answers it; then it
@@ -96,4 +90,4 @@ module _ (guest : Guest) where
 
   -- its client is gone: what waited and what was still to be printed is dropped
   abbrev pub unread : SeatedVisitor → SeatedVisitor
-  unread v = record { session = record { standing = v.session.standing; waits = []; unsaid = [] }; serial = v.serial; gone = true; to_put = v.to_put }
+  unread v = record v { session = record v.session { waits = []; unsaid = [] }; gone = true }

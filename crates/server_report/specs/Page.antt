@@ -21,24 +21,14 @@ use Rattle.server_report.specs.Reasons.{count_for, reason_words, reasons}
 -- Pieces of the document. There is an icon of nothing, so that none is asked for, and a light and a dark scheme, as the reader prefers.
 unfoldable pub piece_text : Piece → List ℕ
 piece_text piece.Document = codes "<!DOCTYPE html>\n<html lang=\"en\">\n<head>\n<meta charset=\"utf-8\">\n"
-piece_text piece.Title = codes "<meta name=\"viewport\" content=\"width=device-width,
-    initial-scale=1\">\n<link rel=\"icon\" href=\"data:,\">\n<title>post_house: what it is doing now</title>\n"
-piece_text piece.TextStyle =
-    codes
-        "<style>\n:root { color-scheme: light dark; --line: #c8c8c8; }\nbody { font: 16px/1.5 sans-serif; max-width: 60rem; margin: 2rem auto; padding: 0 1rem; color: #1b1b1b; background: #ffffff; }\n"
-piece_text piece.TableStyle =
-    codes
-        "table { border-collapse: collapse; margin: 0 0 2rem; }\ncaption { text-align: left; font-weight: bold; }\nth, td { padding: 0.2rem 1rem 0.2rem 0; border-bottom: 1px solid var(--line); text-align: right; }\n"
-piece_text piece.DarkStyle =
-    codes
-        "th:first-child { text-align: left; }\nth[scope=row] { font-weight: normal; }\n@media (prefers-color-scheme: dark) { :root { --line: #4a4a4a; } body { color: #e4e4e4; background: #161616; } }\n</style>\n"
+piece_text piece.Title = codes "<meta name=\"viewport\" content=\"width=device-width, initial-scale=1\">\n<link rel=\"icon\" href=\"data:,\">\n<title>post_house: what it is doing now</title>\n"
+piece_text piece.TextStyle = codes "<style>\n:root { color-scheme: light dark; --line: #c8c8c8; }\nbody { font: 16px/1.5 sans-serif; max-width: 60rem; margin: 2rem auto; padding: 0 1rem; color: #1b1b1b; background: #ffffff; }\n"
+piece_text piece.TableStyle = codes "table { border-collapse: collapse; margin: 0 0 2rem; }\ncaption { text-align: left; font-weight: bold; }\nth, td { padding: 0.2rem 1rem 0.2rem 0; border-bottom: 1px solid var(--line); text-align: right; }\n"
+piece_text piece.DarkStyle = codes "th:first-child { text-align: left; }\nth[scope=row] { font-weight: normal; }\n@media (prefers-color-scheme: dark) { :root { --line: #4a4a4a; } body { color: #e4e4e4; background: #161616; } }\n</style>\n"
 piece_text piece.Heading = codes "</head>\n<body>\n<h1>What post_house is doing now</h1>\n"
-piece_text piece.Mailboxes =
-    codes
-        "<table>\n<caption>Mailboxes</caption>\n<tr><th scope=\"col\">Mailbox</th><th scope=\"col\">Messages</th><th scope=\"col\">Unseen</th><th scope=\"col\">Bytes</th><th scope=\"col\">Next UID</th></tr>\n"
+piece_text piece.Mailboxes = codes "<table>\n<caption>Mailboxes</caption>\n<tr><th scope=\"col\">Mailbox</th><th scope=\"col\">Messages</th><th scope=\"col\">Unseen</th><th scope=\"col\">Bytes</th><th scope=\"col\">Next UID</th></tr>\n"
 piece_text piece.Connections = codes "<table>\n<caption>Connections</caption>\n<tr><th scope=\"col\">Number</th><th scope=\"col\">State</th></tr>\n"
-piece_text piece.Sessions =
-    codes "<table>\n<caption>Sessions</caption>\n<tr><th scope=\"col\">User</th><th scope=\"col\">Number</th><th scope=\"col\">State</th></tr>\n"
+piece_text piece.Sessions = codes "<table>\n<caption>Sessions</caption>\n<tr><th scope=\"col\">User</th><th scope=\"col\">Number</th><th scope=\"col\">State</th></tr>\n"
 piece_text piece.Counts = codes "<table>\n<caption>Since the start</caption>\n<tr><th scope=\"col\">What</th><th scope=\"col\">How many</th></tr>\n"
 piece_text piece.End = codes "</table>\n</body>\n</html>\n"
 

@@ -172,7 +172,6 @@ pub data TakeStep (w : World) (s : ℕ) (v : World) : Type 0 where
 abbrev pub next_uid : Config → Box → ℕ
 next_uid k b = k.first_uid + length b.accepted
 
--- What an event adds to a mailbox.
 module _ (k : Config) (old : Box) where
   -- the mailbox after these changes and these accepted copies
   pub record Logs (changes : List Change) (copies : List (Job × ℕ)) (new : Box) : Type 0 where
@@ -242,8 +241,7 @@ abbrev pub shows : Session → List Change → Session
 shows s cs = record { mailbox = s.mailbox; start = s.start; cursor = s.cursor + length cs; shown = s.shown ++ cs }
 
 module _ (k : Config) (w : World) where
-  -- session n, which has not selected, selects mailbox m; or nothing happens, where the mailbox has no serial left for a cursor, or else for want
-  -- of memory
+  -- session n, which has not selected, selects mailbox m; or nothing happens: the mailbox has no serial left for a cursor, or else memory is wanting
   pub data EnterStep (n m : ℕ) (v : World) : Type 0 where
     enters : n < k.sessions → m < k.mailboxes → w.session n ≡ None → w.opened m < most_entries
         → v ≡ record w {
