@@ -46,13 +46,14 @@ pub record HasParted (old new : Visit) : Type 0 where
   pub departs : Departs old.selection new.selection ⊎ IsForgotten old.selection new.selection
   pub rest : new ≡ record old { selection = new.selection; closed = true }
 
--- A client was attended: what its input brought was heard, all of it and in order, but for what was read as the house stopped.
-pub record Attended (before after : Option (List ℕ)) (how : Parting) (old new : Visit) : Type 0 where
-  pub heard : List ℕ
-  pub dropped : List ℕ
-  pub came : Consumes before after (heard ++ dropped)
-  pub last : Visit
-  pub calls : Calls old heard last
-  pub next : Visit
-  pub ends : Ends how dropped last next
-  pub left : HasParted next new
+module _ (before after : Option (List ℕ)) where
+  -- A client was attended: what its input brought was heard, all of it and in order, but for what was read as the house stopped.
+  pub record Attended (how : Parting) (old new : Visit) : Type 0 where
+    pub heard : List ℕ
+    pub dropped : List ℕ
+    pub came : Consumes before after (heard ++ dropped)
+    pub last : Visit
+    pub calls : Calls old heard last
+    pub next : Visit
+    pub ends : Ends how dropped last next
+    pub left : HasParted next new

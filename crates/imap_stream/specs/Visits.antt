@@ -64,12 +64,13 @@ pub record Hears (piece : List ℕ) (carried : List Carried) (before after : Mom
   pub says : Says piece carried before between
   pub shows : ShowsAll between after
 
--- So it went until the session stopped, within the bytes, or until memory was refused within the turns behind them.
-pub data HearsInPart (room : ℕ) (piece : List ℕ) (why : Lost) (before after : Moment) : Type 0 where
-  within_bytes : SaysInPart room piece why before after → HearsInPart room piece why before after
-  within_turns : (between : Moment) (carried : List Carried) → Says piece carried before between → ShowsInPart room between after
-      → why ≡ lost.NoMemory
-      → HearsInPart room piece why before after
+module _ (room : ℕ) (piece : List ℕ) where
+  -- So it went until the session stopped, within the bytes, or until memory was refused within the turns behind them.
+  pub data HearsInPart (why : Lost) (before after : Moment) : Type 0 where
+    within_bytes : SaysInPart room piece why before after → HearsInPart why before after
+    within_turns : (between : Moment) (carried : List Carried) → Says piece carried before between → ShowsInPart room between after
+        → why ≡ lost.NoMemory
+        → HearsInPart why before after
 
 -- ---- what is sent
 
@@ -99,14 +100,14 @@ pub record Tells (P : Moment → Moment → Type 0) (Sends : Visit → List ℕ 
 
 -- ---- the first and the last words
 
--- The client was greeted (RFC 9051, 7.1.1 and 7.1.4), and nothing else was done: its session has begun so, and its line hasn't.
-pub record IsGreeted (admission : Admission) (folders : List Folder) (selection : LockedStore) (taken : Option (List ℕ))
-    (visit : Visit) : Type 0 where
-  pub stands : StandsFor visit.link (record { standing = begun_with admission folders; begun = [] })
-  pub store : visit.selection ≡ selection
-  pub took : Appends taken visit.taken (greeting admission.profile)
-  pub live : visit.failed ≡ false
-  pub goes_on : visit.closed ≡ false
+module _ (admission : Admission) (folders : List Folder) where
+  -- The client was greeted (RFC 9051, 7.1.1 and 7.1.4), and nothing else was done: its session has begun so, and its line hasn't.
+  pub record IsGreeted (selection : LockedStore) (taken : Option (List ℕ)) (visit : Visit) : Type 0 where
+    pub stands : StandsFor visit.link (record { standing = begun_with admission folders; begun = [] })
+    pub store : visit.selection ≡ selection
+    pub took : Appends taken visit.taken (greeting admission.profile)
+    pub live : visit.failed ≡ false
+    pub goes_on : visit.closed ≡ false
 
 -- what a client is told that is dismissed (RFC 9051, 7.1.5)
 abbrev pub farewell : List ℕ

@@ -53,34 +53,36 @@ pub data HaveTalked (house : Premises) (seat : ℕ) : List (List ℕ) → List (
 abbrev pub notes_tell : List Noted → List (Job × Verdict) → Type 0
 notes_tell notes copies = notes ≡ map note_of copies
 
--- What is kept tells of each of these copies with its verdict, in their order, and of nothing else; and each lane got those for its mailboxes that
--- weren't refused at once. What `keeps` is, who keeps it says.
-pub record AreBooksOf (directory : Directory) (rooms : List Room) (seat : ℕ) (copies : List (Job × Verdict)) (keeps : List (Job × Verdict) → Type 0)
-    (heard : List (Entry Noted)) (sent : List (List (Entry Job))) : Type 0 where
-  pub noted : keeps copies
-  pub lanes : (lane : ℕ) → lane < length sent → (jobs : List Job) × WerePut directory (room_at rooms lane) seat lane heard [] copies jobs
-      × (slice_index_or sent lane [] ≡ map (λ job. Item seat job) jobs)
+module _ (directory : Directory) (rooms : List Room) (seat : ℕ) where
+  -- What is kept tells of each of these copies with its verdict, in their order, and of nothing else; and each lane got those for its mailboxes that
+  -- weren't refused at once. What `keeps` is, who keeps it says.
+  pub record AreBooksOf (copies : List (Job × Verdict)) (keeps : List (Job × Verdict) → Type 0) (heard : List (Entry Noted))
+      (sent : List (List (Entry Job))) : Type 0 where
+    pub noted : keeps copies
+    pub lanes : (lane : ℕ) → lane < length sent → (jobs : List Job) × WerePut directory (room_at rooms lane) seat lane heard [] copies jobs
+        × (slice_index_or sent lane [] ≡ map (λ job. Item seat job) jobs)
 
--- the same of the copies of these messages
-abbrev pub AreBooks : Directory → List Room → ℕ → List Judged → (List (Job × Verdict) → Type 0) → List (Entry Noted) → List (List (Entry Job))
-    → Type 0
-AreBooks directory rooms seat judged keeps heard sent = AreBooksOf directory rooms seat (told judged) keeps heard sent
+  -- the same of the copies of these messages
+  abbrev pub AreBooks : List Judged → (List (Job × Verdict) → Type 0) → List (Entry Noted) → List (List (Entry Job)) → Type 0
+  AreBooks judged keeps heard sent = AreBooksOf (told judged) keeps heard sent
 
--- The account of a worker that went through its connections. `said` is what it has put on each lane, its end included.
-pub record Account (house : Premises) (seat : ℕ) (connections replies : List (List ℕ)) (notes : List Noted) (heard : List (Entry Noted))
-    (said : List (List (Entry Job))) : Type 0 where
-  pub judged : List Judged
-  pub talked : HaveTalked house seat connections replies judged
-  pub noted : notes ≡ map note_of (told judged)
-  pub lanes : (lane : ℕ) → lane < length said → (jobs : List Job) × WerePut house.directory (room_at house.rooms lane) seat lane heard []
-      (told judged) jobs × (slice_index_or said lane [] ≡ map (λ job. Item seat job) jobs ++ End seat ∷ [])
+module _ (house : Premises) (seat : ℕ) (connections replies : List (List ℕ)) where
+  -- The account of a worker that went through its connections. `said` is what it has put on each lane, its end included.
+  pub record Account (notes : List Noted) (heard : List (Entry Noted)) (said : List (List (Entry Job))) : Type 0 where
+    pub judged : List Judged
+    pub talked : HaveTalked house seat connections replies judged
+    pub noted : notes ≡ map note_of (told judged)
+    pub lanes : (lane : ℕ) → lane < length said → (jobs : List Job) × WerePut house.directory (room_at house.rooms lane) seat lane heard []
+        (told judged) jobs × (slice_index_or said lane [] ≡ map (λ job. Item seat job) jobs ++ End seat ∷ [])
 
--- What a producer's log has of these copies, and what it has put of them on each lane, its end included.
-pub record AreAccountedFor (house : Premises) (seat : ℕ) (copies : List (Job × Verdict)) (notes : List Noted) (heard : List (Entry Noted))
-    (said : List (List (Entry Job))) : Type 0 where
-  pub noted : notes_tell notes copies
-  pub lanes : (lane : ℕ) → lane < length said → (jobs : List Job) × WerePut house.directory (room_at house.rooms lane) seat lane heard [] copies jobs
-      × (slice_index_or said lane [] ≡ map (λ job. Item seat job) jobs ++ End seat ∷ [])
+module _ (house : Premises) (seat : ℕ) where
+  -- What a producer's log has of these copies, and what it has put of them on each lane, its end included.
+  pub record AreAccountedFor (copies : List (Job × Verdict)) (notes : List Noted) (heard : List (Entry Noted))
+      (said : List (List (Entry Job))) : Type 0 where
+    pub noted : notes_tell notes copies
+    pub lanes : (lane : ℕ) → lane < length said → (jobs : List Job)
+        × WerePut house.directory (room_at house.rooms lane) seat lane heard [] copies jobs
+        × (slice_index_or said lane [] ≡ map (λ job. Item seat job) jobs ++ End seat ∷ [])
 
 -- each list has the producer's end behind it
 abbrev pub HaveEnded : ℕ → (before after : List (List (Entry Job))) → Type 0

@@ -61,19 +61,19 @@ IsAtOnce full verdict = ((verdict ≡ Refused Full) × full) ⊎ (verdict ≡ Re
 abbrev pub IsHeard : List (Entry Noted) → Noted → Type 0
 IsHeard heard noted = (shard : ℕ) × (before : List (Entry Noted)) × (after : List (Entry Noted)) × (heard ≡ before ++ Item shard noted ∷ after)
 
--- Of these copies, in their order, these were put on this lane, behind those that had been put before: all that are for its mailboxes, but for some
--- that were refused at once. Where it was for want of room, this producer had put just those before it (what that says of a lane that is its alone:
--- `FilledAlone`). The verdict on each that was put was heard.
-pub data WerePut (directory : Directory) (room : Room) (seat lane : ℕ) (heard : List (Entry Noted)) : (before : List Job) → List (Job × Verdict)
-    → List Job → Type 0 where
-  none : {before : List Job} → WerePut directory room seat lane heard before [] []
-  put : {before jobs : List Job} {told : List (Job × Verdict)} (copy : Job) (verdict : Verdict)
-      → shard_of directory copy.mailbox ≡ lane → IsHeard heard (note_of (copy, verdict))
-      → WerePut directory room seat lane heard (before ++ copy ∷ []) told jobs
-      → WerePut directory room seat lane heard before ((copy, verdict) ∷ told) (copy ∷ jobs)
-  elsewhere : {before jobs : List Job} {told : List (Job × Verdict)} (copy : Job) (verdict : Verdict)
-      → (shard_of directory copy.mailbox ≡ lane → ⊥)
-      → WerePut directory room seat lane heard before told jobs → WerePut directory room seat lane heard before ((copy, verdict) ∷ told) jobs
-  refused : {before jobs : List Job} {told : List (Job × Verdict)} (copy : Job) (verdict : Verdict)
-      → shard_of directory copy.mailbox ≡ lane → IsAtOnce (FilledAlone room seat (map (λ job. Item seat job) before)) verdict
-      → WerePut directory room seat lane heard before told jobs → WerePut directory room seat lane heard before ((copy, verdict) ∷ told) jobs
+module _ (directory : Directory) (room : Room) (seat lane : ℕ) (heard : List (Entry Noted)) where
+  -- Of these copies, in their order, these were put on this lane, behind those that had been put before: all that are for its mailboxes, but for some
+  -- that were refused at once. Where it was for want of room, this producer had put just those before it (what that says of a lane that is its alone:
+  -- `FilledAlone`). The verdict on each that was put was heard.
+  pub data WerePut : (before : List Job) → List (Job × Verdict) → List Job → Type 0 where
+    none : {before : List Job} → WerePut before [] []
+    put : {before jobs : List Job} {told : List (Job × Verdict)} (copy : Job) (verdict : Verdict)
+        → shard_of directory copy.mailbox ≡ lane → IsHeard heard (note_of (copy, verdict))
+        → WerePut (before ++ copy ∷ []) told jobs
+        → WerePut before ((copy, verdict) ∷ told) (copy ∷ jobs)
+    elsewhere : {before jobs : List Job} {told : List (Job × Verdict)} (copy : Job) (verdict : Verdict)
+        → (shard_of directory copy.mailbox ≡ lane → ⊥)
+        → WerePut before told jobs → WerePut before ((copy, verdict) ∷ told) jobs
+    refused : {before jobs : List Job} {told : List (Job × Verdict)} (copy : Job) (verdict : Verdict)
+        → shard_of directory copy.mailbox ≡ lane → IsAtOnce (FilledAlone room seat (map (λ job. Item seat job) before)) verdict
+        → WerePut before told jobs → WerePut before ((copy, verdict) ∷ told) jobs

@@ -50,34 +50,35 @@ module _ (before after : Option (List ℕ)) (failed : Bool) where
   SaysLast host out phase (Err NoMemory) = AreGivenUp out
   SaysLast host out phase (Err Torn) = ⊥
 
-  -- How a connection ended that has said these replies and stands in this phase: what of it was sent, and whether anything that came was dropped.
-  -- `rest` is what the reader has left, where it tells that.
-  abbrev pub EndsBy : (host : List ℕ) (rest : Option (List ℕ)) (came dropped : List ℕ) (said : List Reply) → Phase → Result Ending TalkFault → Type 0
-  EndsBy host rest came dropped said phase (Ok Quit) = (phase ≡ Ended) × AreSent (wire host said)
-  EndsBy host rest came dropped said phase (Ok Gone) = (phase ≢ Ended) × (dropped ≡ []) × IsAtEnd rest × AreSent (wire host said)
-  EndsBy host rest came dropped said phase (Ok Stopped) = AreSent (wire host (said ++ last_words phase))
-  EndsBy host rest came dropped said phase (Err Read) = (phase ≢ Ended) × (dropped ≡ []) × AreSent (wire host said)
-  EndsBy host rest came dropped said phase (Err Write) = AreCutShort (wire host said) ⊎ AreCutShort (wire host (said ++ last_words phase))
-  -- what was said by then was offered; or memory was refused before it was greeted
-  EndsBy host rest came dropped said phase (Err NoMemory) = AreGivenUp (wire host said) ⊎ ((came ≡ []) × AreSent [])
-  -- of what was read last nothing counts as taken, and of its replies nothing was sent
-  EndsBy host rest came dropped said phase (Err Torn) = AreSent (wire host said)
+  module _ (host : List ℕ) (rest : Option (List ℕ)) (came dropped : List ℕ) where
+    -- How a connection ended that has said these replies and stands in this phase: what of it was sent, and whether anything that came was dropped.
+    -- `rest` is what the reader has left, where it tells that.
+    abbrev pub EndsBy : (said : List Reply) → Phase → Result Ending TalkFault → Type 0
+    EndsBy said phase (Ok Quit) = (phase ≡ Ended) × AreSent (wire host said)
+    EndsBy said phase (Ok Gone) = (phase ≢ Ended) × (dropped ≡ []) × IsAtEnd rest × AreSent (wire host said)
+    EndsBy said phase (Ok Stopped) = AreSent (wire host (said ++ last_words phase))
+    EndsBy said phase (Err Read) = (phase ≢ Ended) × (dropped ≡ []) × AreSent (wire host said)
+    EndsBy said phase (Err Write) = AreCutShort (wire host said) ⊎ AreCutShort (wire host (said ++ last_words phase))
+    -- what was said by then was offered; or memory was refused before it was greeted
+    EndsBy said phase (Err NoMemory) = AreGivenUp (wire host said) ⊎ ((came ≡ []) × AreSent [])
+    -- of what was read last nothing counts as taken, and of its replies nothing was sent
+    EndsBy said phase (Err Torn) = AreSent (wire host said)
 
--- A connection was played over a stream, whose reader had these bytes before and has those left, where it tells them. The front of what came was
--- taken; that is a conversation of this setting, its replies were sent as far as `ends` says, and what it submitted stands in the books, behind what
--- was done before it.
-pub record IsPlayed (house : Premises) (setting : Setting) (seat : ℕ) (done : List Judged) (stream rest before after : Option (List ℕ))
-    (failed : Bool)
-    (keeps : List (Job × Verdict) → Type 0) (heard : List (Entry Noted)) (sent : List (List (Entry Job)))
-    (result : Result Ending TalkFault) : Type 0 where
-  pub came : List ℕ
-  pub taken : List ℕ
-  pub dropped : List ℕ
-  pub said : List Reply
-  pub judged : List Judged
-  pub at : Conversation
-  pub read : Consumes stream rest came
-  pub whole : came ≡ taken ++ dropped
-  pub talk : HasTaken setting house.directory taken said judged at
-  pub ends : EndsBy before after failed house.host rest came dropped said at.standing.phase result
-  pub books : result ≢ Err Torn → AreBooks house.directory house.rooms seat (done ++ judged) keeps heard sent
+-- A connection of this serial, behind these messages of its seat, whose input and output went on so.
+module _ (house : Premises) (setting : Setting) (seat : ℕ) (done : List Judged) (stream rest before after : Option (List ℕ)) (failed : Bool) where
+  -- A connection was played over a stream, whose reader had these bytes before and has those left, where it tells them. The front of what came was
+  -- taken; that is a conversation of this setting, its replies were sent as far as `ends` says, and what it submitted stands in the books, behind
+  -- what was done before it.
+  pub record IsPlayed (keeps : List (Job × Verdict) → Type 0) (heard : List (Entry Noted)) (sent : List (List (Entry Job)))
+      (result : Result Ending TalkFault) : Type 0 where
+    pub came : List ℕ
+    pub taken : List ℕ
+    pub dropped : List ℕ
+    pub said : List Reply
+    pub judged : List Judged
+    pub at : Conversation
+    pub read : Consumes stream rest came
+    pub whole : came ≡ taken ++ dropped
+    pub talk : HasTaken setting house.directory taken said judged at
+    pub ends : EndsBy before after failed house.host rest came dropped said at.standing.phase result
+    pub books : result ≢ Err Torn → AreBooks house.directory house.rooms seat (done ++ judged) keeps heard sent

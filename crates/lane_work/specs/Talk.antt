@@ -33,11 +33,12 @@ pub data HasTaken (setting : Setting) (directory : Directory) : List ℕ → Lis
       (judged ++ record { message = message; verdicts = verdicts } ∷ [])
       (led_by setting directory after (on.Answered verdicts))
 
--- A connection whose peer sends these bytes and then goes: all were taken, or the dialogue ended before.
-pub record WholeTalk (setting : Setting) (directory : Directory) (bytes : List ℕ) (said : List Reply) (judged : List Judged) : Type 0 where
-  pub taken : List ℕ
-  pub left : List ℕ
-  pub last : Conversation
-  pub whole : bytes ≡ taken ++ left
-  pub talk : HasTaken setting directory taken said judged last
-  pub ended : (left ≡ []) ⊎ (last.standing.phase ≡ Ended)
+module _ (setting : Setting) (directory : Directory) where
+  -- A connection whose peer sends these bytes and then goes: all were taken, or the dialogue ended before.
+  pub record WholeTalk (bytes : List ℕ) (said : List Reply) (judged : List Judged) : Type 0 where
+    pub taken : List ℕ
+    pub left : List ℕ
+    pub last : Conversation
+    pub whole : bytes ≡ taken ++ left
+    pub talk : HasTaken setting directory taken said judged last
+    pub ended : (left ≡ []) ⊎ (last.standing.phase ≡ Ended)

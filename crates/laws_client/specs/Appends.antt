@@ -163,13 +163,14 @@ abbrev pub SaysRefused : (copies : List ℕ) → (tag words : List ℕ) → List
 SaysRefused [] tag words bytes = bytes ≡ tagged tag words
 SaysRefused (uid ∷ uids) tag words bytes = (bytes ≡ tagged tag words) ⊎ ((fault : MailFault) × (bytes ≡ refusal_text tag fault))
 
--- Where the message was stored: the OK that tells its UID, behind this UIDVALIDITY, or what comes
--- of its batch; or one line, where the store refuses to count its mailbox, to show what
--- is pending, or to remove copies. Where it was refused: a NO.
-abbrev pub SaysVerdict : (uidvalidity : ℕ) → Origin → (tag : List ℕ) → Verdict → List ℕ → Type 0
-SaysVerdict uidvalidity origin tag (Stored uid) bytes =
-    SaysStored origin uidvalidity uid tag bytes ⊎ ((fault : MailFault) × (bytes ≡ refusal_text tag fault))
-SaysVerdict uidvalidity origin tag (Refused why) bytes = SaysRefused (copies_of origin) tag (response_text (refused_text why)) bytes
+module _ (uidvalidity : ℕ) where
+  -- Where the message was stored: the OK that tells its UID, behind this UIDVALIDITY, or what comes
+  -- of its batch; or one line, where the store refuses to count its mailbox, to show what
+  -- is pending, or to remove copies. Where it was refused: a NO.
+  abbrev pub SaysVerdict : Origin → (tag : List ℕ) → Verdict → List ℕ → Type 0
+  SaysVerdict origin tag (Stored uid) bytes =
+      SaysStored origin uidvalidity uid tag bytes ⊎ ((fault : MailFault) × (bytes ≡ refusal_text tag fault))
+  SaysVerdict origin tag (Refused why) bytes = SaysRefused (copies_of origin) tag (response_text (refused_text why)) bytes
 
 -- the copy of a message, under this key
 abbrev pub copy_under : CopyKey → Sent → Job
@@ -182,114 +183,117 @@ pub record Author : Type 0 where
   pub folders : List Folder
   pub sent : List ℕ
 
--- An earlier copy of a batch: of its message behind those of which these copies were
--- stored. That was submitted before the last one, under the same tag, for the same
--- mailbox, and was stored under this UID, as the session's seat has heard. It stands so, once, with the text and the flags of its message.
-pub record IsEarlier (k : Setup) (w : World) (author : Author) (last : Sent) (batch : Batch) (copies : List ℕ) (uid : ℕ) : Type 0 where
-  pub noted : Noted
-  pub message : Sent
-  pub rest : List Row
-  pub number : noted.key.message ≡ message.append.message
-  pub origin : message.origin ≡ Copied (record batch { left = rest; copies = copies })
-  pub came : IsCopyOf author.folders author.sent message (record batch { left = rest; copies = copies })
-  pub before : message.append.message < last.append.message
-  pub under : message.tag ≡ last.tag
-  pub named : message.append.mailbox ≡ last.append.mailbox
-  pub seat : noted.key.seat ≡ session_seat k author.place
-  pub own : noted.key.serial ≡ author.serial
-  pub heard : Contains (w.heard noted.key.seat) noted
-  pub stored : noted.verdict ≡ Stored uid
-  pub once : StandsOnce (pairs (w.box noted.mailbox).accepted) noted.key uid
-  pub mailbox : noted.mailbox ≡ message.append.mailbox
-  pub copy : Contains (w.box noted.mailbox).accepted (copy_under noted.key message, uid)
+module _ (k : Setup) (w : World) (author : Author) where
+  -- An earlier copy of a batch: of its message behind those of which these copies were
+  -- stored. That was submitted before the last one, under the same tag, for the same
+  -- mailbox, and was stored under this UID, as the session's seat has heard. It stands so, once, with the text and the flags of its message.
+  pub record IsEarlier (last : Sent) (batch : Batch) (copies : List ℕ) (uid : ℕ) : Type 0 where
+    pub noted : Noted
+    pub message : Sent
+    pub rest : List Row
+    pub number : noted.key.message ≡ message.append.message
+    pub origin : message.origin ≡ Copied (record batch { left = rest; copies = copies })
+    pub came : IsCopyOf author.folders author.sent message (record batch { left = rest; copies = copies })
+    pub before : message.append.message < last.append.message
+    pub under : message.tag ≡ last.tag
+    pub named : message.append.mailbox ≡ last.append.mailbox
+    pub seat : noted.key.seat ≡ session_seat k author.place
+    pub own : noted.key.serial ≡ author.serial
+    pub heard : Contains (w.heard noted.key.seat) noted
+    pub stored : noted.verdict ≡ Stored uid
+    pub once : StandsOnce (pairs (w.box noted.mailbox).accepted) noted.key uid
+    pub mailbox : noted.mailbox ≡ message.append.mailbox
+    pub copy : Contains (w.box noted.mailbox).accepted (copy_under noted.key message, uid)
 
--- of a message of a batch, each of the copies that are stored
-abbrev pub EarlierStand : Setup → World → Author → Sent → Origin → Type 0
-EarlierStand k w author last Client = Unit {0}
-EarlierStand k w author last (Copied batch) =
-    (copies : List ℕ) (uid : ℕ) (behind : List ℕ) → batch.copies ≡ copies ++ uid ∷ behind → IsEarlier k w author last batch copies uid
+  -- of a message of a batch, each of the copies that are stored
+  abbrev pub EarlierStand : Sent → Origin → Type 0
+  EarlierStand last Client = Unit {0}
+  EarlierStand last (Copied batch) =
+      (copies : List ℕ) (uid : ℕ) (behind : List ℕ) → batch.copies ≡ copies ++ uid ∷ behind → IsEarlier last batch copies uid
 
--- These bytes were said to the verdict on a copy of this session.
-pub record AnswersNoted (k : Setup) (w : World) (author : Author) (bytes : List ℕ) (noted : Noted) : Type 0 where
-  -- it is a copy of that very session, and its seat has heard the verdict
-  pub seat : noted.key.seat ≡ session_seat k author.place
-  pub own : noted.key.serial ≡ author.serial
-  pub heard : Contains (w.heard noted.key.seat) noted
-  -- of a message that its client sent so, or had copied so, and they have the tag of that APPEND, COPY or MOVE
-  pub message : Sent
-  pub number : noted.key.message ≡ message.append.message
-  pub came : CameAs author.folders author.sent message
-  pub chosen : is_word_of is_tag message.tag ≡ true
-  pub says : SaysVerdict k.config.uidvalidity message.origin message.tag noted.verdict bytes
-  -- a copy that was stored under a UID stands exactly once in the history of the mailbox
-  -- that was named, under that UID, and with the text and the flags of that message
-  pub stands : (uid : ℕ) → noted.verdict ≡ Stored uid → StandsOnce (pairs (w.box noted.mailbox).accepted) noted.key uid
-  pub stored : (uid : ℕ) → noted.verdict ≡ Stored uid → (noted.mailbox ≡ message.append.mailbox)
-      × Contains (w.box noted.mailbox).accepted (copy_under noted.key message, uid)
-  -- and so does each copy of its batch that was stored before
-  pub earlier : EarlierStand k w author message message.origin
+  -- These bytes were said to the verdict on a copy of this session.
+  pub record AnswersNoted (bytes : List ℕ) (noted : Noted) : Type 0 where
+    -- it is a copy of that very session, and its seat has heard the verdict
+    pub seat : noted.key.seat ≡ session_seat k author.place
+    pub own : noted.key.serial ≡ author.serial
+    pub heard : Contains (w.heard noted.key.seat) noted
+    -- of a message that its client sent so, or had copied so, and they have the tag of that APPEND, COPY or MOVE
+    pub message : Sent
+    pub number : noted.key.message ≡ message.append.message
+    pub came : CameAs author.folders author.sent message
+    pub chosen : is_word_of is_tag message.tag ≡ true
+    pub says : SaysVerdict k.config.uidvalidity message.origin message.tag noted.verdict bytes
+    -- a copy that was stored under a UID stands exactly once in the history of the mailbox
+    -- that was named, under that UID, and with the text and the flags of that message
+    pub stands : (uid : ℕ) → noted.verdict ≡ Stored uid → StandsOnce (pairs (w.box noted.mailbox).accepted) noted.key uid
+    pub stored : (uid : ℕ) → noted.verdict ≡ Stored uid → (noted.mailbox ≡ message.append.mailbox)
+        × Contains (w.box noted.mailbox).accepted (copy_under noted.key message, uid)
+    -- and so does each copy of its batch that was stored before
+    pub earlier : EarlierStand message message.origin
 
 -- ---- all that a client was told
 
--- an answer that was said to no verdict tells no UID
-abbrev pub IsAnswered : Setup → World → Author → List ℕ → Option Noted → Type 0
-IsAnswered k w author bytes None = TellsOfNone bytes
-IsAnswered k w author bytes (Some noted) = AnswersNoted k w author bytes noted
+module _ (k : Setup) (w : World) (author : Author) where
+  -- an answer that was said to no verdict tells no UID
+  abbrev pub IsAnswered : List ℕ → Option Noted → Type 0
+  IsAnswered bytes None = TellsOfNone bytes
+  IsAnswered bytes (Some noted) = AnswersNoted k w author bytes noted
 
--- beside each answer stands the verdict that it was said to, or none
-abbrev pub AreAnswered : Setup → World → Author → List Told → List (Option Noted) → Type 0
-AreAnswered k w author [] [] = Unit {0}
-AreAnswered k w author [] (verdict ∷ verdicts) = ⊥
-AreAnswered k w author (one ∷ told) [] = ⊥
-AreAnswered k w author (one ∷ told) (verdict ∷ verdicts) = IsAnswered k w author (bytes_in one) verdict × AreAnswered k w author told verdicts
+  -- beside each answer stands the verdict that it was said to, or none
+  abbrev pub AreAnswered : List Told → List (Option Noted) → Type 0
+  AreAnswered [] [] = Unit {0}
+  AreAnswered [] (verdict ∷ verdicts) = ⊥
+  AreAnswered (one ∷ told) [] = ⊥
+  AreAnswered (one ∷ told) (verdict ∷ verdicts) = IsAnswered (bytes_in one) verdict × AreAnswered told verdicts
 
 -- the same verdict, or none
 abbrev pub as_it_is : Option Noted → Option Noted
 as_it_is verdict = verdict
 
--- These words, under this tag, are the OK for one copy of this session: of a message that its client
--- appended under that tag. They tell the house's UIDVALIDITY and the UID under which it
--- stands, once, as its seat has heard: in the mailbox that was named, with the text and the flags that were sent.
-pub record TellsKept (k : Setup) (w : World) (author : Author) (tag said : List ℕ) (noted : Noted) : Type 0 where
-  pub message : Sent
-  pub number : noted.key.message ≡ message.append.message
-  pub origin : message.origin ≡ Client
-  pub came : IsSentAs author.folders author.sent message
-  pub under : tag ≡ message.tag
-  pub uid : ℕ
-  pub words : said ≡ appended_words k.config.uidvalidity uid
-  pub seat : noted.key.seat ≡ session_seat k author.place
-  pub own : noted.key.serial ≡ author.serial
-  pub heard : Contains (w.heard noted.key.seat) noted
-  pub stored : noted.verdict ≡ Stored uid
-  pub once : StandsOnce (pairs (w.box noted.mailbox).accepted) noted.key uid
-  pub mailbox : noted.mailbox ≡ message.append.mailbox
-  pub copy : Contains (w.box noted.mailbox).accepted (copy_under noted.key message, uid)
+module _ (k : Setup) (w : World) (author : Author) where
+  -- These words, under this tag, are the OK for one copy of this session: of a message that its client
+  -- appended under that tag. They tell the house's UIDVALIDITY and the UID under which it
+  -- stands, once, as its seat has heard: in the mailbox that was named, with the text and the flags that were sent.
+  pub record TellsKept (tag said : List ℕ) (noted : Noted) : Type 0 where
+    pub message : Sent
+    pub number : noted.key.message ≡ message.append.message
+    pub origin : message.origin ≡ Client
+    pub came : IsSentAs author.folders author.sent message
+    pub under : tag ≡ message.tag
+    pub uid : ℕ
+    pub words : said ≡ appended_words k.config.uidvalidity uid
+    pub seat : noted.key.seat ≡ session_seat k author.place
+    pub own : noted.key.serial ≡ author.serial
+    pub heard : Contains (w.heard noted.key.seat) noted
+    pub stored : noted.verdict ≡ Stored uid
+    pub once : StandsOnce (pairs (w.box noted.mailbox).accepted) noted.key uid
+    pub mailbox : noted.mailbox ≡ message.append.mailbox
+    pub copy : Contains (w.box noted.mailbox).accepted (copy_under noted.key message, uid)
 
--- These words, under this tag, are the OK for the messages that a client of this session had
--- copied by a COPY under that tag. They tell the house's UIDVALIDITY, these messages'
--- UIDs and those of all copies, in one order. The last of the copies stands once under its UID,
--- as its seat has heard: in the mailbox that was named, with the text and the flags
--- of its message. And each before it stands so, under the UID that is told of it.
-pub record TellsCopied (k : Setup) (w : World) (author : Author) (tag said : List ℕ) (noted : Noted) : Type 0 where
-  pub message : Sent
-  pub batch : Batch
-  pub number : noted.key.message ≡ message.append.message
-  pub origin : message.origin ≡ Copied batch
-  pub stays : batch.moves ≡ false
-  pub last : batch.left ≡ []
-  pub came : IsCopyOf author.folders author.sent message batch
-  pub under : tag ≡ message.tag
-  pub uid : ℕ
-  pub words : said ≡ copied_words k.config.uidvalidity (with_copy uid batch)
-  pub seat : noted.key.seat ≡ session_seat k author.place
-  pub own : noted.key.serial ≡ author.serial
-  pub heard : Contains (w.heard noted.key.seat) noted
-  pub stored : noted.verdict ≡ Stored uid
-  pub once : StandsOnce (pairs (w.box noted.mailbox).accepted) noted.key uid
-  pub mailbox : noted.mailbox ≡ message.append.mailbox
-  pub copy : Contains (w.box noted.mailbox).accepted (copy_under noted.key message, uid)
-  pub earlier : EarlierStand k w author message (Copied batch)
+  -- These words, under this tag, are the OK for the messages that a client of this session had
+  -- copied by a COPY under that tag. They tell the house's UIDVALIDITY, these messages'
+  -- UIDs and those of all copies, in one order. The last of the copies stands once under its UID,
+  -- as its seat has heard: in the mailbox that was named, with the text and the flags
+  -- of its message. And each before it stands so, under the UID that is told of it.
+  pub record TellsCopied (tag said : List ℕ) (noted : Noted) : Type 0 where
+    pub message : Sent
+    pub batch : Batch
+    pub number : noted.key.message ≡ message.append.message
+    pub origin : message.origin ≡ Copied batch
+    pub stays : batch.moves ≡ false
+    pub last : batch.left ≡ []
+    pub came : IsCopyOf author.folders author.sent message batch
+    pub under : tag ≡ message.tag
+    pub uid : ℕ
+    pub words : said ≡ copied_words k.config.uidvalidity (with_copy uid batch)
+    pub seat : noted.key.seat ≡ session_seat k author.place
+    pub own : noted.key.serial ≡ author.serial
+    pub heard : Contains (w.heard noted.key.seat) noted
+    pub stored : noted.verdict ≡ Stored uid
+    pub once : StandsOnce (pairs (w.box noted.mailbox).accepted) noted.key uid
+    pub mailbox : noted.mailbox ≡ message.append.mailbox
+    pub copy : Contains (w.box noted.mailbox).accepted (copy_under noted.key message, uid)
+    pub earlier : EarlierStand k w author message (Copied batch)
 
 -- the session with this serial at a place, behind a record
 abbrev pub author_at : Setup → List Entry → (place serial : ℕ) → Author

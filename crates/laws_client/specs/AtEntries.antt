@@ -22,25 +22,28 @@ use Rattle.laws_client.specs.Views.{messages_of}
 use Rattle.imap_session.specs.declared.texts.ResponseText.TheVariants as texts
 use Rattle.imap_session.specs.Texts.{response_text}
 
--- A session goes on at an entry, and is there behind it. It keeps up then; it was told this before, and that much more at the entry.
-pub record AnswersAt (k : Setup) (entries : List Entry) (entry : Entry) (place : ℕ) (before v : SeatedVisitor) : Type 0 where
-  pub keeps : KeepsUp k (entries ++ entry ∷ []) place v entry.after
-  pub earlier : List Told
-  pub more : List Told
-  pub told : keeps.told ≡ earlier ++ more
-  -- what it was told before is what was printed before, and what was still to be printed
-  pub printed : first_words k (user_by_then place [] entries) ++ flat_map bytes_in earlier ≡ shown_by_then place [] entries ++ before.session.unsaid
-  -- where it knows where it is, and the last of that is the OK of a command that shows all, its list is the mailbox as it is behind the entry
-  pub current : (front : List Told) (line tag bytes ending : List ℕ) (command : Command) (client : Client) (s : Session)
-      → more ≡ front ++ Answer line bytes ∷ [] → read line ≡ Ok (tag, command) → shows_all command ≡ true
-      → bytes ≡ ending ++ tagged tag (response_text (texts.Completed (verb_of command))) → hears_all None (earlier ++ front) ≡ Some client
-      → entry.after.world.session place ≡ Some s
-      → (list : List Known) × (hears_all None keeps.told ≡ Some (knowing (Some list))) × IsRight (messages_of (entry.after.world.box s.mailbox)) list
-  -- So it is where the last of that came to no command, and its last line is an OK: that of a DONE, or of a message that was stored
-  pub done : (front : List Told) (tag words bytes : List ℕ) (client : Client) (s : Session) → more ≡ front ++ Words bytes ∷ []
-      → EndsWith tag (codes "OK " ++ words) bytes
-      → hears_all None (earlier ++ front) ≡ Some client → entry.after.world.session place ≡ Some s
-      → (list : List Known) × (hears_all None keeps.told ≡ Some (knowing (Some list))) × IsRight (messages_of (entry.after.world.box s.mailbox)) list
+module _ (k : Setup) (entries : List Entry) (entry : Entry) where
+  -- A session goes on at an entry, and is there behind it. It keeps up then; it was told this before, and that much more at the entry.
+  pub record AnswersAt (place : ℕ) (before v : SeatedVisitor) : Type 0 where
+    pub keeps : KeepsUp k (entries ++ entry ∷ []) place v entry.after
+    pub earlier : List Told
+    pub more : List Told
+    pub told : keeps.told ≡ earlier ++ more
+    -- what it was told before is what was printed before, and what was still to be printed
+    pub printed : first_words k (user_by_then place [] entries) ++ flat_map bytes_in earlier ≡ shown_by_then place [] entries ++ before.session.unsaid
+    -- where it knows where it is, and the last of that is the OK of a command that shows all, its list is the mailbox as it is behind the entry
+    pub current : (front : List Told) (line tag bytes ending : List ℕ) (command : Command) (client : Client) (s : Session)
+        → more ≡ front ++ Answer line bytes ∷ [] → read line ≡ Ok (tag, command) → shows_all command ≡ true
+        → bytes ≡ ending ++ tagged tag (response_text (texts.Completed (verb_of command))) → hears_all None (earlier ++ front) ≡ Some client
+        → entry.after.world.session place ≡ Some s
+        → (list : List Known) × (hears_all None keeps.told ≡ Some (knowing (Some list)))
+        × IsRight (messages_of (entry.after.world.box s.mailbox)) list
+    -- So it is where the last of that came to no command, and its last line is an OK: that of a DONE, or of a message that was stored
+    pub done : (front : List Told) (tag words bytes : List ℕ) (client : Client) (s : Session) → more ≡ front ++ Words bytes ∷ []
+        → EndsWith tag (codes "OK " ++ words) bytes
+        → hears_all None (earlier ++ front) ≡ Some client → entry.after.world.session place ≡ Some s
+        → (list : List Known) × (hears_all None keeps.told ≡ Some (knowing (Some list)))
+        × IsRight (messages_of (entry.after.world.box s.mailbox)) list
 
 -- over whatever record of a house that was new, at an entry with which bytes of a client came
 abbrev pub AnswersMakeCurrent : Type 0

@@ -117,27 +117,28 @@ first_standing k user = (greeted (admitted_in k user) (folders_of k.directory us
 abbrev pub first_words : Setup → (user : List ℕ) → List ℕ
 first_words k user = greeting (first_standing k user).profile
 
--- The client of a session that is there: of all that it sent since it was let in and of
--- all that was printed to it, turn by turn, it knows what its session counts.
-pub record KeepsUp (k : Setup) (entries : List Entry) (place : ℕ) (v : SeatedVisitor) (t : Scene) : Type 0 where
-  -- the world in which it was let in, which came from the empty one
-  pub began : World
-  pub let_in : began ≡ began_by_then place empty_world (empty_scene k) entries
-  pub events : List WorldEvent
-  pub came : IsWorld k.config events began
-  -- what it sent and was told, answer by answer, and all that others did meanwhile
-  pub sent : List ℕ
-  pub told : List Told
-  pub lives : Lives k.config place (first_standing k (user_by_then place [] entries)) began sent told v.session.standing t.world
-  -- all that it sent was answered, but what waits
-  pub answered : sent_by_then place [] entries ≡ sent ++ v.session.waits
-  -- it was told the greeting and these answers: all of it is printed, but what is still to be printed
-  pub printed : first_words k (user_by_then place [] entries) ++ flat_map bytes_in told ≡ shown_by_then place [] entries ++ v.session.unsaid
-  -- where it is in a mailbox it is right about what its session counts there
-  pub right : IsRightAbout (view_of t.world place) (hears_all None told)
-  -- and where nothing is pending there, its list is the mailbox as it is
-  pub all : (s : Session) → t.world.session place ≡ Some s → pending (t.world.box s.mailbox) s ≡ []
-      → IsRightAbout (messages_of (t.world.box s.mailbox)) (hears_all None told)
+module _ (k : Setup) where
+  -- The client of a session that is there: of all that it sent since it was let in and of
+  -- all that was printed to it, turn by turn, it knows what its session counts.
+  pub record KeepsUp (entries : List Entry) (place : ℕ) (v : SeatedVisitor) (t : Scene) : Type 0 where
+    -- the world in which it was let in, which came from the empty one
+    pub began : World
+    pub let_in : began ≡ began_by_then place empty_world (empty_scene k) entries
+    pub events : List WorldEvent
+    pub came : IsWorld k.config events began
+    -- what it sent and was told, answer by answer, and all that others did meanwhile
+    pub sent : List ℕ
+    pub told : List Told
+    pub lives : Lives k.config place (first_standing k (user_by_then place [] entries)) began sent told v.session.standing t.world
+    -- all that it sent was answered, but what waits
+    pub answered : sent_by_then place [] entries ≡ sent ++ v.session.waits
+    -- it was told the greeting and these answers: all of it is printed, but what is still to be printed
+    pub printed : first_words k (user_by_then place [] entries) ++ flat_map bytes_in told ≡ shown_by_then place [] entries ++ v.session.unsaid
+    -- where it is in a mailbox it is right about what its session counts there
+    pub right : IsRightAbout (view_of t.world place) (hears_all None told)
+    -- and where nothing is pending there, its list is the mailbox as it is
+    pub all : (s : Session) → t.world.session place ≡ Some s → pending (t.world.box s.mailbox) s ≡ []
+        → IsRightAbout (messages_of (t.world.box s.mailbox)) (hears_all None told)
 
 -- The client of a session that has ended by itself, as by LOGOUT: so it was to the end, of all that it was told.
 pub record KeptUp (k : Setup) (entries : List Entry) (place : ℕ) (t : Scene) : Type 0 where

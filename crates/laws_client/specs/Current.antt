@@ -27,14 +27,15 @@ use Rattle.imap_session.specs.Texts.{response_text}
 abbrev pub IsCurrent : World → ℕ → Type 0
 IsCurrent w n = (s : Session) → w.session n ≡ Some s → view_of w n ≡ messages_of (w.box s.mailbox)
 
--- a line of session n, which had selected a mailbox and stood so, was answered by this turn in the world
-pub record IsAnswered (k : Config) (n : ℕ) (now : Standing) (line : List ℕ) (w : World) (turn : Turn) (v : World) : Type 0 where
-  pub selected : Selected
-  pub there : now.selected ≡ Some selected
-  pub stands : Stands now
-  pub answers : List Answer
-  pub answered : turn_of now line answers ≡ Some turn
-  pub met : Met (λ (w : World) (call : Call) (answer : Answer) (v : World). Meets k n w call answer v) w turn.events v
+module _ (k : Config) (n : ℕ) (now : Standing) (line : List ℕ) where
+  -- a line of session n, which had selected a mailbox and stood so, was answered by this turn in the world
+  pub record IsAnswered (w : World) (turn : Turn) (v : World) : Type 0 where
+    pub selected : Selected
+    pub there : now.selected ≡ Some selected
+    pub stands : Stands now
+    pub answers : List Answer
+    pub answered : turn_of now line answers ≡ Some turn
+    pub met : Met (λ (w : World) (call : Call) (answer : Answer) (v : World). Meets k n w call answer v) w turn.events v
 
 -- a NOOP that is answered OK (RFC 9051, 6.1.2)
 abbrev pub NoopMakesCurrent : Type 0

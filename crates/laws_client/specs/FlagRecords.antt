@@ -11,13 +11,14 @@ use Rattle.laws_client.specs.Clients.{hears_all}
 use Rattle.laws_client.specs.ClientRecords.{IsPrintable, KeepsUp}
 use Rattle.laws_client.specs.Worlds.{HasFlagsNow, IsRightOnFlags, point_of}
 
--- The client of a session that is there keeps up, and is right about flags by the very same
--- answers; where nothing is pending all that it knows of flags is what they are.
-pub record KnowsFlagsToo (k : Setup) (entries : List Entry) (place : ℕ) (v : SeatedVisitor) (t : Scene) : Type 0 where
-  pub keeps : KeepsUp k entries place v t
-  pub flags : IsRightOnFlags (point_of t.world place) (hears_all None keeps.told)
-  pub now : (s : Session) → t.world.session place ≡ Some s → pending (t.world.box s.mailbox) s ≡ []
-      → HasFlagsNow (t.world.box s.mailbox) (hears_all None keeps.told)
+module _ (k : Setup) where
+  -- The client of a session that is there keeps up, and is right about flags by the very same
+  -- answers; where nothing is pending all that it knows of flags is what they are.
+  pub record KnowsFlagsToo (entries : List Entry) (place : ℕ) (v : SeatedVisitor) (t : Scene) : Type 0 where
+    pub keeps : KeepsUp k entries place v t
+    pub flags : IsRightOnFlags (point_of t.world place) (hears_all None keeps.told)
+    pub now : (s : Session) → t.world.session place ≡ Some s → pending (t.world.box s.mailbox) s ≡ []
+        → HasFlagsNow (t.world.box s.mailbox) (hears_all None keeps.told)
 
 -- Over whatever record of a house that was new: whoever is there.
 abbrev pub ClientsKnowFlags : Type 0

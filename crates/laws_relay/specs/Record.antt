@@ -36,10 +36,11 @@ module _ (sessions : Sessions) where
   came_in seat serial s (Bytes connection piece) = if is_meant seat serial s (seat_of connection) then piece.now else []
   came_in seat serial s event = []
 
-  -- The bytes that it is told by what an event prints, without the marks that are printed before its lines.
-  abbrev pub told_in : Setup → (seat serial : ℕ) → Scene → Piece → List ℕ
-  told_in k seat serial s (Replies at said) = if is_meant seat serial s at then wire k.host (map (promised.reply_of (peers_of sessions)) said) else []
-  told_in k seat serial s piece = []
+  module _ (k : Setup) (seat serial : ℕ) where
+    -- The bytes that it is told by what an event prints, without the marks that are printed before its lines.
+    abbrev pub told_in : Scene → Piece → List ℕ
+    told_in s (Replies at said) = if is_meant seat serial s at then wire k.host (map (promised.reply_of (peers_of sessions)) said) else []
+    told_in s piece = []
 
   -- its peer is gone at this event
   abbrev pub vanishes_in : (seat serial : ℕ) → Scene → house.Event → Bool
@@ -51,10 +52,11 @@ module _ (sessions : Sessions) where
   came_for seat serial s [] = []
   came_for seat serial s (entry ∷ entries) = came_in seat serial s entry.event ++ came_for seat serial entry.after entries
 
-  -- all that it was told
-  abbrev pub told_to : Setup → (seat serial : ℕ) → Scene → List Entry → List ℕ
-  told_to k seat serial s [] = []
-  told_to k seat serial s (entry ∷ entries) = told_in k seat serial s entry.piece ++ told_to k seat serial entry.after entries
+  module _ (k : Setup) (seat serial : ℕ) where
+    -- all that it was told
+    abbrev pub told_to : Scene → List Entry → List ℕ
+    told_to s [] = []
+    told_to s (entry ∷ entries) = told_in k seat serial s entry.piece ++ told_to entry.after entries
 
   -- whether its peer was gone at one of these events
   abbrev pub has_vanished : (seat serial : ℕ) → Scene → List Entry → Bool

@@ -32,48 +32,51 @@ use Rattle.laws_relay.specs.Fates.{Names}
 use Rattle.laws_relay.specs.Handed.{Handed, handed_over, is_taken}
 use Rattle.laws_relay.specs.ReplyLaws.{IsInLine}
 
--- The copy for the i-th recipient of this message, which has this key, is in the history that all
--- threads share: stored in the mailbox that the i-th accepted RCPT line names, with the text
--- that came, under one UID, once, and in no other mailbox.
-pub record StandsInHistory (directory : Directory) (history : List Event) (key : CopyKey) (message : Handed) (i : ℕ) : Type 0 where
-  pub copy : Job
-  pub keyed : copy.key ≡ key
-  pub uid : ℕ
-  pub names : Names directory (slice_index_or message.recipients i []) copy.mailbox
-  pub text : IsTextOf message copy.text
-  pub stands : Stands history copy uid
-  pub once : StandsAlone history copy uid
+module _ (directory : Directory) (history : List Event) where
+  -- The copy for the i-th recipient of this message, which has this key, is in the history that all
+  -- threads share: stored in the mailbox that the i-th accepted RCPT line names, with the text
+  -- that came, under one UID, once, and in no other mailbox.
+  pub record StandsInHistory (key : CopyKey) (message : Handed) (i : ℕ) : Type 0 where
+    pub copy : Job
+    pub keyed : copy.key ≡ key
+    pub uid : ℕ
+    pub names : Names directory (slice_index_or message.recipients i []) copy.mailbox
+    pub text : IsTextOf message copy.text
+    pub stands : Stands history copy uid
+    pub once : StandsAlone history copy uid
 
--- This copy is the one for a recipient of a message that the relay handed over: in the
--- mailbox which that RCPT line names, with the text that was sent. And of its reply
--- the relay knows that it is 250, or it hasn't read it.
-pub record WasHandedOver (directory : Directory) (number : ℕ → Option ℕ) (known whole : List Handed) (copy : Job) : Type 0 where
-  pub k : ℕ
-  pub numbered : number k ≡ Some copy.key.message
-  pub names : Names directory (slice_index_or (message_at whole k).recipients copy.key.recipient []) copy.mailbox
-  pub text : IsTextOf (message_at whole k) copy.text
-  pub read : (is_taken (message_at known k) copy.key.recipient ≡ true) ⊎ (length (message_at known k).replies ≤ copy.key.recipient)
+module _ (directory : Directory) (number : ℕ → Option ℕ) where
+  -- This copy is the one for a recipient of a message that the relay handed over: in the
+  -- mailbox which that RCPT line names, with the text that was sent. And of its reply
+  -- the relay knows that it is 250, or it hasn't read it.
+  pub record WasHandedOver (known whole : List Handed) (copy : Job) : Type 0 where
+    pub k : ℕ
+    pub numbered : number k ≡ Some copy.key.message
+    pub names : Names directory (slice_index_or (message_at whole k).recipients copy.key.recipient []) copy.mailbox
+    pub text : IsTextOf (message_at whole k) copy.text
+    pub read : (is_taken (message_at known k) copy.key.recipient ≡ true) ⊎ (length (message_at known k).replies ≤ copy.key.recipient)
 
--- What a relay may conclude of the messages that it handed over on the connection with this seat
--- and serial: `known`, by what it was told so far; `whole`, by all that was said there.
-pub record ServedConcludes (directory : Directory) (seat serial : ℕ) (history : List Event) (known whole : List Handed) : Type 0 where
-  -- The server numbered the messages that were submitted, in their order: this is the number of the k-th
-  -- that was handed over, if it was not refused as a whole. It is part of the keys of its copies.
-  pub number : ℕ → Option ℕ
-  pub rises : (k m a b : ℕ) → k < m → number k ≡ Some a → number m ≡ Some b → a < b
-  -- a recipient whose reply is 250 has its copy in the history
-  pub taken : (k i : ℕ) → is_taken (message_at known k) i ≡ true
-      → (n : ℕ) × (number k ≡ Some n) × StandsInHistory directory history (key_at seat serial n i) (message_at known k) i
-  -- one whose reply is another has no copy of this message there
-  pub refused : (k i n : ℕ) → i < length (message_at known k).replies → is_taken (message_at known k) i ≡ false → number k ≡ Some n
-      → (copy : Job) (uid : ℕ) → Stands history copy uid → copy.key ≡ key_at seat serial n i → ⊥
-  -- different recipients, also of one message, have different copies
-  pub different : (k m a b i j : ℕ) → number k ≡ Some a → number m ≡ Some b → key_at seat serial a i ≡ key_at seat serial b j → (k ≡ m) × (i ≡ j)
-  -- nothing else stands of this connection
-  pub nothing_else : (copy : Job) (uid : ℕ) → Stands history copy uid → copy.key.seat ≡ seat → copy.key.serial ≡ serial
-      → WasHandedOver directory number known whole copy
-  -- in each mailbox the copies of this worker stand in the order in which they were sent: by connection, by message, by recipient
-  pub in_order : (mailbox : ℕ) → AllPairs Below (keys_of_seat seat (accepted_in mailbox history))
+module _ (directory : Directory) (seat serial : ℕ) (history : List Event) where
+  -- What a relay may conclude of the messages that it handed over on the connection with this seat
+  -- and serial: `known`, by what it was told so far; `whole`, by all that was said there.
+  pub record ServedConcludes (known whole : List Handed) : Type 0 where
+    -- The server numbered the messages that were submitted, in their order: this is the number of the k-th
+    -- that was handed over, if it was not refused as a whole. It is part of the keys of its copies.
+    pub number : ℕ → Option ℕ
+    pub rises : (k m a b : ℕ) → k < m → number k ≡ Some a → number m ≡ Some b → a < b
+    -- a recipient whose reply is 250 has its copy in the history
+    pub taken : (k i : ℕ) → is_taken (message_at known k) i ≡ true
+        → (n : ℕ) × (number k ≡ Some n) × StandsInHistory directory history (key_at seat serial n i) (message_at known k) i
+    -- one whose reply is another has no copy of this message there
+    pub refused : (k i n : ℕ) → i < length (message_at known k).replies → is_taken (message_at known k) i ≡ false → number k ≡ Some n
+        → (copy : Job) (uid : ℕ) → Stands history copy uid → copy.key ≡ key_at seat serial n i → ⊥
+    -- different recipients, also of one message, have different copies
+    pub different : (k m a b i j : ℕ) → number k ≡ Some a → number m ≡ Some b → key_at seat serial a i ≡ key_at seat serial b j → (k ≡ m) × (i ≡ j)
+    -- nothing else stands of this connection
+    pub nothing_else : (copy : Job) (uid : ℕ) → Stands history copy uid → copy.key.seat ≡ seat → copy.key.serial ≡ serial
+        → WasHandedOver directory number known whole copy
+    -- in each mailbox the copies of this worker stand in the order in which they were sent: by connection, by message, by recipient
+    pub in_order : (mailbox : ℕ) → AllPairs Below (keys_of_seat seat (accepted_in mailbox history))
 
 -- ---- a connection, at any moment between two messages
 
@@ -160,27 +163,29 @@ pub data AreReplies (house : Premises) (seat serial : ℕ) : (bytes : List ℕ) 
   replied : {bytes : List ℕ} {replies : List Reply} (judged : List Judged) (at : Conversation)
       → HasTaken (setting_at house seat serial) house.directory bytes replies judged at → AreReplies house seat serial bytes replies at.standing.phase
 
--- The connection with this serial, whose peer sends this, and to which that was written, whose output
--- failed or didn't: what was written is the replies to the bytes that were taken of it,
--- and perhaps at last that the server shuts down; and where the output failed, a
--- beginning. By any beginning of the replies that it has read the peer may conclude.
-pub record ConnectionConcludes (house : Premises) (seat serial : ℕ) (history : List Event) (came said : List ℕ) (failed : Bool) : Type 0 where
-  pub taken : List ℕ
-  pub replies : List Reply
-  pub phase : Phase
-  pub read : IsPrefix taken came
-  pub are : AreReplies house seat serial taken replies phase
-  pub written : AreWritten house.host taken replies phase said failed
-  pub concludes : (front untold : List ℕ) → front ++ untold ≡ wire house.host replies
-      → ServedConcludes house.directory seat serial history (handed_over came front) (handed_over came (wire house.host replies))
+module _ (house : Premises) (seat serial : ℕ) (history : List Event) where
+  -- The connection with this serial, whose peer sends this, and to which that was written, whose output
+  -- failed or didn't: what was written is the replies to the bytes that were taken of it,
+  -- and perhaps at last that the server shuts down; and where the output failed, a
+  -- beginning. By any beginning of the replies that it has read the peer may conclude.
+  pub record ConnectionConcludes (came said : List ℕ) (failed : Bool) : Type 0 where
+    pub taken : List ℕ
+    pub replies : List Reply
+    pub phase : Phase
+    pub read : IsPrefix taken came
+    pub are : AreReplies house seat serial taken replies phase
+    pub written : AreWritten house.host taken replies phase said failed
+    pub concludes : (front untold : List ℕ) → front ++ untold ≡ wire house.host replies
+        → ServedConcludes house.directory seat serial history (handed_over came front) (handed_over came (wire house.host replies))
 
--- Of each connection that came in at this line of a worker, by what the line tells of it; and whatever stands of this worker is of one of them.
-pub record LineConcludes (house : Premises) (seat : ℕ) (history : List Event) (came : List (List ℕ)) (said : List (List ℕ × Bool)) : Type 0 where
-  pub as_many : length came ≡ length said
-  pub each : (serial : ℕ) → serial < length said
-      → ConnectionConcludes house seat serial history (slice_index_or came serial []) (slice_index_or said serial ([], false)).0
-      (slice_index_or said serial ([], false)).1
-  pub nothing_else : (copy : Job) (uid : ℕ) → Stands history copy uid → copy.key.seat ≡ seat → copy.key.serial < length said
+module _ (house : Premises) (seat : ℕ) (history : List Event) where
+  -- Of each connection that came in at this line of a worker, by what the line tells of it; and whatever stands of this worker is of one of them.
+  pub record LineConcludes (came : List (List ℕ)) (said : List (List ℕ × Bool)) : Type 0 where
+    pub as_many : length came ≡ length said
+    pub each : (serial : ℕ) → serial < length said
+        → ConnectionConcludes house seat serial history (slice_index_or came serial []) (slice_index_or said serial ([], false)).0
+        (slice_index_or said serial ([], false)).1
+    pub nothing_else : (copy : Job) (uid : ℕ) → Stands history copy uid → copy.key.seat ≡ seat → copy.key.serial < length said
 
 -- So it is of the line of each worker of a server that stopped in order, where the line tells what came and what was said.
 abbrev pub LinesConclude : Type 0

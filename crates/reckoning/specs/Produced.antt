@@ -25,26 +25,27 @@ use Rattle.house_floor.specs.Left.{Plans, most_of}
 use Rattle.house_floor.specs.declared.floor.Floor.{Floor}
 use Rattle.house_floor.specs.declared.floor.Guest.{Guest}
 
--- A session of this user with these steps said this: it was greeted in no mailbox, and lived through its steps, over so many mailboxes. These
--- messages of its client were carried on the way, in this order. `began` is how the house's history begins, as far as it had seen it when it came.
-pub record WasGuest (house : Premises) (mailboxes turns : ℕ) (guest : Guest) (carried : List Carried) (text : List ℕ) : Type 0 where
-  pub user : List ℕ
-  pub named : user_numbered guest.user house.directory.homes ≡ Some user
-  pub began : List Event
-  pub last : Moment
-  pub lives : Lives turns (greeted_at (Some (most_of house.max_message)) (folders_of house.directory user)
-      (record { mailboxes = mailboxes; entered = None; history = began }) (greeting Standard)) guest.steps.items carried last
-  pub wrote : text ≡ last.text
+module _ (house : Premises) (mailboxes turns : ℕ) (guest : Guest) where
+  -- A session of this user with these steps said this: it was greeted in no mailbox, and lived through its steps, over so many mailboxes. These
+  -- messages of its client were carried on the way, in this order. `began` is how the house's history begins, as far as it had seen it when it came.
+  pub record WasGuest (carried : List Carried) (text : List ℕ) : Type 0 where
+    pub user : List ℕ
+    pub named : user_numbered guest.user house.directory.homes ≡ Some user
+    pub began : List Event
+    pub last : Moment
+    pub lives : Lives turns (greeted_at (Some (most_of house.max_message)) (folders_of house.directory user)
+        (record { mailboxes = mailboxes; entered = None; history = began }) (greeting Standard)) guest.steps.items carried last
+    pub wrote : text ≡ last.text
 
--- The account of a session that made its steps, as that of a worker: what it said, and of the messages that its client appended what its log has and
--- what it has put on each lane, its end included. It is the first of its seat.
-pub record SessionAccount (house : Premises) (mailboxes turns seat : ℕ) (guest : Guest) (replies : List (List ℕ)) (notes : List Noted)
-    (heard : List (Entry Noted)) (put : List (List (Entry Job))) : Type 0 where
-  pub carried : List Carried
-  pub text : List ℕ
-  pub stayed : WasGuest house mailboxes turns guest carried text
-  pub alone : replies ≡ text ∷ []
-  pub copies : AreAccountedFor house seat (map (judged_of seat 0) carried) notes heard put
+module _ (house : Premises) (mailboxes turns seat : ℕ) (guest : Guest) where
+  -- The account of a session that made its steps, as that of a worker: what it said, and of the messages that its client appended what its log has
+  -- and what it has put on each lane, its end included. It is the first of its seat.
+  pub record SessionAccount (replies : List (List ℕ)) (notes : List Noted) (heard : List (Entry Noted)) (put : List (List (Entry Job))) : Type 0 where
+    pub carried : List Carried
+    pub text : List ℕ
+    pub stayed : WasGuest house mailboxes turns guest carried text
+    pub alone : replies ≡ text ∷ []
+    pub copies : AreAccountedFor house seat (map (judged_of seat 0) carried) notes heard put
 
 -- What producer n left: its ended permits are its own on each lane, its receiver is of its channel, and the log is its own. Where a worker went
 -- through all its connections, that is its account of them; where a session, behind the workers, made all its steps, that is its account of these.

@@ -70,12 +70,13 @@ copies_taken r = map items_of (histories r)
 abbrev pub IsEmptied : {T : Type 0} → ℕ → List (Entry T) → Type 0
 IsEmptied producers got = IsWhole producers 0 got
 
--- What the consumer of a shard told a producer: of these entries, which it took, one verdict on each copy of that producer, in their order, and then
--- its end. It told nothing else. `heard`: all that came on the producer's reply channel
-pub record WasAnswered (mailboxes shard producer : ℕ) (taken : List (Entry Job)) (heard : List (Entry Noted)) : Type 0 where
-  pub told : List (Entry Noted)
-  pub each : WereAnswered mailboxes shard producer taken told
-  pub ended : of shard heard ≡ told ++ End shard ∷ []
+module _ (mailboxes shard producer : ℕ) where
+  -- What the consumer of a shard told a producer: of these entries, which it took, one verdict on each copy of that producer, in their order, and
+  -- then its end. It told nothing else. `heard`: all that came on the producer's reply channel
+  pub record WasAnswered (taken : List (Entry Job)) (heard : List (Entry Noted)) : Type 0 where
+    pub told : List (Entry Noted)
+    pub each : WereAnswered mailboxes shard producer taken told
+    pub ended : of shard heard ≡ told ++ End shard ∷ []
 
 pub record Agrees (plan : Plan) (r : Report) : Type 0 where
   -- Each worker's replies and log are what its connections come to by the dialogue, where it heard what was received on its channel; and what was

@@ -50,17 +50,17 @@ IsEachThere accepted texts = map (λ t. t.0) texts ≡ map (λ pair. pair.1) acc
 
 -- ---- one mailbox and all
 
--- `logs`: what each worker heard; `copies`: what was taken from the lane of the mailbox's shard; `whole`: nobody could have removed a message
-pub record MailboxAgrees (whole : Bool) (logs : List (List Noted)) (copies : List Job) (mailbox : ℕ)
-    (accepted : List (CopyKey × ℕ)) (texts : List (ℕ × Text)) : Type 0 where
-  pub told : AreTold logs mailbox accepted
-  pub there : All (IsOfCopy mailbox accepted copies) texts
-  pub each : whole ≡ true → IsEachThere accepted texts
+module _ (whole : Bool) (logs : List (List Noted)) where
+  -- `logs`: what each worker heard; `copies`: what was taken from the lane of the mailbox's shard; `whole`: nobody could have removed a message
+  pub record MailboxAgrees (copies : List Job) (mailbox : ℕ) (accepted : List (CopyKey × ℕ)) (texts : List (ℕ × Text)) : Type 0 where
+    pub told : AreTold logs mailbox accepted
+    pub there : All (IsOfCopy mailbox accepted copies) texts
+    pub each : whole ≡ true → IsEachThere accepted texts
 
--- `copies`: what was taken from each shard's lane; `accepted` and `texts`: what each mailbox accepted, and what is there
-pub record ListsAgree (directory : Directory) (whole : Bool) (logs : List (List Noted)) (copies : List (List Job))
-    (accepted : List (List (CopyKey × ℕ))) (texts : List (List (ℕ × Text))) : Type 0 where
-  pub mailboxes : (length accepted ≡ length directory.homes) × (length texts ≡ length directory.homes)
-  pub mailbox : (m : ℕ) → m < length directory.homes
-      → MailboxAgrees whole logs (slice_index_or copies (shard_of directory m) []) m
-      (slice_index_or accepted m []) (slice_index_or texts m [])
+module _ (directory : Directory) (whole : Bool) (logs : List (List Noted)) where
+  -- `copies`: what was taken from each shard's lane; `accepted` and `texts`: what each mailbox accepted, and what is there
+  pub record ListsAgree (copies : List (List Job)) (accepted : List (List (CopyKey × ℕ))) (texts : List (List (ℕ × Text))) : Type 0 where
+    pub mailboxes : (length accepted ≡ length directory.homes) × (length texts ≡ length directory.homes)
+    pub mailbox : (m : ℕ) → m < length directory.homes
+        → MailboxAgrees whole logs (slice_index_or copies (shard_of directory m) []) m
+        (slice_index_or accepted m []) (slice_index_or texts m [])

@@ -75,36 +75,38 @@ StandAmong mailbox (pair ∷ accepted) [] = ⊥
 StandAmong mailbox (pair ∷ accepted) (entry ∷ entries) =
     (IsCopyFor mailbox pair.0 entry × StandAmong mailbox accepted entries) ⊎ StandAmong mailbox (pair ∷ accepted) entries
 
--- The copy with this key was taken from the lane, and at least so many of the first copies that its mailbox accepted were taken before it. So the
--- mailbox had accepted as many when that copy was judged.
-pub record CameBehind (count : ℕ) (mailbox : ℕ) (key : CopyKey) (accepted : List (CopyKey × ℕ)) (taken : List (Entry Job)) : Type 0 where
-  pub before : List (Entry Job)
-  pub producer : ℕ
-  pub copy : Job
-  pub after : List (Entry Job)
-  pub split : taken ≡ before ++ Item producer copy ∷ after
-  pub is : copy.key ≡ key
-  pub first : List (CopyKey × ℕ)
-  pub others : List (CopyKey × ℕ)
-  pub parts : accepted ≡ first ++ others
-  pub stood : StandAmong mailbox first before
-  pub many : count ≤ length first
+module _ (count mailbox : ℕ) where
+  -- The copy with this key was taken from the lane, and at least so many of the first copies that its mailbox accepted were taken before it. So the
+  -- mailbox had accepted as many when that copy was judged.
+  pub record CameBehind (key : CopyKey) (accepted : List (CopyKey × ℕ)) (taken : List (Entry Job)) : Type 0 where
+    pub before : List (Entry Job)
+    pub producer : ℕ
+    pub copy : Job
+    pub after : List (Entry Job)
+    pub split : taken ≡ before ++ Item producer copy ∷ after
+    pub is : copy.key ≡ key
+    pub first : List (CopyKey × ℕ)
+    pub others : List (CopyKey × ℕ)
+    pub parts : accepted ≡ first ++ others
+    pub stood : StandAmong mailbox first before
+    pub many : count ≤ length first
 
--- What has to be so where this was the verdict on the copy with this key for this mailbox. Nothing has to, where it was stored, which the lists say;
--- nor where its producer had closed the shard, which its account says; nor where memory was refused, which may be at any time. `accepted`: what each
--- mailbox accepted; `taken`: what was taken from each shard's lane
-abbrev pub Allows : Config → Directory → (accepted : List (List (CopyKey × ℕ))) → (taken : List (List (Entry Job))) → CopyKey → (mailbox : ℕ)
-    → Verdict → Type 0
-Allows config directory accepted taken key mailbox (Stored uid) = Unit {0}
-Allows config directory accepted taken key mailbox (Refused why.Full) =
-    HadNoRoom config.depth key (slice_index_or taken (shard_of directory mailbox) [])
-Allows config directory accepted taken key mailbox (Refused why.MailboxFull) =
-    CameBehind config.messages mailbox key (slice_index_or accepted mailbox []) (slice_index_or taken (shard_of directory mailbox) [])
-Allows config directory accepted taken key mailbox (Refused why.NoMemory) = Unit {0}
-Allows config directory accepted taken key mailbox (Refused why.UidSpent) =
-    CameBehind (4294967295 - config.first_uid) mailbox key (slice_index_or accepted mailbox []) (slice_index_or taken (shard_of directory mailbox) [])
-Allows config directory accepted taken key mailbox (Refused why.Shut) = Unit {0}
+module _ (config : Config) (directory : Directory) (accepted : List (List (CopyKey × ℕ))) (taken : List (List (Entry Job))) where
+  -- What has to be so where this was the verdict on the copy with this key for this mailbox. Nothing has to, where it was stored, which the lists
+  -- say; nor where its producer had closed the shard, which its account says; nor where memory was refused, which may be at any time. `accepted`:
+  -- what each mailbox accepted; `taken`: what was taken from each shard's lane
+  abbrev pub Allows : CopyKey → (mailbox : ℕ) → Verdict → Type 0
+  Allows key mailbox (Stored uid) = Unit {0}
+  Allows key mailbox (Refused why.Full) =
+      HadNoRoom config.depth key (slice_index_or taken (shard_of directory mailbox) [])
+  Allows key mailbox (Refused why.MailboxFull) =
+      CameBehind config.messages mailbox key (slice_index_or accepted mailbox []) (slice_index_or taken (shard_of directory mailbox) [])
+  Allows key mailbox (Refused why.NoMemory) = Unit {0}
+  Allows key mailbox (Refused why.UidSpent) =
+      CameBehind (4294967295 - config.first_uid) mailbox key (slice_index_or accepted mailbox [])
+      (slice_index_or taken (shard_of directory mailbox) [])
+  Allows key mailbox (Refused why.Shut) = Unit {0}
 
--- the verdict that was noted can have come
-abbrev pub MayCome : Config → Directory → (accepted : List (List (CopyKey × ℕ))) → (taken : List (List (Entry Job))) → Noted → Type 0
-MayCome config directory accepted taken noted = Allows config directory accepted taken noted.key noted.mailbox noted.verdict
+  -- the verdict that was noted can have come
+  abbrev pub MayCome : Noted → Type 0
+  MayCome noted = Allows noted.key noted.mailbox noted.verdict

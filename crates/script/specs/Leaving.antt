@@ -10,70 +10,76 @@ use Rattle.house.specs.House.{House}
 use Rattle.script.specs.Script.{Asks, Closes, Enters, Leaves, LineDoes, Script, ScriptLine, Sends, Vanishes, held_after, held_by, none_held}
 use Rattle.script.specs.Promise.{DeliversOnce}
 
--- These bytes were written, they are what a script of these lines prints, and deliver exactly once; the house that is left stands for the scene that
--- it leads to.
-pub record Writes (k : Setup) (lines : List ScriptLine) (h : House) (old new : Option (List ℕ)) : Type 0 where
-  pub after : Scene
-  pub printed : List ℕ
-  pub script : Script k 1 (none_held k) lines (empty_scene k) after printed
-  pub once : DeliversOnce k (length lines) after printed
-  pub stands : StandsFor k h after
-  pub out : Appends old new printed
+module _ (k : Setup) (lines : List ScriptLine) (h : House) where
+  -- These bytes were written, they are what a script of these lines prints, and deliver exactly once; the house that is left stands for the scene
+  -- that it leads to.
+  pub record Writes (old new : Option (List ℕ)) : Type 0 where
+    pub after : Scene
+    pub printed : List ℕ
+    pub script : Script k 1 (none_held k) lines (empty_scene k) after printed
+    pub once : DeliversOnce k (length lines) after printed
+    pub stands : StandsFor k h after
+    pub out : Appends old new printed
 
--- Of what some of the first lines print the first `sent` bytes were written, and not all. The house stands for the scene that these lines lead to.
-pub record WritesFirst (k : Setup) (lines : List ScriptLine) (sent : ℕ) (h : House) (old new : Option (List ℕ)) : Type 0 where
-  pub some : List ScriptLine
-  pub others : List ScriptLine
-  pub split : lines ≡ some ++ others
-  pub after : Scene
-  pub printed : List ℕ
-  pub script : Script k 1 (none_held k) some (empty_scene k) after printed
-  pub once : DeliversOnce k (length some) after printed
-  pub stands : StandsFor k h after
-  pub within : sent < length printed
-  pub out : Appends old new (take sent printed)
+module _ (k : Setup) (lines : List ScriptLine) (sent : ℕ) (h : House) where
+  -- Of what some of the first lines print the first `sent` bytes were written, and not all. The house stands for the scene that these lines lead to.
+  pub record WritesFirst (old new : Option (List ℕ)) : Type 0 where
+    pub some : List ScriptLine
+    pub others : List ScriptLine
+    pub split : lines ≡ some ++ others
+    pub after : Scene
+    pub printed : List ℕ
+    pub script : Script k 1 (none_held k) some (empty_scene k) after printed
+    pub once : DeliversOnce k (length some) after printed
+    pub stands : StandsFor k h after
+    pub within : sent < length printed
+    pub out : Appends old new (take sent printed)
 
--- What some of the first lines print was written, whole, and of the house that is left, by the shards that are held then, the lines behind them and
--- the scene that these lead to, this holds.
-pub record WritesBeginning (k : Setup) (lines : List ScriptLine) (Left : ℕ → (held : List Bool) → List ScriptLine → Scene → Type 0)
-    (old new : Option (List ℕ)) : Type 0 where
-  pub some : List ScriptLine
-  pub others : List ScriptLine
-  pub split : lines ≡ some ++ others
-  pub after : Scene
-  pub printed : List ℕ
-  pub script : Script k 1 (none_held k) some (empty_scene k) after printed
-  pub once : DeliversOnce k (length some) after printed
-  pub left : Left (length some + 1) (held_by (none_held k) some) others after
-  pub out : Appends old new printed
+module _ (k : Setup) (lines : List ScriptLine) (Left : ℕ → (held : List Bool) → List ScriptLine → Scene → Type 0) where
+  -- What some of the first lines print was written, whole, and of the house that is left, by the shards that are held then, the lines behind them and
+  -- the scene that these lead to, this holds.
+  pub record WritesBeginning (old new : Option (List ℕ)) : Type 0 where
+    pub some : List ScriptLine
+    pub others : List ScriptLine
+    pub split : lines ≡ some ++ others
+    pub after : Scene
+    pub printed : List ℕ
+    pub script : Script k 1 (none_held k) some (empty_scene k) after printed
+    pub once : DeliversOnce k (length some) after printed
+    pub left : Left (length some + 1) (held_by (none_held k) some) others after
+    pub out : Appends old new printed
 
--- nothing was done since
-abbrev pub IsLeft : Setup → House → ℕ → (held : List Bool) → List ScriptLine → Scene → Type 0
-IsLeft k h number held others s = StandsFor k h s
+module _ (k : Setup) (h : House) where
+  -- nothing was done since
+  abbrev pub IsLeft : ℕ → (held : List Bool) → List ScriptLine → Scene → Type 0
+  IsLeft number held others s = StandsFor k h s
 
--- the event that a line asks for happened in part, and printed this
-abbrev pub LineBegins : Setup → Scene → Scene → List ℕ → ScriptLine → Type 0
-LineBegins k s t printed (Sends connection bytes) = BytesPlay k false s (seat_of connection) bytes t printed
-LineBegins k s t printed (Vanishes connection) = VanishPlay k false s (seat_of connection) t printed
-LineBegins k s t printed (Enters session user) = EnterPlay k false s (place_of session) user t printed
-LineBegins k s t printed (Asks session bytes) = SayPlay k false s (place_of session) bytes t printed
-LineBegins k s t printed (Leaves session) = LeavePlay k s (place_of session) t printed
-LineBegins k s t printed (Closes shard) = ClosePlay k s shard t printed
-LineBegins k s t printed _ = ⊥
+module _ (k : Setup) (s t : Scene) (printed : List ℕ) where
+  -- the event that a line asks for happened in part, and printed this
+  abbrev pub LineBegins : ScriptLine → Type 0
+  LineBegins (Sends connection bytes) = BytesPlay k false s (seat_of connection) bytes t printed
+  LineBegins (Vanishes connection) = VanishPlay k false s (seat_of connection) t printed
+  LineBegins (Enters session user) = EnterPlay k false s (place_of session) user t printed
+  LineBegins (Asks session bytes) = SayPlay k false s (place_of session) bytes t printed
+  LineBegins (Leaves session) = LeavePlay k s (place_of session) t printed
+  LineBegins (Closes shard) = ClosePlay k s shard t printed
+  LineBegins _ = ⊥
 
 -- Memory was wanting as a line was done: nothing happened, or its event did in part.
 pub data LineWanting (k : Setup) (line : ScriptLine) (s : Scene) (h : House) : Type 0 where
   undone : StandsFor k h s → LineWanting k line s h
   begun : (after : Scene) (unsaid : List ℕ) → LineBegins k s after unsaid line → StandsFor k h after → LineWanting k line s h
 
--- The same, or the line was done, and memory was wanting as the house settled: that began as ever, and broke off.
-pub data PlayWanting (k : Setup) (number : ℕ) (held : List Bool) (line : ScriptLine) (s : Scene) (h : House) : Type 0 where
-  doing : LineWanting k line s h → PlayWanting k number held line s h
-  settling : (between : Scene) (one : List ℕ) (after : Scene) (two : List ℕ) → LineDoes k number s between one line
-      → SettlingBreaksOff k (is_held (held_after held line)) between after two → StandsFor k h after → PlayWanting k number held line s h
+module _ (k : Setup) (number : ℕ) (held : List Bool) where
+  -- The same, or the line was done, and memory was wanting as the house settled: that began as ever, and broke off.
+  pub data PlayWanting (line : ScriptLine) (s : Scene) (h : House) : Type 0 where
+    doing : LineWanting k line s h → PlayWanting line s h
+    settling : (between : Scene) (one : List ℕ) (after : Scene) (two : List ℕ) → LineDoes k number s between one line
+        → SettlingBreaksOff k (is_held (held_after held line)) between after two → StandsFor k h after → PlayWanting line s h
 
--- Memory was wanting before the next line was read, or as it was played. What it printed isn't written.
-pub data IsLeftWanting (k : Setup) (h : House) (number : ℕ) (held : List Bool) (others : List ScriptLine) (s : Scene) : Type 0 where
-  unread : StandsFor k h s → IsLeftWanting k h number held others s
-  unwritten : (line : ScriptLine) (more : List ScriptLine) → others ≡ line ∷ more → PlayWanting k number held line s h
-      → IsLeftWanting k h number held others s
+module _ (k : Setup) (h : House) where
+  -- Memory was wanting before the next line was read, or as it was played. What it printed isn't written.
+  pub data IsLeftWanting (number : ℕ) (held : List Bool) (others : List ScriptLine) (s : Scene) : Type 0 where
+    unread : StandsFor k h s → IsLeftWanting number held others s
+    unwritten : (line : ScriptLine) (more : List ScriptLine) → others ≡ line ∷ more → PlayWanting k number held line s h
+        → IsLeftWanting number held others s

@@ -240,52 +240,53 @@ IsSpentSession s session = (s.visitor (place_of session) ≡ None) × (most_seri
 abbrev pub IsUnknown : Setup → (user : List ℕ) → Type 0
 IsUnknown k user = has_user k.directory user ≡ false
 
--- what the line itself does, before the house settles
-pub data LineDoes (k : Setup) (number : ℕ) (s : Scene) (t : Scene) (printed : List ℕ) : ScriptLine → Type 0 where
-  sends : (connection : ℕ) (bytes : List ℕ) → BytesPlay k true s (seat_of connection) bytes t printed
-      → LineDoes k number s t printed (Sends connection bytes)
-  sends_to_nobody : (connection : ℕ) (bytes : List ℕ) → NobodyThere k s connection → t ≡ s → printed ≡ refusal number (codes "Nobody")
-      → LineDoes k number s t printed (Sends connection bytes)
-  sends_to_owing : (connection : ℕ) (bytes : List ℕ) → IsOwing s connection → t ≡ s → printed ≡ refusal number (codes "Busy")
-      → LineDoes k number s t printed (Sends connection bytes)
-  vanishes : (connection : ℕ) → VanishPlay k true s (seat_of connection) t printed → LineDoes k number s t printed (Vanishes connection)
-  vanishes_away : (connection : ℕ) → IsAway k s connection → t ≡ s → printed ≡ refusal number (codes "Nobody")
-      → LineDoes k number s t printed (Vanishes connection)
-  vanishes_again : (connection : ℕ) → IsOwing s connection → t ≡ s → printed ≡ refusal number (codes "Busy")
-      → LineDoes k number s t printed (Vanishes connection)
-  enters : (session : ℕ) (user : List ℕ) → EnterPlay k true s (place_of session) user t printed → LineDoes k number s t printed (Enters session user)
-  enters_nowhere : (session : ℕ) (user : List ℕ) → IsNoSession k session ⊎ (IsUnknown k user ⊎ IsSpentSession s session) → t ≡ s
-      → printed ≡ refusal number (codes "Nobody")
-      → LineDoes k number s t printed (Enters session user)
-  enters_taken : (session : ℕ) (user : List ℕ) → (IsUnknown k user → ⊥) → IsVisited s session → t ≡ s → printed ≡ refusal number (codes "Busy")
-      → LineDoes k number s t printed (Enters session user)
-  asks : (session : ℕ) (bytes : List ℕ) → SayPlay k true s (place_of session) bytes t printed → LineDoes k number s t printed (Asks session bytes)
-  asks_nobody : (session : ℕ) (bytes : List ℕ) → IsUnvisited k s session → t ≡ s → printed ≡ refusal number (codes "Nobody")
-      → LineDoes k number s t printed (Asks session bytes)
-  asks_lingering : (session : ℕ) (bytes : List ℕ) → IsLingering s session → t ≡ s → printed ≡ refusal number (codes "Busy")
-      → LineDoes k number s t printed (Asks session bytes)
-  leaves : (session : ℕ) → LeavePlay k s (place_of session) t printed → LineDoes k number s t printed (Leaves session)
-  leaves_nobody : (session : ℕ) → IsUnvisited k s session → t ≡ s → printed ≡ refusal number (codes "Nobody")
-      → LineDoes k number s t printed (Leaves session)
-  leaves_again : (session : ℕ) → IsLingering s session → t ≡ s → printed ≡ refusal number (codes "Busy")
-      → LineDoes k number s t printed (Leaves session)
-  -- what is held is said by `held_after`
-  stands_still : (shard : ℕ) → shard < k.config.shards → t ≡ s → printed ≡ [] → LineDoes k number s t printed (Hold shard)
-  stands_nobody : (shard : ℕ) → k.config.shards ≤ shard → t ≡ s → printed ≡ refusal number (codes "Nobody")
-      → LineDoes k number s t printed (Hold shard)
-  goes_again : (shard : ℕ) → shard < k.config.shards → t ≡ s → printed ≡ [] → LineDoes k number s t printed (Free shard)
-  goes_nobody : (shard : ℕ) → k.config.shards ≤ shard → t ≡ s → printed ≡ refusal number (codes "Nobody") → LineDoes k number s t printed (Free shard)
-  closes : (shard : ℕ) → ClosePlay k s shard t printed → LineDoes k number s t printed (Closes shard)
-  closes_nobody : (shard : ℕ) → k.config.shards ≤ shard → t ≡ s → printed ≡ refusal number (codes "Nobody")
-      → LineDoes k number s t printed (Closes shard)
-  closes_again : (shard : ℕ) → is_shut_in s shard ≡ true → t ≡ s → printed ≡ refusal number (codes "Busy")
-      → LineDoes k number s t printed (Closes shard)
-  tails : (word : List ℕ) (m : ℕ) → number_of k.directory word ≡ Some m → t ≡ s → printed ≡ window_text word (s.world.box m)
-      → LineDoes k number s t printed (Tail word)
-  tails_nobody : (word : List ℕ) → number_of k.directory word ≡ None → t ≡ s → printed ≡ refusal number (codes "Nobody")
-      → LineDoes k number s t printed (Tail word)
-  skips : t ≡ s → printed ≡ [] → LineDoes k number s t printed Skip
-  is_bad : t ≡ s → printed ≡ refusal number (codes "Line") → LineDoes k number s t printed Bad
+module _ (k : Setup) (number : ℕ) (s t : Scene) (printed : List ℕ) where
+  -- what the line itself does, before the house settles
+  pub data LineDoes : ScriptLine → Type 0 where
+    sends : (connection : ℕ) (bytes : List ℕ) → BytesPlay k true s (seat_of connection) bytes t printed
+        → LineDoes (Sends connection bytes)
+    sends_to_nobody : (connection : ℕ) (bytes : List ℕ) → NobodyThere k s connection → t ≡ s → printed ≡ refusal number (codes "Nobody")
+        → LineDoes (Sends connection bytes)
+    sends_to_owing : (connection : ℕ) (bytes : List ℕ) → IsOwing s connection → t ≡ s → printed ≡ refusal number (codes "Busy")
+        → LineDoes (Sends connection bytes)
+    vanishes : (connection : ℕ) → VanishPlay k true s (seat_of connection) t printed → LineDoes (Vanishes connection)
+    vanishes_away : (connection : ℕ) → IsAway k s connection → t ≡ s → printed ≡ refusal number (codes "Nobody")
+        → LineDoes (Vanishes connection)
+    vanishes_again : (connection : ℕ) → IsOwing s connection → t ≡ s → printed ≡ refusal number (codes "Busy")
+        → LineDoes (Vanishes connection)
+    enters : (session : ℕ) (user : List ℕ) → EnterPlay k true s (place_of session) user t printed → LineDoes (Enters session user)
+    enters_nowhere : (session : ℕ) (user : List ℕ) → IsNoSession k session ⊎ (IsUnknown k user ⊎ IsSpentSession s session) → t ≡ s
+        → printed ≡ refusal number (codes "Nobody")
+        → LineDoes (Enters session user)
+    enters_taken : (session : ℕ) (user : List ℕ) → (IsUnknown k user → ⊥) → IsVisited s session → t ≡ s → printed ≡ refusal number (codes "Busy")
+        → LineDoes (Enters session user)
+    asks : (session : ℕ) (bytes : List ℕ) → SayPlay k true s (place_of session) bytes t printed → LineDoes (Asks session bytes)
+    asks_nobody : (session : ℕ) (bytes : List ℕ) → IsUnvisited k s session → t ≡ s → printed ≡ refusal number (codes "Nobody")
+        → LineDoes (Asks session bytes)
+    asks_lingering : (session : ℕ) (bytes : List ℕ) → IsLingering s session → t ≡ s → printed ≡ refusal number (codes "Busy")
+        → LineDoes (Asks session bytes)
+    leaves : (session : ℕ) → LeavePlay k s (place_of session) t printed → LineDoes (Leaves session)
+    leaves_nobody : (session : ℕ) → IsUnvisited k s session → t ≡ s → printed ≡ refusal number (codes "Nobody")
+        → LineDoes (Leaves session)
+    leaves_again : (session : ℕ) → IsLingering s session → t ≡ s → printed ≡ refusal number (codes "Busy")
+        → LineDoes (Leaves session)
+    -- what is held is said by `held_after`
+    stands_still : (shard : ℕ) → shard < k.config.shards → t ≡ s → printed ≡ [] → LineDoes (Hold shard)
+    stands_nobody : (shard : ℕ) → k.config.shards ≤ shard → t ≡ s → printed ≡ refusal number (codes "Nobody")
+        → LineDoes (Hold shard)
+    goes_again : (shard : ℕ) → shard < k.config.shards → t ≡ s → printed ≡ [] → LineDoes (Free shard)
+    goes_nobody : (shard : ℕ) → k.config.shards ≤ shard → t ≡ s → printed ≡ refusal number (codes "Nobody") → LineDoes (Free shard)
+    closes : (shard : ℕ) → ClosePlay k s shard t printed → LineDoes (Closes shard)
+    closes_nobody : (shard : ℕ) → k.config.shards ≤ shard → t ≡ s → printed ≡ refusal number (codes "Nobody")
+        → LineDoes (Closes shard)
+    closes_again : (shard : ℕ) → is_shut_in s shard ≡ true → t ≡ s → printed ≡ refusal number (codes "Busy")
+        → LineDoes (Closes shard)
+    tails : (word : List ℕ) (m : ℕ) → number_of k.directory word ≡ Some m → t ≡ s → printed ≡ window_text word (s.world.box m)
+        → LineDoes (Tail word)
+    tails_nobody : (word : List ℕ) → number_of k.directory word ≡ None → t ≡ s → printed ≡ refusal number (codes "Nobody")
+        → LineDoes (Tail word)
+    skips : t ≡ s → printed ≡ [] → LineDoes Skip
+    is_bad : t ≡ s → printed ≡ refusal number (codes "Line") → LineDoes Bad
 
 -- by shard, whether its consumer stands still: none does at the start
 abbrev pub none_held : Setup → List Bool
@@ -310,14 +311,15 @@ abbrev pub held_by : List Bool → List ScriptLine → List Bool
 held_by held [] = held
 held_by held (line ∷ lines) = held_by (held_after held line) lines
 
--- a line, and then the house settles
-pub record LinePlays (k : Setup) (number : ℕ) (held : List Bool) (line : ScriptLine) (s t : Scene) (printed : List ℕ) : Type 0 where
-  pub between : Scene
-  pub one : List ℕ
-  pub two : List ℕ
-  pub does : LineDoes k number s between one line
-  pub settles : Settles k (is_held (held_after held line)) between t two
-  pub both : printed ≡ one ++ two
+module _ (k : Setup) (number : ℕ) (held : List Bool) where
+  -- a line, and then the house settles
+  pub record LinePlays (line : ScriptLine) (s t : Scene) (printed : List ℕ) : Type 0 where
+    pub between : Scene
+    pub one : List ℕ
+    pub two : List ℕ
+    pub does : LineDoes k number s between one line
+    pub settles : Settles k (is_held (held_after held line)) between t two
+    pub both : printed ≡ one ++ two
 
 -- the lines from this number on, where these shards are held
 abbrev pub Script : Setup → ℕ → List Bool → List ScriptLine → Scene → Scene → List ℕ → Type 0

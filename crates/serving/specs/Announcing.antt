@@ -67,8 +67,9 @@ abbrev pub warning : Uidvalidity → List ℕ
 warning Given = []
 warning Default = codes "UIDVALIDITY is the same at each start: give --uidvalidity a number that grows, as the time in seconds\n"
 
-abbrev pub announcement : (lmtp : ℕ) → (imap : List ℕ) → (page : Option ℕ) → List Home → Uidvalidity → List ℕ
-announcement lmtp imap page homes uidvalidity = lmtp_line lmtp ++ imap_lines (users_of homes) imap ++ page_lines page ++ warning uidvalidity
+module _ (lmtp : ℕ) (imap : List ℕ) (page : Option ℕ) where
+  abbrev pub announcement : List Home → Uidvalidity → List ℕ
+  announcement homes uidvalidity = lmtp_line lmtp ++ imap_lines (users_of homes) imap ++ page_lines page ++ warning uidvalidity
 
 -- what a server with these settings may say, which has a page where a port is given for it: the lines of the ports that its listeners have
 pub record IsAnnouncement (config : Config) (given : Option ℕ) (uidvalidity : Uidvalidity) (lines : List ℕ) : Type 0 where
@@ -80,15 +81,16 @@ pub record IsAnnouncement (config : Config) (given : Option ℕ) (uidvalidity : 
   pub status : IsPageFor given page
   pub are : lines ≡ announcement lmtp imap page (directory_for config).homes uidvalidity
 
--- a beginning of such lines was written
-pub record HasBegun (config : Config) (given : Option ℕ) (uidvalidity : Uidvalidity) (old new : Option (List ℕ)) : Type 0 where
-  pub lines : List ℕ
-  pub announced : IsAnnouncement config given uidvalidity lines
-  pub count : ℕ
-  pub written : Appends old new (take count lines)
+module _ (config : Config) (given : Option ℕ) (uidvalidity : Uidvalidity) where
+  -- a beginning of such lines was written
+  pub record HasBegun (old new : Option (List ℕ)) : Type 0 where
+    pub lines : List ℕ
+    pub announced : IsAnnouncement config given uidvalidity lines
+    pub count : ℕ
+    pub written : Appends old new (take count lines)
 
--- all of them were
-pub record HasAnnounced (config : Config) (given : Option ℕ) (uidvalidity : Uidvalidity) (old new : Option (List ℕ)) : Type 0 where
-  pub lines : List ℕ
-  pub announced : IsAnnouncement config given uidvalidity lines
-  pub written : Appends old new lines
+  -- all of them were
+  pub record HasAnnounced (old new : Option (List ℕ)) : Type 0 where
+    pub lines : List ℕ
+    pub announced : IsAnnouncement config given uidvalidity lines
+    pub written : Appends old new lines

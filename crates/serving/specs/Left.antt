@@ -27,12 +27,13 @@ histories finished = map history finished.lanes.items
 abbrev pub answers : Finished → List (List (Entry Noted))
 answers finished = map reply_history finished.channels.items
 
--- What the clerk of a shard told a producer: of these entries, which it took, one verdict on each copy of that producer, in their order, and then its
--- end. `heard`: all that came on the producer's reply channel
-pub record WasAnswered (mailboxes shard producer : ℕ) (taken : List (Entry Job)) (heard : List (Entry Noted)) : Type 0 where
-  pub told : List (Entry Noted)
-  pub each : WereAnswered mailboxes shard producer taken told
-  pub ended : of shard heard ≡ told ++ End shard ∷ []
+module _ (mailboxes shard producer : ℕ) where
+  -- What the clerk of a shard told a producer: of these entries, which it took, one verdict on each copy of that producer, in their order, and then
+  -- its end. `heard`: all that came on the producer's reply channel
+  pub record WasAnswered (taken : List (Entry Job)) (heard : List (Entry Noted)) : Type 0 where
+    pub told : List (Entry Noted)
+    pub each : WereAnswered mailboxes shard producer taken told
+    pub ended : of shard heard ≡ told ++ End shard ∷ []
 
 -- What its connections were told of is these settings': whose mail is taken, the name that is said, and how large a message may be.
 pub record IsSetAs (config : Config) (house : Premises) : Type 0 where

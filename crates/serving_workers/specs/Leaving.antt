@@ -50,21 +50,22 @@ pub data HaveConversed (house : Premises) (seat : ℕ) : (connections : ℕ) →
       → AreWritten house.host bytes replies at.standing.phase written failed
       → HaveConversed house seat (n + 1) (spoken ++ record { read = bytes ++ dropped; written = written; failed = failed } ∷ []) (judged ++ more)
 
--- So many connections came in at this line. What was put on each lane is what they submitted, and the verdict on each copy that was put was heard.
-pub record AreServed (house : Premises) (seat : ℕ) (line : Told) (connections : ℕ) (heard : List (Entry Noted))
-    (sent : List (List (Entry Job))) : Type 0 where
-  pub judged : List Judged
-  pub spoken : List Spoken
-  pub over : WereOver line spoken
-  pub conversed : HaveConversed house seat connections spoken judged
-  pub books : AreBooks house.directory house.rooms seat judged (λ told. Unit {0}) heard sent
+module _ (house : Premises) (seat : ℕ) (line : Told) (connections : ℕ) where
+  -- So many connections came in at this line. What was put on each lane is what they submitted, and the verdict on each copy that was put was heard.
+  pub record AreServed (heard : List (Entry Noted)) (sent : List (List (Entry Job))) : Type 0 where
+    pub judged : List Judged
+    pub spoken : List Spoken
+    pub over : WereOver line spoken
+    pub conversed : HaveConversed house seat connections spoken judged
+    pub books : AreBooks house.directory house.rooms seat judged (λ told. Unit {0}) heard sent
 
--- Of a worker that wasn't torn: what it said on each lane is what its connections submitted, and then its end.
-pub record HasServedMail (house : Premises) (seat : ℕ) (line : Told) (heard : List (Entry Noted)) (words : List (List (Entry Job))) : Type 0 where
-  pub connections : ℕ
-  pub sent : List (List (Entry Job))
-  pub served : AreServed house seat line connections heard sent
-  pub ended : HaveEnded seat sent words
+module _ (house : Premises) (seat : ℕ) (line : Told) where
+  -- Of a worker that wasn't torn: what it said on each lane is what its connections submitted, and then its end.
+  pub record HasServedMail (heard : List (Entry Noted)) (words : List (List (Entry Job))) : Type 0 where
+    pub connections : ℕ
+    pub sent : List (List (Entry Job))
+    pub served : AreServed house seat line connections heard sent
+    pub ended : HaveEnded seat sent words
 
 -- ---- clients of a berth
 
@@ -75,11 +76,12 @@ pub data HaveAppended (seat : ℕ) : (clients : ℕ) → List (Job × Verdict) �
   another : {n : ℕ} {copies : List (Job × Verdict)} (carried : List Carried) → HaveAppended seat n copies
       → HaveAppended seat (n + 1) (copies ++ map (judged_of seat n) carried)
 
--- What was put on each lane is what these clients appended, and the verdict on each copy that was put was heard.
-abbrev pub AreAttended : Premises → (seat clients : ℕ) → (heard : List (Entry Noted)) → (sent : List (List (Entry Job))) → Type 0
-AreAttended house seat clients heard sent =
-    (copies : List (Job × Verdict)) × HaveAppended seat clients copies
-    × AreBooksOf house.directory house.rooms seat copies (λ told. Unit {0}) heard sent
+module _ (house : Premises) (seat clients : ℕ) where
+  -- What was put on each lane is what these clients appended, and the verdict on each copy that was put was heard.
+  abbrev pub AreAttended : (heard : List (Entry Noted)) → (sent : List (List (Entry Job))) → Type 0
+  AreAttended heard sent =
+      (copies : List (Job × Verdict)) × HaveAppended seat clients copies
+      × AreBooksOf house.directory house.rooms seat copies (λ told. Unit {0}) heard sent
 
 -- Of a berth that wasn't torn: what it said on each lane is what its clients appended, and then its end.
 pub record HasServedClients (house : Premises) (seat : ℕ) (heard : List (Entry Noted)) (words : List (List (Entry Job))) : Type 0 where

@@ -116,16 +116,17 @@ pub record Awaits (turns count : ℕ) (before after : Moment) : Type 0 where
   pub turned : Turns count before had after
   pub enough : (had ≡ turns) ⊎ IsOver count after
 
--- what a step of a session does whose client may send more, and which messages it carried
-abbrev pub Does : ℕ → Step → List Carried → Moment → Moment → Type 0
-Does turns (Say bytes) carried before after = Says bytes.items carried before after
-Does turns (Await count) carried before after = (carried ≡ []) × Awaits turns count before after
+module _ (turns : ℕ) where
+  -- what a step of a session does whose client may send more, and which messages it carried
+  abbrev pub Does : Step → List Carried → Moment → Moment → Type 0
+  Does (Say bytes) carried before after = Says bytes.items carried before after
+  Does (Await count) carried before after = (carried ≡ []) × Awaits turns count before after
 
--- One step: a session that has ended, or awaits a verdict, does nothing.
-abbrev pub Steps : ℕ → Step → List Carried → Moment → Moment → Type 0
-Steps turns step carried before after =
-    ((takes_more before.dialogue.standing ≡ false) × (carried ≡ []) × (after ≡ before))
-    ⊎ ((takes_more before.dialogue.standing ≡ true) × Does turns step carried before after)
+  -- One step: a session that has ended, or awaits a verdict, does nothing.
+  abbrev pub Steps : Step → List Carried → Moment → Moment → Type 0
+  Steps step carried before after =
+      ((takes_more before.dialogue.standing ≡ false) × (carried ≡ []) × (after ≡ before))
+      ⊎ ((takes_more before.dialogue.standing ≡ true) × Does step carried before after)
 
 -- These steps were made, and these messages were carried on the way, in this order.
 pub data Lives (turns : ℕ) (first : Moment) : List Step → List Carried → Moment → Type 0 where
@@ -144,12 +145,13 @@ IsShort room now = room < answer_room + tag_len (kept_tag now.dialogue.standing)
 abbrev pub IsShortInTurn : ℕ → Moment → Type 0
 IsShortInTurn room now = IsShort room now ⊎ Holds now.selection (Feed most_changes) (Refused NoMemory) now.selection
 
--- Of these bytes some were taken, and then the session stopped: it was short of room, or no verdict came on the message that it had submitted.
-pub data SaysInPart (room : ℕ) (bytes : List ℕ) (why : Lost) (before after : Moment) : Type 0 where
-  short : (used : ℕ) (carried : List Carried) → Speaks bytes before used carried after → IsShort room after → why ≡ lost.NoMemory
-      → SaysInPart room bytes why before after
-  unheard : (used : ℕ) (carried : List Carried) → Speaks bytes before used carried after → may_send after.dialogue.standing ≡ Submit
-      → SaysInPart room bytes why before after
+module _ (room : ℕ) (bytes : List ℕ) (why : Lost) where
+  -- Of these bytes some were taken, and then the session stopped: it was short of room, or no verdict came on the message that it had submitted.
+  pub data SaysInPart (before after : Moment) : Type 0 where
+    short : (used : ℕ) (carried : List Carried) → Speaks bytes before used carried after → IsShort room after → why ≡ lost.NoMemory
+        → SaysInPart before after
+    unheard : (used : ℕ) (carried : List Carried) → Speaks bytes before used carried after → may_send after.dialogue.standing ≡ Submit
+        → SaysInPart before after
 
 -- A step was begun, and the session stopped in it: so it was with its bytes; or some of its turns were had, memory was refused, and there was still
 -- something to wait for.

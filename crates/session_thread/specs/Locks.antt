@@ -75,10 +75,11 @@ HasItsText history mailbox found = IfSome found (λ row. HasText history mailbox
 
 -- ---- calls
 
--- What a client was shown is the log's, for each log for which the mailbox that was found stood: what it counted is what the log's first changes
--- leave, and the changes are those that were due.
-abbrev pub ShowsOf : Mailbox → CursorHandle → List ℕ → List Change → (List Change → List Change) → Type 0
-ShowsOf found handle view changes due = (log : List Change) → Stands found log → (view ≡ view_at log handle.at) × (changes ≡ due log)
+module _ (found : Mailbox) (handle : CursorHandle) where
+  -- What a client was shown is the log's, for each log for which the mailbox that was found stood: what it counted is what the log's first changes
+  -- leave, and the changes are those that were due.
+  abbrev pub ShowsOf : List ℕ → List Change → (List Change → List Change) → Type 0
+  ShowsOf view changes due = (log : List Change) → Stands found log → (view ≡ view_at log handle.at) × (changes ≡ due log)
 
 -- Why a call on the mailbox that was entered was refused: there is none, and no lock was taken; or the one that was found refused it, and was left
 -- as it was. Where `spent`, its log has no room for what the call would log; and memory is wanted only where `wants`.
@@ -103,20 +104,22 @@ abbrev pub DoesCountAt : ℕ → Mailbox → Result Status MailFault → Mailbox
 DoesCountAt number found (Ok status) left = (found.number ≡ number) × (left ≡ found) × Counts found status
 DoesCountAt number found (Err fault) left = (found.number ≢ number) × (left ≡ found) × (fault ≡ Stranger)
 
--- the messages of these UIDs were removed from the mailbox of this number, or its log has no room for that; or another was found. What isn't done
--- changes nothing
-abbrev pub DoesDiscardAt : ℕ → List ℕ → Mailbox → Result (Unit {0}) MailFault → Mailbox → Type 0
-DoesDiscardAt number uids found (Ok done) left = (found.number ≡ number) × Discards found uids left
-DoesDiscardAt number uids found (Err Stranger) left = (found.number ≢ number) × (left ≡ found)
-DoesDiscardAt number uids found (Err fault) left = (found.number ≡ number) × DoesDiscard found uids (Err fault) left
+module _ (number : ℕ) (uids : List ℕ) where
+  -- the messages of these UIDs were removed from the mailbox of this number, or its log has no room for that; or another was found. What isn't done
+  -- changes nothing
+  abbrev pub DoesDiscardAt : Mailbox → Result (Unit {0}) MailFault → Mailbox → Type 0
+  DoesDiscardAt found (Ok done) left = (found.number ≡ number) × Discards found uids left
+  DoesDiscardAt found (Err Stranger) left = (found.number ≢ number) × (left ≡ found)
+  DoesDiscardAt found (Err fault) left = (found.number ≡ number) × DoesDiscard found uids (Err fault) left
 
--- Why a look at a mailbox that was entered told of no messages: the handle is a stranger, or memory was refused. That is wanted only where the set
--- names a message of the view.
-abbrev pub LooksNot : Bool → List SeqRange → MailFault → Mailbox → CursorHandle → Type 0
-LooksNot by_uid set Stranger found handle = IsKept found × IsStranger found handle
-LooksNot by_uid set Lapped found handle = ⊥
-LooksNot by_uid set Spent found handle = ⊥
-LooksNot by_uid set NoMemory found handle = IsKept found × (view : List ℕ) × HasCursor found handle view × (names_one by_uid set view ≡ true)
+module _ (by_uid : Bool) (set : List SeqRange) where
+  -- Why a look at a mailbox that was entered told of no messages: the handle is a stranger, or memory was refused. That is wanted only where the set
+  -- names a message of the view.
+  abbrev pub LooksNot : MailFault → Mailbox → CursorHandle → Type 0
+  LooksNot Stranger found handle = IsKept found × IsStranger found handle
+  LooksNot Lapped found handle = ⊥
+  LooksNot Spent found handle = ⊥
+  LooksNot NoMemory found handle = IsKept found × (view : List ℕ) × HasCursor found handle view × (names_one by_uid set view ≡ true)
 
 -- The numbers in an answer are those of the code's types: 32 bits for a UID and a UIDVALIDITY (RFC 9051, 2.3.1.1), 64 for a count of messages or of a
 -- text's bytes. The SIZE of a STATUS has 128, since it is the sum of the lengths of texts.
