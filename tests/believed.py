@@ -46,7 +46,7 @@ PARTS = [
             "laws_relay::served_relays_conclude",
             "laws_relay::servers_conclude",
             "laws_relay::lines_conclude",
-            "laws_relay::berths_conclude",
+            "laws_relay::client_slots_conclude",
             "session_thread::shown_since_select",
             "laws_client::served_visits_are_lives",
             "laws_client::served_lists_are_current",

@@ -20,9 +20,9 @@ expect() {
     fi
 }
 
-expect "mailboxes are made in" "$(have 'Mailbox::new\(')" "1 crates/delivery_core/src/make.rt 2 crates/house_floor/src/fittings.rt "
+expect "mailboxes are made in" "$(have 'Mailbox::new\(')" "1 crates/delivery_core/src/make.rt 2 crates/house_shared/src/fittings.rt "
 expect "receipts are spent in" "$(have 'verdict_of\(')" "1 crates/delivery_core/src/steps.rt 1 crates/locked_mailbox/src/locked.rt 1 crates/mailbox/src/answers.rt "
-expect "budgets are made in" "$(have 'Budget::(new|unlimited)\(')" "1 crates/delivery_token/src/lib.rt 1 crates/house/src/house.rt 1 crates/house/src/sessions.rt 2 crates/house_floor/src/fittings.rt 1 crates/session_thread/src/life.rt "
+expect "budgets are made in" "$(have 'Budget::(new|unlimited)\(')" "1 crates/delivery_token/src/lib.rt 1 crates/house/src/house.rt 1 crates/house/src/sessions.rt 2 crates/house_shared/src/fittings.rt 1 crates/session_thread/src/life.rt "
 expect "texts are made in" "$(have 'Text::(new|with_date|charged)\(')" "2 crates/delivery_token/src/lib.rt 1 crates/imap_session/src/appending.rt 1 crates/lmtp_machine/src/machine.rt "
 [ $failed = 1 ] || echo "mailboxes are made in two places, receipts spent in three, and a server has one budget"
 exit $failed

@@ -8,8 +8,8 @@
   between commands is told `421`; one within a message is told nothing, and no copy of that is made; a session is told `BYE`, whatever it was about.
 - What a client appends is answered with its UID, and shown to another of the same user.
 - A connection for which no worker is free is served once the one before it has quit. A server starts at once on ports that another has just left.
-- Where there is room on a lane for a copy of each worker and berth, none is refused for want of it, though all bring messages at once.
-- As many workers and berths as there may be are all served; one more is refused as `TooMany`. A port that is taken, a thread that there is no memory for, and
+- Where there is room on a lane for a copy of each worker and client slot, none is refused for want of it, though all bring messages at once.
+- As many workers and slots as there may be are all served; one more is refused as `TooMany`. A port that is taken, a thread that there is no memory for, and
   lines that can't be written, are a fault of a device. Then nothing is announced, the server ends though its input doesn't, and leaves nobody who listens.
 
 What is heard is compared to the byte with what RFC 2033, RFC 4315, RFC 9051, docs/OPERATING.md and docs/STANDARDS.md say, up to the end of the connection,
@@ -52,7 +52,7 @@ NOTHING, DISMISSED, BYE = b"", b"421 4.3.2 Shutting down\r\n", b"* BYE Shutting 
 # So many messages each brings, of so many workers and sessions.
 CROWD, WORKERS, BERTHS = 50, 8, 4
 
-# Users, berths of each and workers: with so many, 255 at most, all are served, and with so many none.
+# Users, slots of each and workers: with so many, 255 at most, all are served, and with so many none.
 SERVED = ((61, 4, 8), (62, 4, 7), (64, 3, 8))
 # So many KB of addresses are enough for these, and not for the stacks of all threads.
 FEW_ADDRESSES, MANY = 400_000, (64, 3, 8)
@@ -387,10 +387,10 @@ def names(count):
     return ["a" * number for number in range(1, count + 1)]
 
 
-def serve_many(program, users, berths, workers):
-    """All berths and all workers are taken at a time."""
-    with serving(program, names(users), ("--sessions", str(berths), "--workers", str(workers))) as house:
-        sessions = [session(house, user) for user in range(users) for _ in range(berths)]
+def serve_many(program, users, slots, workers):
+    """All slots and all workers are taken at a time."""
+    with serving(program, names(users), ("--sessions", str(slots), "--workers", str(workers))) as house:
+        sessions = [session(house, user) for user in range(users) for _ in range(slots)]
         peers = [mail(house) for _ in range(workers)]
         expect("what was delivered", peers[-1].deliver(names(users)[-1:], data_of("last")), [DELIVERED])
         select(sessions[-1], 1)
@@ -401,20 +401,20 @@ def serve_many(program, users, berths, workers):
             expect_last(talk, DISMISSED)
 
 
-def refuse_many(program, users, berths, workers):
-    """There would be too many workers and berths."""
+def refuse_many(program, users, slots, workers):
+    """There would be too many workers and slots."""
     port = free_ports(1 + users)
     with endless() as stdin:
-        ended = run(program, port, names(users), ("--sessions", str(berths), "--workers", str(workers)), stdin=stdin, stdout=subprocess.PIPE)
+        ended = run(program, port, names(users), ("--sessions", str(slots), "--workers", str(workers)), stdin=stdin, stdout=subprocess.PIPE)
     expect("the end", ended, (3, b"", TOO_MANY))
 
 
 def want_threads(program):
     """There are no addresses for the stacks of all threads."""
-    users, berths, workers = MANY
+    users, slots, workers = MANY
     port, limit = free_ports(1 + users), ("sh", "-c", f'ulimit -v {FEW_ADDRESSES} && exec "$@"', "sh")
     with endless() as stdin:
-        options = ("--sessions", str(berths), "--workers", str(workers))
+        options = ("--sessions", str(slots), "--workers", str(workers))
         ended = run(program, port, names(users), options, shell=limit, stdin=stdin, stdout=subprocess.PIPE)
     expect("the end", ended, TAKEN)
 
@@ -471,10 +471,10 @@ def checks():
     yield "a connection waits for a worker", wait_for_a_worker
     yield "nothing is refused where each has room for a copy", bring_at_once
     yield "nothing is refused of one message for many, whatever room there is", bring_to_many
-    for users, berths, workers in SERVED:
-        yield f"{users} users with {berths} berths, and {workers} workers", serve_many, users, berths, workers
-    for users, berths, workers in REFUSED:
-        yield f"{users} users with {berths} berths, and {workers} workers, are too many", refuse_many, users, berths, workers
+    for users, slots, workers in SERVED:
+        yield f"{users} users with {slots} slots, and {workers} workers", serve_many, users, slots, workers
+    for users, slots, workers in REFUSED:
+        yield f"{users} users with {slots} slots, and {workers} workers, are too many", refuse_many, users, slots, workers
     for position, name in enumerate(PORTS):
         yield f"the port of {name} is taken", find_port_taken, position
     yield "there is no memory for all threads", want_threads

@@ -186,7 +186,7 @@ def dawdle(program, seconds):
 
 
 def expect_turn(house, connect, first_words):
-    """Who waits for a worker or a berth is greeted once one is free, in the order of coming; who has left meanwhile is passed over."""
+    """Who waits for a worker or a client slot is greeted once one is free, in the order of coming; who has left meanwhile is passed over."""
     served, leaver, next_one, last = [connect() for _ in range(4)]
     served.expect(first_words)
     if any(talk.has_more(0.5) for talk in (leaver, next_one, last)):

@@ -18,29 +18,29 @@ use Rattle.lane_work.specs.Working.{IsWorked}
 use Rattle.shard_queue.specs.Reply.{IsReceiver, received}
 use Rattle.shard_queue.specs.Permits.{said}
 use Rattle.shard_queue.specs.declared.reply.ReceiverPermit.{ReceiverPermit}
-use Rattle.house_floor.specs.declared.floor.Guest.{Guest}
+use Rattle.house_shared.specs.declared.shared.Guest.{Guest}
 use Rattle.lane_work.specs.Consuming.{IsConsumed}
-use Rattle.house_floor.specs.declared.floor.Floor.{Floor}
-use Rattle.house_floor.specs.Left.{IsServiceOf, Plans}
+use Rattle.house_shared.specs.declared.shared.HouseShared.{HouseShared}
+use Rattle.house_shared.specs.Left.{IsServiceOf, Plans}
 use Rattle.house_threads.specs.inner.Crew.{IsAttended}
 use Rattle.reckoning.specs.Produced.{IsProduceOf, SessionAccount}
-use Rattle.house_floor.proofs.Finding.{found_at}
+use Rattle.house_shared.proofs.Finding.{found_at}
 
 -- what a worker at its position left
-pub work_of : {B : Type 0} (floor : Floor B) (plans : Plans) (guests : List Guest) (i n number : ℕ) (c : ReplyChannel Noted) (p : Vec (Vec ℕ Global) Global) (bytes : List (Vec ℕ Global)) (w : Worked B)
+pub work_of : {B : Type 0} (shared : HouseShared B) (plans : Plans) (guests : List Guest) (i n number : ℕ) (c : ReplyChannel Noted) (p : Vec (Vec ℕ Global) Global) (bytes : List (Vec ℕ Global)) (w : Worked B)
     → i ≡ n → n < length plans → number ≡ n → bytes ≡ (slice_index_or plans i p).items
-    → IsWorked floor.office (slice_index_or floor.depot.channels.items i c) number (map (λ b. b.items) bytes) w → (w.fate ≡ Whole → verdicts_in (received w.receiver) ≡ copies_in (map said w.ended.items))
-    → (w.fate ≡ Whole → IsBackedBy number w.dispatch (received w.receiver) (map said w.ended.items)) → IsProduceOf floor plans guests n w
-work_of floor plans guests i n number c p bytes w same under of are worked only backed =
-    let own = subst (λ (x : ℕ). IsWorked floor.office (slice_index_or floor.depot.channels.items i c) x (map (λ b. b.items) bytes) w) of worked in
+    → IsWorked shared.intake (slice_index_or shared.delivery.channels.items i c) number (map (λ b. b.items) bytes) w → (w.fate ≡ Whole → verdicts_in (received w.receiver) ≡ copies_in (map said w.ended.items))
+    → (w.fate ≡ Whole → IsBackedBy number w.dispatch (received w.receiver) (map said w.ended.items)) → IsProduceOf shared plans guests n w
+work_of shared plans guests i n number c p bytes w same under of are worked only backed =
+    let own = subst (λ (x : ℕ). IsWorked shared.intake (slice_index_or shared.delivery.channels.items i c) x (map (λ b. b.items) bytes) w) of worked in
     record {
       ended = own.0;
-      receiver = λ channel at. subst (λ (x : ReplyChannel Noted). IsReceiver x w.receiver) (found_at floor.depot.channels.items i n c channel same at) own.1;
+      receiver = λ channel at. subst (λ (x : ReplyChannel Noted). IsReceiver x w.receiver) (found_at shared.delivery.channels.items i n c channel same at) own.1;
       seat = own.2;
       only = only;
       backed = λ whole. subst (λ (x : ℕ). IsBackedBy x w.dispatch (received w.receiver) (map said w.ended.items)) of (backed whole);
       worker = λ plan at whole.
-          subst (λ (x : List (Vec ℕ Global)). Account (premises_of floor.office) n (map (λ b. b.items) x) (map (λ b. b.items) w.replies.items) w.log.notes (received w.receiver) (map said w.ended.items))
+          subst (λ (x : List (Vec ℕ Global)). Account (premises_of shared.intake) n (map (λ b. b.items) x) (map (λ b. b.items) w.replies.items) w.log.notes (received w.receiver) (map said w.ended.items))
           (are ∙ ap (λ (v : Vec (Vec ℕ Global) Global). v.items) (found_at plans i n p plan same at)) (own.3 whole);
       session = λ k guest behind at whole. absurd (omega (arith, under, behind));
     }
@@ -52,32 +52,32 @@ beyond (y ∷ ys) zero x least at = absurd (omega (arith, least))
 beyond (y ∷ ys) (suc n) x least at = beyond ys n x (omega (arith, least)) at
 
 -- what a session at its position left, behind the workers
-pub attended_of : {B : Type 0} (floor : Floor B) (plans : Plans) (guests : List Guest) (i n s seat : ℕ) (c : ReplyChannel Noted) (g : Guest) (w : Worked B)
+pub attended_of : {B : Type 0} (shared : HouseShared B) (plans : Plans) (guests : List Guest) (i n s seat : ℕ) (c : ReplyChannel Noted) (g : Guest) (w : Worked B)
     → i ≡ n → length plans ≤ n → s + length plans ≡ n → seat ≡ n → g ≡ slice_index_or guests s g
-    → IsAttended floor (slice_index_or floor.depot.channels.items i c) seat g w → IsProduceOf floor plans guests n w
-attended_of floor plans guests i n s seat c g w same behind counts of is attended =
-    let own = subst (λ (x : ℕ). IsAttended floor (slice_index_or floor.depot.channels.items i c) x g w) of attended in
+    → IsAttended shared (slice_index_or shared.delivery.channels.items i c) seat g w → IsProduceOf shared plans guests n w
+attended_of shared plans guests i n s seat c g w same behind counts of is attended =
+    let own = subst (λ (x : ℕ). IsAttended shared (slice_index_or shared.delivery.channels.items i c) x g w) of attended in
     record {
       ended = own.0;
-      receiver = λ channel at. subst (λ (x : ReplyChannel Noted). IsReceiver x w.receiver) (found_at floor.depot.channels.items i n c channel same at) own.1;
+      receiver = λ channel at. subst (λ (x : ReplyChannel Noted). IsReceiver x w.receiver) (found_at shared.delivery.channels.items i n c channel same at) own.1;
       seat = own.2;
       only = own.3;
       backed = own.5;
       worker = λ plan at whole. absurd (beyond plans n plan behind at);
       session = λ k guest here at whole.
-          subst (λ (x : Guest). SessionAccount (premises_of floor.office) (length floor.depot.mailboxes.items) floor.turns n x (map (λ b. b.items) w.replies.items) w.log.notes (received w.receiver) (map said w.ended.items))
+          subst (λ (x : Guest). SessionAccount (premises_of shared.intake) (length shared.delivery.mailboxes.items) shared.turns n x (map (λ b. b.items) w.replies.items) w.log.notes (received w.receiver) (map said w.ended.items))
           (is ∙ found_at guests s k g guest (omega (arith, counts, here)) at) (own.4 whole);
     }
 
 -- what is left of a producer that stood down
-pub stood_down : {B : Type 0} (floor : Floor B) (plans : Plans) (guests : List Guest) (n number : ℕ) (receiver : ReceiverPermit Noted) (w r : Worked B)
-    → number ≡ n → r ≡ w → AreEnded floor.office.lanes.items number w.ended.items → w.receiver ≡ receiver → w.log.seat ≡ number → w.fate ≡ NotBegun
-    → ((channel : ReplyChannel Noted) → slice_get floor.depot.channels.items n ≡ Some channel → IsReceiver channel receiver)
-    → IsProduceOf floor plans guests n r
-stood_down floor plans guests n number receiver w r of is ended same seat fate hears =
+pub stood_down : {B : Type 0} (shared : HouseShared B) (plans : Plans) (guests : List Guest) (n number : ℕ) (receiver : ReceiverPermit Noted) (w r : Worked B)
+    → number ≡ n → r ≡ w → AreEnded shared.intake.lanes.items number w.ended.items → w.receiver ≡ receiver → w.log.seat ≡ number → w.fate ≡ NotBegun
+    → ((channel : ReplyChannel Noted) → slice_get shared.delivery.channels.items n ≡ Some channel → IsReceiver channel receiver)
+    → IsProduceOf shared plans guests n r
+stood_down shared plans guests n number receiver w r of is ended same seat fate hears =
     let not_whole : w.fate ≡ Whole → ⊥ = λ whole. (let e : NotBegun ≡ Whole = sym fate ∙ whole in cc) in
-    subst (IsProduceOf floor plans guests n) (sym is) (record {
-      ended = subst (λ (x : ℕ). AreEnded floor.office.lanes.items x w.ended.items) of ended;
+    subst (IsProduceOf shared plans guests n) (sym is) (record {
+      ended = subst (λ (x : ℕ). AreEnded shared.intake.lanes.items x w.ended.items) of ended;
       receiver = λ channel at. subst (IsReceiver channel) (sym same) (hears channel at);
       seat = seat ∙ of;
       only = λ whole. absurd (not_whole whole);
@@ -86,14 +86,14 @@ stood_down floor plans guests n number receiver w r of is ended same seat fate h
       session = λ k guest behind at whole. absurd (not_whole whole);
     })
 
-pub service_of : {B : Type 0} (floor : Floor B) (i n shard : ℕ) (q : ShardQueue Job) (before : List (List (Entry Noted))) (c r : Consumed B)
-    → i ≡ n → shard ≡ n → r ≡ c → All (λ e. e ≡ []) before → IsConsumed (slice_index_or floor.office.lanes.items i q) floor.depot shard before c → IsServiceOf floor n r
-service_of floor i n shard q before c r same of is fresh consumed = record {
+pub service_of : {B : Type 0} (shared : HouseShared B) (i n shard : ℕ) (q : ShardQueue Job) (before : List (List (Entry Noted))) (c r : Consumed B)
+    → i ≡ n → shard ≡ n → r ≡ c → All (λ e. e ≡ []) before → IsConsumed (slice_index_or shared.intake.lanes.items i q) shared.delivery shard before c → IsServiceOf shared n r
+service_of shared i n shard q before c r same of is fresh consumed = record {
   each = λ lane at. (
     before,
     fresh,
-    subst (IsConsumed lane floor.depot n before) (sym is)
-        (subst (λ (x : ShardQueue Job). IsConsumed x floor.depot n before c) (found_at floor.office.lanes.items i n q lane same at)
-        (subst (λ (x : ℕ). IsConsumed (slice_index_or floor.office.lanes.items i q) floor.depot x before c) of consumed)),
+    subst (IsConsumed lane shared.delivery n before) (sym is)
+        (subst (λ (x : ShardQueue Job). IsConsumed x shared.delivery n before c) (found_at shared.intake.lanes.items i n q lane same at)
+        (subst (λ (x : ℕ). IsConsumed (slice_index_or shared.intake.lanes.items i q) shared.delivery x before c) of consumed)),
   );
 }

@@ -8,33 +8,34 @@ ghost use Rattle.shard_queue.specs.Reply.{sent_on};
 ghost use Rattle.shard_queue.specs.Permits.{IsConsumer, got};
 ghost use Rattle.lane_work.specs.Consuming.{IsConsumed};
 ghost use Rattle.lane_work.specs.Permits.{AreEnded, ArePermits, AreSenders};
-ghost use Rattle.house_floor.specs.Left.{IsPostLeft};
+ghost use Rattle.house_shared.specs.Left.{IsPostLeft};
 
 use delivery_token::WorkerLog;
-use house_floor::{Post, Stand};
 use house_history::Naming;
+use house_shared::{Post, Stand};
 use lane_work::{
-    Consumed, Depot, Desk, Fate, Office, Stall, Summons, Worked, end_all, end_permit, end_senders,
+    Consumed, Delivery, Desk, Fate, Intake, Notifier, Stall, Worked, end_all, end_permit,
+    end_senders,
 };
 use std::alloc::Global;
 use std::sync::Wait;
-use workers_sync::{Gate, Pace};
+use workers_sync::{Gate, SyncPoint};
 
 /// A producer that has no thread: it ends its permit on each lane, and hears nothing. To wait for the ends
 /// of its channel would be to wait for ever: they come when each producer's permits have ended, and this
 /// thread ends those of the producers behind it.
-pub(crate) fn stand_down<B: Naming, R: Wait, G: Gate, S: Summons>(
+pub(crate) fn stand_down<B: Naming, R: Wait, G: Gate, S: Notifier>(
     rt: &R,
     alloc: Global,
-    pace: &mut Pace<'_, G>,
-    office: &Office<B>,
-    summons: &S,
+    sync_point: &mut SyncPoint<'_, G>,
+    intake: &Intake<B>,
+    notifier: &S,
     post: Post<B>,
 ) -> Worked<B>
-    requires permits { ArePermits office.now.lanes.items post.desk.number post.desk.permits.items }
+    requires permits { ArePermits intake.now.lanes.items post.desk.number post.desk.permits.items }
     requires room { (post.room.items ≡ [])
-        × (length office.now.lanes.items ≤ vec_capacity post.room) }
-    ensures permits { AreEnded office.now.lanes.items post.desk.number result.ended.items }
+        × (length intake.now.lanes.items ≤ vec_capacity post.room) }
+    ensures permits { AreEnded intake.now.lanes.items post.desk.number result.ended.items }
     ensures receiver { result.receiver ≡ post.desk.receiver }
     ensures log { result.log.seat ≡ post.desk.number }
     ensures fate { result.fate ≡ Fate.NotBegun }
@@ -48,7 +49,7 @@ pub(crate) fn stand_down<B: Naming, R: Wait, G: Gate, S: Summons>(
         dispatch,
     } = desk;
     let log = WorkerLog::new(alloc, number);
-    let ended = end_all(rt, pace, office, summons, number, permits, room);
+    let ended = end_all(rt, sync_point, intake, notifier, number, permits, room);
     Worked {
         ended,
         receiver,
@@ -63,17 +64,18 @@ pub(crate) fn stand_down<B: Naming, R: Wait, G: Gate, S: Summons>(
 pub(crate) fn step_aside<B: Naming, R: Wait, G: Gate>(
     rt: &R,
     alloc: Global,
-    pace: &mut Pace<'_, G>,
-    depot: &Depot<B>,
+    sync_point: &mut SyncPoint<'_, G>,
+    delivery: &Delivery<B>,
     stand: Stand<B>,
 ) -> Consumed<B>
-    requires senders { AreSenders depot.now.channels.items stand.stall.shard
+    requires senders { AreSenders delivery.now.channels.items stand.stall.shard
         stand.stall.senders.items }
     requires room { (stand.room.items ≡ [])
-        × (length depot.now.channels.items ≤ vec_capacity stand.room) }
+        × (length delivery.now.channels.items ≤ vec_capacity stand.room) }
     requires fresh { got stand.stall.permit ≡ [] }
     ensures { (lane : ShardQueue Job) → IsConsumer lane stand.stall.permit →
-        IsConsumed lane depot.now stand.stall.shard (map sent_on stand.stall.senders.items) result }
+        IsConsumed lane delivery.now stand.stall.shard
+        (map sent_on stand.stall.senders.items) result }
 {
     let Stand { stall, room } = stand;
     let Stall {
@@ -82,7 +84,7 @@ pub(crate) fn step_aside<B: Naming, R: Wait, G: Gate>(
         senders,
         bell: _,
     } = stall;
-    let senders = end_senders(rt, pace, &depot.channels, shard, senders, room);
+    let senders = end_senders(rt, sync_point, &delivery.channels, shard, senders, room);
     Consumed {
         permit,
         senders,
@@ -94,19 +96,19 @@ pub(crate) fn step_aside<B: Naming, R: Wait, G: Gate>(
 
 /// A producer that isn't to begin: it ends its permits on the first lanes, whose consumers run, and keeps
 /// the others.
-pub(crate) fn end_first<B: Naming, R: Wait, G: Gate, S: Summons>(
+pub(crate) fn end_first<B: Naming, R: Wait, G: Gate, S: Notifier>(
     rt: &R,
-    pace: &mut Pace<'_, G>,
-    office: &Office<B>,
-    summons: &S,
+    sync_point: &mut SyncPoint<'_, G>,
+    intake: &Intake<B>,
+    notifier: &S,
     post: Post<B>,
     manned: usize,
 ) -> Post<B>
-    requires permits { ArePermits office.now.lanes.items post.desk.number post.desk.permits.items }
+    requires permits { ArePermits intake.now.lanes.items post.desk.number post.desk.permits.items }
     requires room { (post.room.items ≡ [])
-        × (length office.now.lanes.items ≤ vec_capacity post.room) }
-    requires manned { manned ≤ length office.now.lanes.items }
-    ensures { IsPostLeft (length office.now.lanes.items) result }
+        × (length intake.now.lanes.items ≤ vec_capacity post.room) }
+    requires manned { manned ≤ length intake.now.lanes.items }
+    ensures { IsPostLeft (length intake.now.lanes.items) result }
 {
     let Post { desk, mut room } = post;
     let Desk {
@@ -118,8 +120,8 @@ pub(crate) fn end_first<B: Naming, R: Wait, G: Gate, S: Summons>(
     } = desk;
     for lane in 0..manned {
         let permit = permits.remove(0);
-        room.push_reserved(end_permit(rt, pace, &office.lanes[lane], permit));
-        summons.summon(rt, lane);
+        room.push_reserved(end_permit(rt, sync_point, &intake.lanes[lane], permit));
+        notifier.notify(rt, lane);
     }
     Post {
         desk: Desk {

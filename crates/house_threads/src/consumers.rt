@@ -2,36 +2,36 @@
 
 ghost use Rattle.std.specs.Prelude.{ℕ, ◌≡◌, ◌≤◌, ◌<◌, [], length, vec_len, vec_capacity};
 ghost use Rattle.std.specs.Mem.{manually_drop_value};
-ghost use Rattle.house_floor.specs.Crew.{AllAt, IsStand};
-ghost use Rattle.house_floor.specs.Left.{IsServiceOf};
+ghost use Rattle.house_shared.specs.Crew.{AllAt, IsStand};
+ghost use Rattle.house_shared.specs.Left.{IsServiceOf};
 ghost use Rattle.house_threads.specs.inner.Crew.{IsKept};
 
 use crate::aside::step_aside;
 use crate::parcels::{Manned, mark, packed};
-use house_floor::{Floor, Stand};
 use house_history::Naming;
+use house_shared::{HouseShared, Stand};
 use lane_work::{Consumed, consume};
 use std::mem::ManuallyDrop;
 use std::sync::Wait;
 use std::sync::atomic::Ordering;
 use std::thread;
 use std::thread::{Promise, Threads};
-use workers_sync::{Actor, Gate, Pace};
+use workers_sync::{Actor, Gate, SyncPoint};
 
 /// What the thread of this shard's consumer is to return: what a consumer's life there leaves.
 #[derive_where(Clone, Copy)]
 pub struct Serves<'a, B: Naming> {
     /// What all threads share.
-    pub floor: &'a Floor<B>,
+    pub shared: &'a HouseShared<B>,
     /// The number of its shard, from 0.
     pub shard: u8,
 }
 
 impl<'a, B: Naming> Promise<ManuallyDrop<Consumed<B>>> for Serves<'a, B> {
     ghost use Rattle.std.specs.Mem.{manually_drop_value};
-    ghost use Rattle.house_floor.specs.Left.{IsServiceOf};
+    ghost use Rattle.house_shared.specs.Left.{IsServiceOf};
 
-    ghost kept_by = { λ p r. IsServiceOf p.floor.now p.shard (manually_drop_value r) };
+    ghost kept_by = { λ p r. IsServiceOf p.shared.now p.shard (manually_drop_value r) };
 }
 
 /// A consumer's thread, or what came of its consumer where there is none.
@@ -44,33 +44,33 @@ pub(crate) enum Kept<'a, B: Naming> {
 // A consumer's life, in a thread of its own; where no thread is to be had it steps aside.
 fn consume_there<B: Naming, R: Wait, G: Gate>(
     rt: &R,
-    floor: &Floor<B>,
+    shared: &HouseShared<B>,
     gate: &G,
     shard: u8,
     stand: ManuallyDrop<Stand<B>>,
     manned: &Manned,
 ) -> ManuallyDrop<Consumed<B>>
-    requires shard { shard < length floor.now.office.lanes.items }
-    requires stand { IsStand floor.now shard (manually_drop_value stand) }
-    ensures { IsServiceOf floor.now shard (manually_drop_value result) }
+    requires shard { shard < length shared.now.intake.lanes.items }
+    requires stand { IsStand shared.now shard (manually_drop_value stand) }
+    ensures { IsServiceOf shared.now shard (manually_drop_value result) }
 {
     let position = usize::from(shard);
     let stand = ManuallyDrop::into_inner(stand);
-    let mut pace = Pace::new(gate, Actor::Consumer(shard));
+    let mut sync_point = SyncPoint::new(gate, Actor::Consumer(shard));
     if manned.shards.load(Ordering::SeqCst) <= u64::from(shard) {
-        let aside = step_aside(rt, floor.alloc, &mut pace, &floor.depot, stand);
+        let aside = step_aside(rt, shared.alloc, &mut sync_point, &shared.delivery, stand);
         return packed(aside);
     }
     let Stand { stall, room } = stand;
     packed(consume(
         rt,
-        &mut pace,
-        &floor.depot,
-        &floor.office.lanes[position],
+        &mut sync_point,
+        &shared.delivery,
+        &shared.intake.lanes[position],
         stall,
         room,
-        Vec::new(floor.alloc),
-        floor.depot.channels.len(),
+        Vec::new(shared.alloc),
+        shared.delivery.channels.len(),
     ))
 }
 
@@ -79,19 +79,19 @@ fn consume_there<B: Naming, R: Wait, G: Gate>(
 fn start_consumer<'s, E, B: Naming + Send + Sync, R: Threads + Wait + Sync, G: Gate + Sync>(
     scope: &thread::Scope<'s, E>,
     rt: &'s R,
-    floor: &'s Floor<B>,
+    shared: &'s HouseShared<B>,
     gate: &'s G,
     shard: u8,
     stand: Stand<B>,
     manned: &'s Manned,
 ) -> Kept<'s, B>
-    requires shard { shard < length floor.now.office.lanes.items }
-    requires stand { IsStand floor.now shard stand }
-    ensures { IsKept floor.now shard result }
+    requires shard { shard < length shared.now.intake.lanes.items }
+    requires stand { IsStand shared.now shard stand }
+    ensures { IsKept shared.now shard result }
 {
     let parcel = packed(stand);
-    match scope.spawn_with(Serves { floor, shard }, move || {
-        consume_there(rt, floor, gate, shard, parcel, manned)
+    match scope.spawn_with(Serves { shared, shard }, move || {
+        consume_there(rt, shared, gate, shard, parcel, manned)
     }) {
         Ok(child) => Kept::There(child),
         Err(refused) => {
@@ -123,24 +123,24 @@ pub(crate) fn start_consumers<
 >(
     scope: &thread::Scope<'s, E>,
     rt: &'s R,
-    floor: &'s Floor<B>,
+    shared: &'s HouseShared<B>,
     gate: &'s G,
     mut stands: Vec<Stand<B>>,
     mut kept: Vec<Kept<'s, B>>,
     manned: &'s Manned,
 ) -> (Vec<Kept<'s, B>>, usize)
-    requires few { length floor.now.office.lanes.items < 256 }
-    requires stands { AllAt (IsStand floor.now) 0 stands.items
-        × (vec_len stands ≡ length floor.now.office.lanes.items) }
-    requires room { (kept.items ≡ []) × (length floor.now.office.lanes.items ≤ vec_capacity kept) }
-    ensures kept { AllAt (IsKept floor.now) 0 result.0.items }
-    ensures count { vec_len result.0 ≡ length floor.now.office.lanes.items }
-    ensures first { result.1 ≤ length floor.now.office.lanes.items }
+    requires few { length shared.now.intake.lanes.items < 256 }
+    requires stands { AllAt (IsStand shared.now) 0 stands.items
+        × (vec_len stands ≡ length shared.now.intake.lanes.items) }
+    requires room { (kept.items ≡ []) × (length shared.now.intake.lanes.items ≤ vec_capacity kept) }
+    ensures kept { AllAt (IsKept shared.now) 0 result.0.items }
+    ensures count { vec_len result.0 ≡ length shared.now.intake.lanes.items }
+    ensures first { result.1 ≤ length shared.now.intake.lanes.items }
 {
-    let mut first = floor.office.lanes.len();
-    for position in 0..floor.office.lanes.len() {
+    let mut first = shared.intake.lanes.len();
+    for position in 0..shared.intake.lanes.len() {
         let stand = stands.remove(0);
-        let one = start_consumer(scope, rt, floor, gate, position as u8, stand, manned);
+        let one = start_consumer(scope, rt, shared, gate, position as u8, stand, manned);
         let is_there = matches!(one, Kept::There(_));
         first = first_without(first, position, is_there);
         kept.push_reserved(one);
@@ -149,8 +149,12 @@ pub(crate) fn start_consumers<
     (kept, first)
 }
 
-fn join_consumer<B: Naming, R: Threads>(rt: &R, floor: &Floor<B>, kept: Kept<'_, B>) -> Consumed<B>
-    ensures { (n : ℕ) → IsKept floor.now n kept.entry → IsServiceOf floor.now n result }
+fn join_consumer<B: Naming, R: Threads>(
+    rt: &R,
+    shared: &HouseShared<B>,
+    kept: Kept<'_, B>,
+) -> Consumed<B>
+    ensures { (n : ℕ) → IsKept shared.now n kept.entry → IsServiceOf shared.now n result }
 {
     match kept {
         Kept::There(child) => ManuallyDrop::into_inner(child.join(rt)),
@@ -161,17 +165,17 @@ fn join_consumer<B: Naming, R: Threads>(rt: &R, floor: &Floor<B>, kept: Kept<'_,
 /// Waits for each consumer's end.
 pub(crate) fn join_consumers<B: Naming, R: Threads>(
     rt: &R,
-    floor: &Floor<B>,
+    shared: &HouseShared<B>,
     kept: Vec<Kept<'_, B>>,
     mut consumed: Vec<Consumed<B>>,
 ) -> Vec<Consumed<B>>
-    requires kept { AllAt (IsKept floor.now) 0 kept.items }
+    requires kept { AllAt (IsKept shared.now) 0 kept.items }
     requires room { (consumed.items ≡ []) × (vec_len kept ≤ vec_capacity consumed) }
-    ensures consumed { AllAt (IsServiceOf floor.now) 0 result.items }
+    ensures consumed { AllAt (IsServiceOf shared.now) 0 result.items }
     ensures count { vec_len result ≡ vec_len kept.entry }
 {
     for one in kept {
-        consumed.push_reserved(join_consumer(rt, floor, one));
+        consumed.push_reserved(join_consumer(rt, shared, one));
     }
     consumed
 }

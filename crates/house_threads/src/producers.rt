@@ -3,29 +3,29 @@
 
 ghost use Rattle.std.specs.Prelude.{ℕ, ◌≡◌, ◌≤◌, ◌<◌, ◌+◌, [], length, vec_len, vec_capacity};
 ghost use Rattle.std.specs.Mem.{manually_drop_value};
-ghost use Rattle.house_floor.specs.Crew.{AllAt, AreGuests, IsHouse, IsPost};
+ghost use Rattle.house_shared.specs.Crew.{AllAt, AreGuests, IsHouse, IsPost};
 ghost use Rattle.reckoning.specs.Produced.{IsProduceOf};
-ghost use Rattle.house_threads.specs.inner.Crew.{IsHired};
+ghost use Rattle.house_threads.specs.inner.Crew.{IsSpawned};
 
 use crate::aside::stand_down;
 use crate::parcels::{Manned, mark, packed};
 use crate::sessions::attend;
-use house_floor::{Floor, Guest, Post};
 use house_history::Naming;
+use house_shared::{Guest, HouseShared, Post};
 use lane_work::{Context, Worked, work};
 use std::mem::ManuallyDrop;
 use std::sync::Wait;
 use std::sync::atomic::Ordering;
 use std::thread;
 use std::thread::{Promise, Threads};
-use workers_sync::{Actor, Gate, Pace};
+use workers_sync::{Actor, Gate, SyncPoint};
 
 /// What the thread of this producer is to return: what a worker's life with its connections leaves, or, behind the workers, what a
 /// session's life with its steps does.
 #[derive_where(Clone, Copy)]
 pub struct Produces<'a, B: Naming> {
     /// What all threads share.
-    pub floor: &'a Floor<B>,
+    pub shared: &'a HouseShared<B>,
     /// For each worker, for each of its connections, the bytes that come.
     pub plans: &'a [Vec<Vec<u8>>],
     /// The sessions, whose numbers follow the workers'.
@@ -38,12 +38,12 @@ impl<'a, B: Naming> Promise<ManuallyDrop<Worked<B>>> for Produces<'a, B> {
     ghost use Rattle.std.specs.Mem.{manually_drop_value};
     ghost use Rattle.reckoning.specs.Produced.{IsProduceOf};
 
-    ghost kept_by = { λ p r. IsProduceOf p.floor.now p.plans.now p.guests.now p.number (manually_drop_value r) };
+    ghost kept_by = { λ p r. IsProduceOf p.shared.now p.plans.now p.guests.now p.number (manually_drop_value r) };
 }
 
 /// A producer's thread, or what came of it where there is none.
 #[derive(Drop)]
-pub(crate) enum Hired<'a, B: Naming> {
+pub(crate) enum Spawned<'a, B: Naming> {
     There(thread::PromisedHandle<ManuallyDrop<Worked<B>>, Produces<'a, B>>),
     Here(ManuallyDrop<Worked<B>>),
 }
@@ -61,53 +61,53 @@ pub(crate) fn actor_of(workers: usize, number: u8) -> Actor {
 // A worker's life.
 fn work_at<B: Naming, R: Wait, G: Gate>(
     rt: &R,
-    floor: &Floor<B>,
+    shared: &HouseShared<B>,
     gate: &G,
     plans: &[Vec<Vec<u8>>],
     guests: &[Guest],
     number: u8,
     post: Post<B>,
 ) -> Worked<B>
-    requires house { IsHouse floor.now (length plans.now + length guests.now) }
+    requires house { IsHouse shared.now (length plans.now + length guests.now) }
     requires number { number < length plans.now }
-    requires post { IsPost floor.now number post }
-    ensures { IsProduceOf floor.now plans.now guests.now number result }
+    requires post { IsPost shared.now number post }
+    ensures { IsProduceOf shared.now plans.now guests.now number result }
 {
     let position = usize::from(number);
     let context = Context {
         rt,
-        alloc: floor.alloc,
-        office: &floor.office,
-        summons: &floor.bells,
-        channel: &floor.depot.channels[position],
+        alloc: shared.alloc,
+        intake: &shared.intake,
+        notifier: &shared.bells,
+        channel: &shared.delivery.channels[position],
     };
-    let pace = Pace::new(gate, Actor::Worker(number));
+    let sync_point = SyncPoint::new(gate, Actor::Worker(number));
     let Post { desk, room } = post;
-    work(&context, pace, desk, room, plans[position].as_slice())
+    work(&context, sync_point, desk, room, plans[position].as_slice())
 }
 
 // A session's life.
 fn attend_at<B: Naming, R: Wait, G: Gate>(
     rt: &R,
-    floor: &Floor<B>,
+    shared: &HouseShared<B>,
     gate: &G,
     plans: &[Vec<Vec<u8>>],
     guests: &[Guest],
     number: u8,
     post: Post<B>,
 ) -> Worked<B>
-    requires house { IsHouse floor.now (length plans.now + length guests.now) }
-    requires guests { AreGuests floor.now guests.now }
+    requires house { IsHouse shared.now (length plans.now + length guests.now) }
+    requires guests { AreGuests shared.now guests.now }
     requires behind { length plans.now ≤ number }
     requires number { number < length plans.now + length guests.now }
-    requires post { IsPost floor.now number post }
-    ensures { IsProduceOf floor.now plans.now guests.now number result }
+    requires post { IsPost shared.now number post }
+    ensures { IsProduceOf shared.now plans.now guests.now number result }
 {
     let session = usize::from(number) - plans.len();
-    let channel = &floor.depot.channels[usize::from(number)];
+    let channel = &shared.delivery.channels[usize::from(number)];
     attend(
         rt,
-        floor,
+        shared,
         gate,
         channel,
         &guests[session],
@@ -119,7 +119,7 @@ fn attend_at<B: Naming, R: Wait, G: Gate>(
 // A producer's life, in a thread of its own; where no thread is to be had it stands down.
 fn produce_there<B: Naming, R: Wait, G: Gate>(
     rt: &R,
-    floor: &Floor<B>,
+    shared: &HouseShared<B>,
     gate: &G,
     plans: &[Vec<Vec<u8>>],
     guests: &[Guest],
@@ -127,22 +127,22 @@ fn produce_there<B: Naming, R: Wait, G: Gate>(
     post: ManuallyDrop<Post<B>>,
     manned: &Manned,
 ) -> ManuallyDrop<Worked<B>>
-    requires house { IsHouse floor.now (length plans.now + length guests.now) }
-    requires guests { AreGuests floor.now guests.now }
+    requires house { IsHouse shared.now (length plans.now + length guests.now) }
+    requires guests { AreGuests shared.now guests.now }
     requires number { number < length plans.now + length guests.now }
-    requires post { IsPost floor.now number (manually_drop_value post) }
-    ensures { IsProduceOf floor.now plans.now guests.now number (manually_drop_value result) }
+    requires post { IsPost shared.now number (manually_drop_value post) }
+    ensures { IsProduceOf shared.now plans.now guests.now number (manually_drop_value result) }
 {
     let post = ManuallyDrop::into_inner(post);
     if manned.producers.load(Ordering::SeqCst) <= u64::from(number) {
-        let mut pace = Pace::new(gate, actor_of(plans.len(), number));
-        let (office, bells) = (&floor.office, &floor.bells);
-        return packed(stand_down(rt, floor.alloc, &mut pace, office, bells, post));
+        let mut sync_point = SyncPoint::new(gate, actor_of(plans.len(), number));
+        let (intake, bells) = (&shared.intake, &shared.bells);
+        return packed(stand_down(rt, shared.alloc, &mut sync_point, intake, bells, post));
     }
     if usize::from(number) < plans.len() {
-        packed(work_at(rt, floor, gate, plans, guests, number, post))
+        packed(work_at(rt, shared, gate, plans, guests, number, post))
     } else {
-        packed(attend_at(rt, floor, gate, plans, guests, number, post))
+        packed(attend_at(rt, shared, gate, plans, guests, number, post))
     }
 }
 
@@ -151,34 +151,34 @@ fn produce_there<B: Naming, R: Wait, G: Gate>(
 fn start_producer<'s, E, B: Naming + Send + Sync, R: Threads + Wait + Sync, G: Gate + Sync>(
     scope: &thread::Scope<'s, E>,
     rt: &'s R,
-    floor: &'s Floor<B>,
+    shared: &'s HouseShared<B>,
     gate: &'s G,
     plans: &'s [Vec<Vec<u8>>],
     guests: &'s [Guest],
     number: u8,
     post: Post<B>,
     manned: &'s Manned,
-) -> Hired<'s, B>
-    requires house { IsHouse floor.now (length plans.now + length guests.now) }
-    requires guests { AreGuests floor.now guests.now }
+) -> Spawned<'s, B>
+    requires house { IsHouse shared.now (length plans.now + length guests.now) }
+    requires guests { AreGuests shared.now guests.now }
     requires number { number < length plans.now + length guests.now }
-    requires post { IsPost floor.now number post }
-    ensures { IsHired floor.now plans.now guests.now number result }
+    requires post { IsPost shared.now number post }
+    ensures { IsSpawned shared.now plans.now guests.now number result }
 {
     let parcel = packed(post);
     let promise = Produces {
-        floor,
+        shared,
         plans,
         guests,
         number,
     };
     match scope.spawn_with(promise, move || {
-        produce_there(rt, floor, gate, plans, guests, number, parcel, manned)
+        produce_there(rt, shared, gate, plans, guests, number, parcel, manned)
     }) {
-        Ok(child) => Hired::There(child),
+        Ok(child) => Spawned::There(child),
         Err(refused) => {
             mark(&manned.producers, number);
-            Hired::Here((refused.value)())
+            Spawned::Here((refused.value)())
         }
     }
 }
@@ -193,67 +193,67 @@ pub(crate) fn start_producers<
 >(
     scope: &thread::Scope<'s, E>,
     rt: &'s R,
-    floor: &'s Floor<B>,
+    shared: &'s HouseShared<B>,
     gate: &'s G,
     plans: &'s [Vec<Vec<u8>>],
     guests: &'s [Guest],
     mut posts: Vec<Post<B>>,
-    mut hired: Vec<Hired<'s, B>>,
+    mut spawned: Vec<Spawned<'s, B>>,
     manned: &'s Manned,
-) -> (Vec<Hired<'s, B>>, bool)
-    requires house { IsHouse floor.now (length plans.now + length guests.now) }
-    requires guests { AreGuests floor.now guests.now }
-    requires posts { AllAt (IsPost floor.now) 0 posts.items
+) -> (Vec<Spawned<'s, B>>, bool)
+    requires house { IsHouse shared.now (length plans.now + length guests.now) }
+    requires guests { AreGuests shared.now guests.now }
+    requires posts { AllAt (IsPost shared.now) 0 posts.items
         × (vec_len posts ≡ length plans.now + length guests.now) }
-    requires room { (hired.items ≡ [])
-        × (length plans.now + length guests.now ≤ vec_capacity hired) }
-    ensures hired { AllAt (IsHired floor.now plans.now guests.now) 0 result.0.items }
+    requires room { (spawned.items ≡ [])
+        × (length plans.now + length guests.now ≤ vec_capacity spawned) }
+    ensures spawned { AllAt (IsSpawned shared.now plans.now guests.now) 0 result.0.items }
     ensures count { vec_len result.0 ≡ length plans.now + length guests.now }
 {
     let mut all = true;
     for position in 0..plans.len() + guests.len() {
         let post = posts.remove(0);
         let number = position as u8;
-        let one = start_producer(scope, rt, floor, gate, plans, guests, number, post, manned);
-        all = all && matches!(one, Hired::There(_));
-        hired.push_reserved(one);
+        let one = start_producer(scope, rt, shared, gate, plans, guests, number, post, manned);
+        all = all && matches!(one, Spawned::There(_));
+        spawned.push_reserved(one);
     }
     posts.destroy_empty();
-    (hired, all)
+    (spawned, all)
 }
 
 fn join_producer<B: Naming, R: Threads>(
     rt: &R,
-    floor: &Floor<B>,
+    shared: &HouseShared<B>,
     plans: &[Vec<Vec<u8>>],
     guests: &[Guest],
-    hired: Hired<'_, B>,
+    spawned: Spawned<'_, B>,
 ) -> Worked<B>
-    ensures { (n : ℕ) → IsHired floor.now plans.now guests.now n hired.entry
-        → IsProduceOf floor.now plans.now guests.now n result }
+    ensures { (n : ℕ) → IsSpawned shared.now plans.now guests.now n spawned.entry
+        → IsProduceOf shared.now plans.now guests.now n result }
 {
-    match hired {
-        Hired::There(child) => ManuallyDrop::into_inner(child.join(rt)),
-        Hired::Here(worked) => ManuallyDrop::into_inner(worked),
+    match spawned {
+        Spawned::There(child) => ManuallyDrop::into_inner(child.join(rt)),
+        Spawned::Here(worked) => ManuallyDrop::into_inner(worked),
     }
 }
 
 /// Waits for each producer's end.
 pub(crate) fn join_producers<B: Naming, R: Threads>(
     rt: &R,
-    floor: &Floor<B>,
+    shared: &HouseShared<B>,
     plans: &[Vec<Vec<u8>>],
     guests: &[Guest],
-    hired: Vec<Hired<'_, B>>,
+    spawned: Vec<Spawned<'_, B>>,
     mut worked: Vec<Worked<B>>,
 ) -> Vec<Worked<B>>
-    requires hired { AllAt (IsHired floor.now plans.now guests.now) 0 hired.items }
-    requires room { (worked.items ≡ []) × (vec_len hired ≤ vec_capacity worked) }
-    ensures worked { AllAt (IsProduceOf floor.now plans.now guests.now) 0 result.items }
-    ensures count { vec_len result ≡ vec_len hired.entry }
+    requires spawned { AllAt (IsSpawned shared.now plans.now guests.now) 0 spawned.items }
+    requires room { (worked.items ≡ []) × (vec_len spawned ≤ vec_capacity worked) }
+    ensures worked { AllAt (IsProduceOf shared.now plans.now guests.now) 0 result.items }
+    ensures count { vec_len result ≡ vec_len spawned.entry }
 {
-    for one in hired {
-        worked.push_reserved(join_producer(rt, floor, plans, guests, one));
+    for one in spawned {
+        worked.push_reserved(join_producer(rt, shared, plans, guests, one));
     }
     worked
 }

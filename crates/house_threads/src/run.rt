@@ -4,17 +4,17 @@
 ghost use Rattle.std.specs.Prelude.{ℕ, ◌≡◌, ◌≤◌, ◌<◌, ◌+◌, [], All, IfOk, length, vec_len, vec_capacity};
 ghost use Rattle.std.specs.Mem.{manually_drop_value};
 ghost use Rattle.std.specs.Thread.{IsSend, IsSync};
-ghost use Rattle.house_floor.specs.Crew.{AllAt, AreGuests, IsCrew, IsHouse, IsPost};
-ghost use Rattle.house_floor.specs.declared.floor.Floor.{Floor};
-ghost use Rattle.house_floor.specs.Left.{IsPostLeft, IsServiceOf, IsSpendable, LeavesAll};
+ghost use Rattle.house_shared.specs.Crew.{AllAt, AreGuests, IsCrew, IsHouse, IsPost};
+ghost use Rattle.house_shared.specs.declared.shared.HouseShared.{HouseShared};
+ghost use Rattle.house_shared.specs.Left.{IsPostLeft, IsServiceOf, IsSpendable, LeavesAll};
 ghost use Rattle.reckoning.specs.Produced.{IsProduceOf};
 
 use crate::aside::end_first;
 use crate::consumers::{Kept, join_consumers, start_consumers};
 use crate::parcels::{Manned, packed};
-use crate::producers::{Hired, actor_of, join_producers, start_producers};
-use house_floor::{Crew, Floor, Guest, Post, Ran, Stand, Started};
+use crate::producers::{Spawned, actor_of, join_producers, start_producers};
 use house_history::Naming;
+use house_shared::{Crew, Guest, HouseShared, Post, Ran, Stand, Started};
 use lane_work::{Consumed, Worked};
 use std::alloc::{AllocError, Global};
 use std::mem::ManuallyDrop;
@@ -22,28 +22,35 @@ use std::sync::Wait;
 use std::sync::atomic::AtomicU64;
 use std::thread;
 use std::thread::Threads;
-use workers_sync::{Gate, Pace};
+use workers_sync::{Gate, SyncPoint};
 
 // No producer is to begin: ends their permits on the lanes whose consumers run.
 fn end_posts<B: Naming, R: Wait, G: Gate>(
     rt: &R,
-    floor: &Floor<B>,
+    shared: &HouseShared<B>,
     gate: &G,
     workers: usize,
     mut posts: Vec<Post<B>>,
     mut unmanned: Vec<Post<B>>,
     manned: usize,
 ) -> Vec<Post<B>>
-    requires posts { AllAt (IsPost floor.now) 0 posts.items }
+    requires posts { AllAt (IsPost shared.now) 0 posts.items }
     requires room { (unmanned.items ≡ []) × (vec_len posts ≤ vec_capacity unmanned) }
-    requires manned { manned ≤ length floor.now.office.lanes.items }
+    requires manned { manned ≤ length shared.now.intake.lanes.items }
     ensures count { vec_len result ≡ vec_len posts }
-    ensures left { All (IsPostLeft (length floor.now.office.lanes.items)) result.items }
+    ensures left { All (IsPostLeft (length shared.now.intake.lanes.items)) result.items }
 {
     for done in 0..posts.len() {
         let post = posts.remove(0);
-        let mut pace = Pace::new(gate, actor_of(workers, post.desk.number));
-        unmanned.push_reserved(end_first(rt, &mut pace, &floor.office, &floor.bells, post, manned));
+        let mut sync_point = SyncPoint::new(gate, actor_of(workers, post.desk.number));
+        unmanned.push_reserved(end_first(
+            rt,
+            &mut sync_point,
+            &shared.intake,
+            &shared.bells,
+            post,
+            manned,
+        ));
     }
     posts.destroy_empty();
     unmanned
@@ -52,7 +59,7 @@ fn end_posts<B: Naming, R: Wait, G: Gate>(
 // Room for the handles of all threads, so that none is lost for want of it once a thread runs.
 struct Handles<'a, B: Naming> {
     kept: Vec<Kept<'a, B>>,
-    hired: Vec<Hired<'a, B>>,
+    spawned: Vec<Spawned<'a, B>>,
 }
 
 fn handles_for<'a, B: Naming>(
@@ -61,11 +68,12 @@ fn handles_for<'a, B: Naming>(
     producers: usize,
 ) -> Result<Handles<'a, B>, AllocError>
     ensures kept { IfOk result (λ h. (h.kept.items ≡ []) × (consumers ≤ vec_capacity h.kept)) }
-    ensures hired { IfOk result (λ h. (h.hired.items ≡ []) × (producers ≤ vec_capacity h.hired)) }
+    ensures spawned { IfOk result (λ h. (h.spawned.items ≡ [])
+        × (producers ≤ vec_capacity h.spawned)) }
 {
     Ok(Handles {
         kept: Vec::with_capacity(alloc, consumers)?,
-        hired: Vec::with_capacity(alloc, producers)?,
+        spawned: Vec::with_capacity(alloc, producers)?,
     })
 }
 
@@ -74,9 +82,10 @@ fn none_started<B: Naming>(crew: Crew<B>) -> Ran<B>
     requires none { (crew.worked.items ≡ []) × (crew.consumed.items ≡ [])
         × (crew.unmanned.items ≡ []) }
     ensures none { (result.worked.items ≡ []) × (result.consumed.items ≡ []) }
-    ensures left { (floor : Floor B) (producers : ℕ) → length floor.depot.channels.items ≡ producers
-        → IsCrew floor producers crew →
-        IsSpendable floor producers result }
+    ensures left { (shared : HouseShared B) (producers : ℕ)
+        → length shared.delivery.channels.items ≡ producers
+        → IsCrew shared producers crew →
+        IsSpendable shared producers result }
     ensures started { result.started ≡ Started.NoMemory }
 {
     let Crew {
@@ -101,29 +110,29 @@ fn none_started<B: Naming>(crew: Crew<B>) -> Ran<B>
 fn in_scope<'s, E, B: Naming + Send + Sync, R: Threads + Wait + Sync, G: Gate + Sync>(
     scope: &thread::Scope<'s, E>,
     rt: &'s R,
-    floor: &'s Floor<B>,
+    shared: &'s HouseShared<B>,
     gate: &'s G,
     plans: &'s [Vec<Vec<u8>>],
     guests: &'s [Guest],
     crew: ManuallyDrop<Crew<B>>,
     manned: &'s Manned,
 ) -> Ran<B>
-    requires house { IsHouse floor.now (length plans.now + length guests.now) }
-    requires guests { AreGuests floor.now guests.now }
-    requires crew { IsCrew floor.now (length plans.now
+    requires house { IsHouse shared.now (length plans.now + length guests.now) }
+    requires guests { AreGuests shared.now guests.now }
+    requires crew { IsCrew shared.now (length plans.now
         + length guests.now) (manually_drop_value crew) }
-    ensures consumed { AllAt (IsServiceOf floor.now) 0 result.consumed.items }
-    ensures worked { AllAt (IsProduceOf floor.now plans.now guests.now) 0 result.worked.items }
-    ensures all { result.started ≡ Started.All → LeavesAll floor.now plans.now guests.now result }
-    ensures left { IsSpendable floor.now (length plans.now + length guests.now) result }
+    ensures consumed { AllAt (IsServiceOf shared.now) 0 result.consumed.items }
+    ensures worked { AllAt (IsProduceOf shared.now plans.now guests.now) 0 result.worked.items }
+    ensures all { result.started ≡ Started.All → LeavesAll shared.now plans.now guests.now result }
+    ensures left { IsSpendable shared.now (length plans.now + length guests.now) result }
 {
-    let alloc = floor.alloc;
-    let shards = floor.office.lanes.len();
+    let alloc = shared.alloc;
+    let shards = shared.intake.lanes.len();
     let crew = ManuallyDrop::into_inner(crew);
     let Ok(handles) = handles_for(alloc, shards, plans.len() + guests.len()) else {
         return none_started(crew);
     };
-    let Handles { kept, hired } = handles;
+    let Handles { kept, spawned } = handles;
     let Crew {
         stands,
         posts,
@@ -131,11 +140,11 @@ fn in_scope<'s, E, B: Naming + Send + Sync, R: Threads + Wait + Sync, G: Gate + 
         worked,
         unmanned,
     } = crew;
-    let (kept, first) = start_consumers(scope, rt, floor, gate, stands, kept, manned);
+    let (kept, first) = start_consumers(scope, rt, shared, gate, stands, kept, manned);
     let stands = Vec::new(alloc);
     if first < shards {
-        let posts = end_posts(rt, floor, gate, plans.len(), posts, unmanned, first);
-        let consumed = join_consumers(rt, floor, kept, consumed);
+        let posts = end_posts(rt, shared, gate, plans.len(), posts, unmanned, first);
+        let consumed = join_consumers(rt, shared, kept, consumed);
         let started = Started::Spawn;
         return Ran {
             worked,
@@ -145,9 +154,11 @@ fn in_scope<'s, E, B: Naming + Send + Sync, R: Threads + Wait + Sync, G: Gate + 
             started,
         };
     }
-    let (hired, all) = start_producers(scope, rt, floor, gate, plans, guests, posts, hired, manned);
-    let worked = join_producers(rt, floor, plans, guests, hired, worked);
-    let consumed = join_consumers(rt, floor, kept, consumed);
+    let (spawned, all) = start_producers(
+        scope, rt, shared, gate, plans, guests, posts, spawned, manned,
+    );
+    let worked = join_producers(rt, shared, plans, guests, spawned, worked);
+    let consumed = join_consumers(rt, shared, kept, consumed);
     let started = if all { Started::All } else { Started::Spawn };
     Ran {
         worked,
@@ -167,19 +178,19 @@ fn in_scope<'s, E, B: Naming + Send + Sync, R: Threads + Wait + Sync, G: Gate + 
 /// anything is started.
 pub fn run_threads<B: Naming + Send + Sync, R: Threads + Wait + Sync, G: Gate + Sync>(
     rt: &R,
-    floor: &Floor<B>,
+    shared: &HouseShared<B>,
     gate: &G,
     plans: &[Vec<Vec<u8>>],
     guests: &[Guest],
     crew: Crew<B>,
 ) -> Ran<B>
-    requires house { IsHouse floor.now (length plans.now + length guests.now) }
-    requires guests { AreGuests floor.now guests.now }
-    requires crew { IsCrew floor.now (length plans.now + length guests.now) crew }
-    ensures consumed { AllAt (IsServiceOf floor.now) 0 result.consumed.items }
-    ensures worked { AllAt (IsProduceOf floor.now plans.now guests.now) 0 result.worked.items }
-    ensures all { result.started ≡ Started.All → LeavesAll floor.now plans.now guests.now result }
-    ensures left { IsSpendable floor.now (length plans.now + length guests.now) result }
+    requires house { IsHouse shared.now (length plans.now + length guests.now) }
+    requires guests { AreGuests shared.now guests.now }
+    requires crew { IsCrew shared.now (length plans.now + length guests.now) crew }
+    ensures consumed { AllAt (IsServiceOf shared.now) 0 result.consumed.items }
+    ensures worked { AllAt (IsProduceOf shared.now plans.now guests.now) 0 result.worked.items }
+    ensures all { result.started ≡ Started.All → LeavesAll shared.now plans.now guests.now result }
+    ensures left { IsSpendable shared.now (length plans.now + length guests.now) result }
 {
     let manned = Manned {
         shards: AtomicU64::new(u64::MAX),
@@ -192,17 +203,17 @@ pub fn run_threads<B: Naming + Send + Sync, R: Threads + Wait + Sync, G: Gate + 
         rt,
         |scope| -> Ran<B>
             requires { IsSend B.row × IsSync B.row × IsSync R.row × IsSync G.row
-                × IsHouse floor.now (length plans.now + length guests.now) ×
-                AreGuests floor.now guests.now
-                × IsCrew floor.now (length plans.now
+                × IsHouse shared.now (length plans.now + length guests.now) ×
+                AreGuests shared.now guests.now
+                × IsCrew shared.now (length plans.now
                 + length guests.now) (manually_drop_value crew) }
-            ensures consumed { AllAt (IsServiceOf floor.entry.now) 0 result.consumed.items }
-            ensures worked { AllAt (IsProduceOf floor.entry.now plans.entry.now guests.entry.now) 0
+            ensures consumed { AllAt (IsServiceOf shared.entry.now) 0 result.consumed.items }
+            ensures worked { AllAt (IsProduceOf shared.entry.now plans.entry.now guests.entry.now) 0
                 result.worked.items }
             ensures all { result.started ≡ Started.All
-                → LeavesAll floor.entry.now plans.entry.now guests.entry.now result }
-            ensures left { IsSpendable floor.entry.now (length plans.entry.now
+                → LeavesAll shared.entry.now plans.entry.now guests.entry.now result }
+            ensures left { IsSpendable shared.entry.now (length plans.entry.now
                 + length guests.entry.now) result }
-        { in_scope(scope, rt, floor, gate, plans, guests, crew, marks) },
+        { in_scope(scope, rt, shared, gate, plans, guests, crew, marks) },
     )
 }

@@ -4,8 +4,8 @@
 ghost use Rattle.std.specs.Prelude.{ℕ, ◌≡◌, ◌≢◌, ◌∷◌, ◌++◌, ◌≤◌, [], List, None, false, length, map};
 ghost use Rattle.workers_sync.specs.Carried.{Carried};
 ghost use Rattle.shard_queue.specs.Reply.{IsReceiver};
-ghost use Rattle.house_floor.specs.Crew.{IsHouse, IsPost};
-ghost use Rattle.house_floor.specs.Users.{user_numbered};
+ghost use Rattle.house_shared.specs.Crew.{IsHouse, IsPost};
+ghost use Rattle.house_shared.specs.Users.{user_numbered};
 ghost use Rattle.lane_work.specs.Account.{notes_tell};
 ghost use Rattle.lane_work.specs.Awaiting.{HearsItsOwn};
 ghost use Rattle.lane_work.specs.Couriers.{HasCarried, IsReady, IsSameDesk};
@@ -13,8 +13,8 @@ ghost use Rattle.house_threads.specs.inner.Crew.{HasLived, IsAttended};
 
 use crossbeam_utils::sync::Unparker;
 use delivery_token::WorkerLog;
-use house_floor::{Floor, Guest, Post, inbox_numbered, most_of};
 use house_history::{Answer, Naming};
+use house_shared::{Guest, HouseShared, Post, inbox_numbered, most_of};
 use imap_session::folders_of;
 use lane_work::{Context, Fate, LaneCourier, Producer, Worked, finish};
 use session_thread::{LockedStore, live};
@@ -25,19 +25,19 @@ use workers_sync::{Gate, Lost};
 // The session of the user with this name makes its steps. What it said is laid into `replies`, which is empty, unless memory is
 // refused before it begins.
 fn live_through<B: Naming, R: Wait, G: Gate>(
-    floor: &Floor<B>,
+    shared: &HouseShared<B>,
     user: &[u8],
     guest: &Guest,
     locked: &mut LockedStore<'_, B, R, G>,
     courier: &mut LaneCourier<'_, B, R, Vec<Unparker>, WorkerLog>,
     replies: &mut Vec<Vec<u8>>,
 ) -> Fate
-    requires ready { IsReady courier.old.context.office.now courier.old.context.channel.now
+    requires ready { IsReady courier.old.context.intake.now courier.old.context.channel.now
         courier.old.desk }
     requires empty { replies.old.items ≡ [] }
-    ensures ready { IsReady courier.new.context.office.now courier.new.context.channel.now
+    ensures ready { IsReady courier.new.context.intake.now courier.new.context.channel.now
         courier.new.desk }
-    ensures same { IsSameDesk courier.old.context.office.now courier.new.context.office.now
+    ensures same { IsSameDesk courier.old.context.intake.now courier.new.context.intake.now
         courier.old.context.channel.now
         courier.new.context.channel.now courier.old.desk
         courier.new.desk }
@@ -48,23 +48,23 @@ fn live_through<B: Naming, R: Wait, G: Gate>(
     ensures began { result ≢ Fate.NotBegun }
     ensures whole { result ≡ Fate.Whole → (carried : List Carried)
         × ((done : List Carried)
-        → HasCarried courier.old.context.office.now courier.old.desk courier.old.serial
+        → HasCarried courier.old.context.intake.now courier.old.desk courier.old.serial
         (notes_tell courier.old.book.notes) done
-        → HasCarried courier.new.context.office.now courier.new.desk courier.new.serial
+        → HasCarried courier.new.context.intake.now courier.new.desk courier.new.serial
         (notes_tell courier.new.book.notes) (done ++ carried))
-        × ((text : List ℕ) × HasLived floor.now user.now locked.old guest.now carried text
+        × ((text : List ℕ) × HasLived shared.now user.now locked.old guest.now carried text
         × (map (λ b. b.items) replies.new.items ≡ text ∷ [])) }
 {
     let Ok(()) = replies.reserve(1) else {
         return Fate::NoMemory;
     };
-    let Ok(folders) = folders_of(floor.alloc, &floor.office.directory, user) else {
+    let Ok(folders) = folders_of(shared.alloc, &shared.intake.directory, user) else {
         return Fate::NoMemory;
     };
-    let most = Some(most_of(floor.office.max_message));
+    let most = Some(most_of(shared.intake.max_message));
     let steps = guest.steps.as_slice();
-    let mut said = Vec::new(floor.alloc);
-    let (alloc, turns) = (floor.alloc, floor.turns);
+    let mut said = Vec::new(shared.alloc);
+    let (alloc, turns) = (shared.alloc, shared.turns);
     let lived = live(
         alloc, locked, courier, folders, most, steps, turns, &mut said,
     );
@@ -90,54 +90,54 @@ fn unless_torn(fate: Fate, is_torn: bool) -> Fate
 /// `session` is its number among the sessions, from 0, and `channel` is that of its post.
 pub(crate) fn attend<B: Naming, R: Wait, G: Gate>(
     rt: &R,
-    floor: &Floor<B>,
+    shared: &HouseShared<B>,
     gate: &G,
     channel: &ReplyChannel<Answer<B>>,
     guest: &Guest,
     session: u8,
     post: Post<B>,
 ) -> Worked<B>
-    requires house { (producers : ℕ) × IsHouse floor.now producers }
-    requires post { IsPost floor.now post.desk.number post }
+    requires house { (producers : ℕ) × IsHouse shared.now producers }
+    requires post { IsPost shared.now post.desk.number post }
     requires channel { IsReceiver channel.now post.desk.receiver }
-    requires named { user_numbered guest.now.user floor.now.office.directory.homes ≢ None }
-    requires bells { length floor.now.office.directory.homes
-        ≤ length floor.now.depot.sessions.items }
-    ensures { IsAttended floor.now channel.now post.desk.number guest.now result }
+    requires named { user_numbered guest.now.user shared.now.intake.directory.homes ≢ None }
+    requires bells { length shared.now.intake.directory.homes
+        ≤ length shared.now.delivery.sessions.items }
+    ensures { IsAttended shared.now channel.now post.desk.number guest.now result }
 {
-    let directory = &floor.office.directory;
+    let directory = &shared.intake.directory;
     let Some(inbox) = inbox_numbered(directory, guest.user) else {
         unreachable!();
     };
     let Post { desk, room } = post;
     desk.dispatch.is_kept();
-    let mailboxes = &floor.depot.mailboxes;
-    let bells = &floor.depot.sessions[usize::from(inbox)];
+    let mailboxes = &shared.delivery.mailboxes;
+    let bells = &shared.delivery.sessions[usize::from(inbox)];
     let mut locked = LockedStore::new(
         rt,
         gate,
         session,
         mailboxes,
-        floor.depot.front.again(),
+        shared.delivery.front.again(),
         bells,
     );
     let context = Context {
         rt,
-        alloc: floor.alloc,
-        office: &floor.office,
-        summons: &floor.bells,
+        alloc: shared.alloc,
+        intake: &shared.intake,
+        notifier: &shared.bells,
         channel,
     };
     let mut courier = LaneCourier {
         context,
         serial: 0,
-        book: WorkerLog::new(floor.alloc, desk.number),
+        book: WorkerLog::new(shared.alloc, desk.number),
         desk,
         is_torn: false,
     };
     let user = directory.user_of(inbox);
-    let mut replies = Vec::new(floor.alloc);
-    let fate = live_through(floor, user, guest, &mut locked, &mut courier, &mut replies);
+    let mut replies = Vec::new(shared.alloc);
+    let fate = live_through(shared, user, guest, &mut locked, &mut courier, &mut replies);
     let LaneCourier {
         context,
         desk,
@@ -146,7 +146,11 @@ pub(crate) fn attend<B: Naming, R: Wait, G: Gate>(
         is_torn,
     } = courier;
     let fate = unless_torn(fate, is_torn);
-    let pace = locked.into_pace();
-    let producer = Producer { pace, desk, book };
+    let sync_point = locked.into_sync_point();
+    let producer = Producer {
+        sync_point,
+        desk,
+        book,
+    };
     finish(&context, producer, room, replies, fate)
 }

@@ -1,4 +1,4 @@
--- What a berth does with its client, call by call.
+-- What a client slot does with its client, call by call.
 use Rattle.std.proofs.Common.{◌≡◌, ◌≢◌, ◌⊎◌, inl, inr, ℕ, Bool, true, false, List, [], ◌++◌, ◌||◌, Option, append_assoc, append-nil, refl, sym, subst, take}
 use Rattle.std.specs.Prelude.{IfErr, IfOk, OnErr, OnOk, Result, Ok, Err, if◌then◌else◌}
 use Rattle.std.specs.Io.KnownBytes.{Consumes, Keeps}
@@ -10,7 +10,7 @@ use Rattle.imap_session.specs.declared.standing.After.{After}
 use Rattle.imap_session.specs.declared.standing.After.TheVariants.{Bye}
 use Rattle.imap_session.specs.Dialogue.{may_follow}
 use Rattle.imap_session.specs.Exchange.{waits_for}
-use Rattle.imap_stream.specs.declared.berth.Parting.{Parting}
+use Rattle.imap_stream.specs.declared.client_slot.Parting.{Parting}
 use Rattle.imap_stream.specs.declared.visit.VisitFault.{VisitFault}
 use Rattle.imap_stream.specs.declared.visit.VisitFault.TheVariants.{NoMemory, Torn, Write}
 use Rattle.imap_stream.specs.Attending.{Calls, Ends, HasCalled, heard, heard_and_cut, heard_in_part, heard_in_part_and_cut, looked, looked_and_cut, looked_in_part, looked_in_part_and_cut, no_call, one_more}

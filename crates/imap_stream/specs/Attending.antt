@@ -1,11 +1,11 @@
--- What a berth does with its client, from the first byte to the end: which calls of the visit it makes, with which bytes, and how that ends.
+-- What a client slot does with its client, from the first byte to the end: which calls of the visit it makes, with which bytes, and how that ends.
 use Rattle.std.specs.Prelude.{◌≡◌, ◌⊎◌, ℕ, true, false, List, [], ◌++◌, Option}
 use Rattle.std.specs.Io.KnownBytes.{Appends, Consumes}
 use Rattle.workers_sync.specs.Carried.{Carried}
 use Rattle.workers_sync.specs.declared.courier.Lost.{Lost}
 use Rattle.session_thread.specs.Life.{Departs, IsForgotten}
-use Rattle.imap_stream.specs.declared.berth.Parting.{Parting}
-use Rattle.imap_stream.specs.declared.berth.Parting.TheVariants.{Broken, Gone, Over, Stopped}
+use Rattle.imap_stream.specs.declared.client_slot.Parting.{Parting}
+use Rattle.imap_stream.specs.declared.client_slot.Parting.TheVariants.{Broken, Gone, Over, Stopped}
 use Rattle.imap_stream.specs.Visits.{Hears, HearsInPart, SendsAll, SendsFirst, ShowsAll, ShowsInPart, Tells, Visit, farewell, is_over, takes_bytes}
 
 -- What a call does of a visit that isn't over: it hears this piece, as `hear`, or has a look, as `look`. It may stop within, and its output may fail;

@@ -1,5 +1,5 @@
 //! One client's visit: its session, and where its answers go. Nothing is left unsent between two calls.
-//! Whose threads make the calls stands in `berth`.
+//! Whose threads make the calls stands in `client_slot`.
 
 ghost use Rattle.std.specs.Prelude.{◌≡◌, ◌≢◌, ◌⊎◌, ℕ, ◌<◌, ◌≤◌, ◌++◌, [], List, None, Ok, Err, false, true, length, take, IfOk, IfErr, IfSome, OnErr, OnOk};
 ghost use Rattle.std.specs.Io.KnownBytes.{Appends};

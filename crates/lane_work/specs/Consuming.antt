@@ -11,7 +11,7 @@ use Rattle.shard_queue.specs.Reply.{said_on}
 use Rattle.lane_work.specs.Answering.{WereAnswered, is_nobodys}
 use Rattle.lane_work.specs.Permits.{AreSendersEnded}
 use Rattle.lane_work.specs.declared.consumer.Consumed.{Consumed}
-use Rattle.lane_work.specs.declared.consumer.Depot.{Depot}
+use Rattle.lane_work.specs.declared.consumer.Delivery.{Delivery}
 
 module _ {A : Type 0} where
   abbrev pub item_of : Entry A → Option A
@@ -25,12 +25,12 @@ module _ {A : Type 0} where
 -- Its permits are of its lane and of each channel. Where it kept every entry, they are those that it took, in order; it is torn where one of them was
 -- nobody's copy. On each channel it said, behind what it had sent before, one verdict on each copy that it took of that producer, in order, each by a
 -- delivery of that copy under a lock, or refused where no mailbox of its number was found; and then its end.
-pub record IsConsumed {B : Type 0} (lane : ShardQueue Job) (depot : Depot B) (shard : ℕ) (before : List (List (Entry Noted)))
+pub record IsConsumed {B : Type 0} (lane : ShardQueue Job) (delivery : Delivery B) (shard : ℕ) (before : List (List (Entry Noted)))
     (c : Consumed B) : Type 0 where
   pub permit : IsConsumer lane c.permit
-  pub senders : AreSendersEnded depot.channels.items shard c.senders.items
+  pub senders : AreSendersEnded delivery.channels.items shard c.senders.items
   pub kept : c.kept ≡ true → c.taken.items ≡ got c.permit
-  pub torn : c.torn ≡ list_any (is_nobodys (length depot.mailboxes.items) (length depot.channels.items)) (got c.permit)
-  pub said : (p : ℕ) → p < length depot.channels.items → (told : List (Entry Noted))
-      × WereAnswered (length depot.mailboxes.items) shard p (got c.permit) told
+  pub torn : c.torn ≡ list_any (is_nobodys (length delivery.mailboxes.items) (length delivery.channels.items)) (got c.permit)
+  pub said : (p : ℕ) → p < length delivery.channels.items → (told : List (Entry Noted))
+      × WereAnswered (length delivery.mailboxes.items) shard p (got c.permit) told
       × (slice_index_or (map said_on c.senders.items) p [] ≡ (slice_index_or before p [] ++ told) ++ End shard ∷ [])

@@ -12,18 +12,18 @@ use Rattle.lmtp_machine.specs.Dialogue.{Ended}
 use Rattle.lmtp_machine.specs.LmtpMachine.{LmtpMachine, StandsFor}
 use Rattle.lmtp_machine.specs.Replies.{wire}
 use Rattle.shard_queue.specs.declared.lane.Entry.{Entry}
-use Rattle.lane_work.specs.declared.desk.Office.{Office}
+use Rattle.lane_work.specs.declared.desk.Intake.{Intake}
 use Rattle.lane_work.specs.Talk.{Judged, HasTaken}
 use Rattle.lane_work.specs.Account.{AreBooks, Premises}
 use Rattle.lane_work.specs.Copies.{Room, rooms_of}
 
-abbrev pub premises_of : {B : Type 0} → Office B → Premises
-premises_of office = record {
-  directory = office.directory;
-  rooms = rooms_of office.lanes.items;
-  host = office.host.items;
-  max_message = office.max_message;
-  closings = map (λ c. c.items) office.closings.items;
+abbrev pub premises_of : {B : Type 0} → Intake B → Premises
+premises_of intake = record {
+  directory = intake.directory;
+  rooms = rooms_of intake.lanes.items;
+  host = intake.host.items;
+  max_message = intake.max_message;
+  closings = map (λ c. c.items) intake.closings.items;
 }
 
 abbrev pub is_quit : What → Bool

@@ -11,14 +11,14 @@ ghost use Rattle.lane_work.specs.Answering.{IsVerdict, Serves, is_ours};
 ghost use Rattle.locked_mailbox.specs.Locking.{Answers, InOneHold};
 
 use crate::bells::ring_sessions;
-use crate::consumer::Depot;
+use crate::consumer::Delivery;
 use delivery_token::{Noted, Refusal, Verdict};
 use house_history::{Answer, Letter, Naming};
 use locked_mailbox::{LockedMailbox, under};
 use shard_queue::{Full, ReplyChannel, SenderPermit};
 use std::sync::{Mutex, Wait};
 use std::thread;
-use workers_sync::{Gate, Pace};
+use workers_sync::{Gate, SyncPoint};
 
 // Delivers a copy to the mailbox that is found under a lock: one hold.
 fn deliver_under<B: Naming, R: Wait>(
@@ -40,7 +40,7 @@ fn deliver_under<B: Naming, R: Wait>(
 }
 
 // What is noted of a copy whose mailbox isn't there: it is refused, and withdrawn.
-fn refused<B: Naming>(depot: &Depot<B>, letter: Letter<B>) -> Answer<B>
+fn refused<B: Naming>(delivery: &Delivery<B>, letter: Letter<B>) -> Answer<B>
     ensures { result ≡ record {
       key = letter.key;
       mailbox = letter.mailbox;
@@ -53,31 +53,31 @@ fn refused<B: Naming>(depot: &Depot<B>, letter: Letter<B>) -> Answer<B>
         mailbox: job.mailbox,
         verdict: Verdict::Refused(Refusal::NoMemory),
     };
-    Answer::withdrawn(noted, ticket, depot.front.again())
+    Answer::withdrawn(noted, ticket, delivery.front.again())
 }
 
 // What is noted of a copy: what its mailbox answers, where that is there.
-fn judge<B: Naming, R: Wait>(rt: &R, depot: &Depot<B>, letter: Letter<B>) -> Answer<B>
+fn judge<B: Naming, R: Wait>(rt: &R, delivery: &Delivery<B>, letter: Letter<B>) -> Answer<B>
     ensures copy { (result.key ≡ letter.key) × (result.mailbox ≡ letter.mailbox) }
-    ensures verdict { IsVerdict (length depot.now.mailboxes.items) letter result.verdict }
+    ensures verdict { IsVerdict (length delivery.now.mailboxes.items) letter result.verdict }
 {
-    match depot.mailboxes.get(usize::from(letter.job().mailbox)) {
+    match delivery.mailboxes.get(usize::from(letter.job().mailbox)) {
         Some(lock) => deliver_under(rt, lock, letter),
-        None => refused(depot, letter),
+        None => refused(delivery, letter),
     }
 }
 
 // Wakes the sessions that have something to see.
-fn tell_sessions<B: Naming>(depot: &Depot<B>, noted: &Noted) {
+fn tell_sessions<B: Naming>(delivery: &Delivery<B>, noted: &Noted) {
     if let Verdict::Stored { uid: _ } = noted.verdict {
-        ring_sessions(&depot.sessions, noted.mailbox);
+        ring_sessions(&delivery.sessions, noted.mailbox);
     }
 }
 
 // Tells what is noted of a copy on a channel; where the channel is full, it tries again until there is room.
 fn tell<B: Naming, R: Wait, G: Gate>(
     rt: &R,
-    pace: &mut Pace<'_, G>,
+    sync_point: &mut SyncPoint<'_, G>,
     channel: &ReplyChannel<Answer<B>>,
     permit: &mut SenderPermit<Answer<B>>,
     mut answer: Answer<B>,
@@ -89,7 +89,7 @@ fn tell<B: Naming, R: Wait, G: Gate>(
         ≡ sent_on permit.old ++ entries.Item (sender_number permit.old) answer ∷ [] }
 {
     for _ in rt.forever() {
-        pace.pass();
+        sync_point.pass();
         match channel.send_as(rt, permit, answer) {
             Ok(()) => return,
             Err(Full(back)) => answer = back,
@@ -105,38 +105,39 @@ fn tell<B: Naming, R: Wait, G: Gate>(
 /// or that doesn't stand above all that this mailbox had of its seat, is refused as NoMemory.
 pub fn serve_copy<B: Naming, R: Wait, G: Gate>(
     rt: &R,
-    pace: &mut Pace<'_, G>,
-    depot: &Depot<B>,
+    sync_point: &mut SyncPoint<'_, G>,
+    delivery: &Delivery<B>,
     shard: u8,
     senders: &mut Vec<SenderPermit<Answer<B>>>,
     producer: u8,
     letter: Letter<B>,
 ) -> bool
     // There is a sender's permit on each channel, of this shard's number.
-    requires senders { AreSenders depot.now.channels.items shard senders.old.items }
-    ensures senders { AreSenders depot.now.channels.items shard senders.new.items }
+    requires senders { AreSenders delivery.now.channels.items shard senders.old.items }
+    ensures senders { AreSenders delivery.now.channels.items shard senders.new.items }
 
     // `true` is said of just the copies whose producer has a channel and whose mailbox is there.
-    ensures known { result ≡ is_ours (length depot.now.mailboxes.items)
-        (length depot.now.channels.items) producer letter }
+    ensures known { result ≡ is_ours (length delivery.now.mailboxes.items)
+        (length delivery.now.channels.items) producer letter }
 
     // Its producer was told one verdict on it (a refusal, where its mailbox wasn't found), and nobody else anything; without a channel nobody was.
-    ensures served { Serves (length depot.now.mailboxes.items) (length depot.now.channels.items)
+    ensures served { Serves (length delivery.now.mailboxes.items)
+        (length delivery.now.channels.items)
         shard producer letter
         (map sent_on senders.old.items) (map sent_on senders.new.items) }
 {
     let position = usize::from(producer);
-    if position >= depot.channels.len() {
+    if position >= delivery.channels.len() {
         return false;
     }
-    pace.pass();
-    let is_there = usize::from(letter.job().mailbox) < depot.mailboxes.len();
-    let answer = judge(rt, depot, letter);
-    tell_sessions(depot, &answer.noted());
+    sync_point.pass();
+    let is_there = usize::from(letter.job().mailbox) < delivery.mailboxes.len();
+    let answer = judge(rt, delivery, letter);
+    tell_sessions(delivery, &answer.noted());
     tell(
         rt,
-        pace,
-        &depot.channels[position],
+        sync_point,
+        &delivery.channels[position],
         &mut senders[position],
         answer,
     );

@@ -12,10 +12,10 @@ use workers_sync::{SessionBell, ring_each};
 const PAUSES: u32 = 64;
 
 /// Whoever is to take what waits on a shard's lane, as a producer calls for it.
-pub trait Summons {
+pub trait Notifier {
     /// Something may wait on this shard's lane. Nothing is proved of it: one call too many has to do
     /// no harm.
-    fn summon<R: Wait>(&self, rt: &R, shard: usize);
+    fn notify<R: Wait>(&self, rt: &R, shard: usize);
 
     /// How many copies of one message may be put on a shard's lane before it is called for them. It is 1 where the
     /// consumer may sleep until it is called, since a gate may make the producer wait for it then.
@@ -27,8 +27,8 @@ pub trait Summons {
 }
 
 /// A row of bells, that of each shard's consumer at its number. Where one is missing nothing is rung.
-impl Summons for Vec<Unparker> {
-    fn summon<R: Wait>(&self, _rt: &R, shard: usize) {
+impl Notifier for Vec<Unparker> {
+    fn notify<R: Wait>(&self, _rt: &R, shard: usize) {
         if let Some(bell) = self.get(shard) {
             bell.unpark();
         }

@@ -6,21 +6,21 @@ ghost use Rattle.envelope.specs.Directory.{is_shut};
 ghost use Rattle.lane_work.specs.Permits.{AreInForce, IsPermit, is_over, overs, permit_number, put_by};
 ghost use Rattle.lane_work.specs.inner.Closing.{KeepsDesk, Marks, closings_at};
 
-use crate::bells::Summons;
-use crate::desk::{Closing, Desk, LanePermit, Office};
+use crate::bells::Notifier;
+use crate::desk::{Closing, Desk, Intake, LanePermit};
 use crate::ending::end_one;
 use crate::producer::Context;
 use envelope::Directory;
 use house_history::{Letter, Naming};
 use shard_queue::ShardQueue;
 use std::sync::Wait;
-use workers_sync::{Gate, Pace};
+use workers_sync::{Gate, SyncPoint};
 
 // What the worker of this number closes.
-fn closings_of<B: Naming>(office: &Office<B>, number: u8) -> &[Closing]
-    ensures { result.now ≡ closings_at office.now number }
+fn closings_of<B: Naming>(intake: &Intake<B>, number: u8) -> &[Closing]
+    ensures { result.now ≡ closings_at intake.now number }
 {
-    match office.closings.get(usize::from(number)) {
+    match intake.closings.get(usize::from(number)) {
         Some(closings) => closings.as_slice(),
         None => &[],
     }
@@ -50,12 +50,12 @@ fn mark_due(closings: &[Closing], connection: usize, directory: &mut Directory)
     }
 }
 
-// A permit as it is left: where the shard is shut it is over, and whoever is to take its end is summoned.
-fn left_at<B: Naming, R: Wait, G: Gate, S: Summons>(
+// A permit as it is left: where the shard is shut it is over, and whoever is to take its end is notified.
+fn left_at<B: Naming, R: Wait, G: Gate, S: Notifier>(
     rt: &R,
-    pace: &mut Pace<'_, G>,
+    sync_point: &mut SyncPoint<'_, G>,
     lane: &ShardQueue<Letter<B>>,
-    summons: &S,
+    notifier: &S,
     shard: usize,
     permit: LanePermit<Letter<B>>,
     shut: bool,
@@ -71,8 +71,8 @@ fn left_at<B: Naming, R: Wait, G: Gate, S: Summons>(
     match permit {
         LanePermit::Over(ended) => LanePermit::Over(ended),
         LanePermit::Live(live) => {
-            let ended = end_one(rt, pace, lane, live);
-            summons.summon(rt, shard);
+            let ended = end_one(rt, sync_point, lane, live);
+            notifier.notify(rt, shard);
             LanePermit::Over(ended)
         }
     }
@@ -80,26 +80,34 @@ fn left_at<B: Naming, R: Wait, G: Gate, S: Summons>(
 
 // Ends the permits that aren't over on shards that are shut. Each permit is taken from the front and put
 // back behind the others, so that they stand as before when all have gone round.
-fn end_where_shut<B: Naming, R: Wait, G: Gate, S: Summons>(
+fn end_where_shut<B: Naming, R: Wait, G: Gate, S: Notifier>(
     context: &Context<'_, B, R, S>,
-    pace: &mut Pace<'_, G>,
+    sync_point: &mut SyncPoint<'_, G>,
     desk: &mut Desk<B>,
     directory: &Directory,
 )
-    requires { AreInForce directory.now context.now.office.now.lanes.items desk.old.number
+    requires { AreInForce directory.now context.now.intake.now.lanes.items desk.old.number
         desk.old.permits.items }
-    ensures permits { AreInForce directory.now context.now.office.now.lanes.items desk.old.number
+    ensures permits { AreInForce directory.now context.now.intake.now.lanes.items desk.old.number
         desk.new.permits.items }
     ensures kept { KeepsDesk desk.old desk.new }
-    ensures over { (lane : ℕ) → lane < length context.now.office.now.lanes.items
+    ensures over { (lane : ℕ) → lane < length context.now.intake.now.lanes.items
         → is_shut directory.now lane ≡ true →
         slice_index_or (overs desk.new.permits.items) lane false ≡ true }
 {
-    for lane in 0..context.office.lanes.len() {
+    for lane in 0..context.intake.lanes.len() {
         let permit = desk.permits.remove(0);
         let shut = directory.is_shut(lane);
-        let at = &context.office.lanes[lane];
-        let left = left_at(context.rt, pace, at, context.summons, lane, permit, shut);
+        let at = &context.intake.lanes[lane];
+        let left = left_at(
+            context.rt,
+            sync_point,
+            at,
+            context.notifier,
+            lane,
+            permit,
+            shut,
+        );
         desk.permits.push_reserved(left);
     }
 }
@@ -107,36 +115,36 @@ fn end_where_shut<B: Naming, R: Wait, G: Gate, S: Summons>(
 /// Closes the shards that the desk's worker is to close before this connection: they are marked in its
 /// own directory, and its permits there are over. Where a lane is full it tries again until there is room
 /// for the end.
-pub(crate) fn close_due<B: Naming, R: Wait, G: Gate, S: Summons>(
+pub(crate) fn close_due<B: Naming, R: Wait, G: Gate, S: Notifier>(
     context: &Context<'_, B, R, S>,
-    pace: &mut Pace<'_, G>,
+    sync_point: &mut SyncPoint<'_, G>,
     desk: &mut Desk<B>,
     directory: &mut Directory,
     connection: usize,
 )
     // The desk has its own permit on each lane, over only where `directory` marks the shard as shut.
-    requires permits { AreInForce directory.old context.now.office.now.lanes.items desk.old.number
+    requires permits { AreInForce directory.old context.now.intake.now.lanes.items desk.old.number
         desk.old.permits.items }
-    requires lanes { directory.old.shards ≡ length context.now.office.now.lanes.items }
+    requires lanes { directory.old.shards ≡ length context.now.intake.now.lanes.items }
     requires marks { length directory.old.shut ≡ directory.old.shards }
 
     // The same holds after, with the new marks; nothing is put or heard.
-    ensures permits { AreInForce directory.new context.now.office.now.lanes.items desk.old.number
+    ensures permits { AreInForce directory.new context.now.intake.now.lanes.items desk.old.number
         desk.new.permits.items }
     ensures kept { KeepsDesk desk.old desk.new }
 
     // Just the shards are marked in addition that this worker closes before this connection, and on each marked one the permit is over.
-    ensures marks { Marks connection (closings_at context.now.office.now desk.old.number)
+    ensures marks { Marks connection (closings_at context.now.intake.now desk.old.number)
         directory.old
         directory.new }
-    ensures over { (lane : ℕ) → lane < length context.now.office.now.lanes.items
+    ensures over { (lane : ℕ) → lane < length context.now.intake.now.lanes.items
         → is_shut directory.new lane ≡ true →
         slice_index_or (overs desk.new.permits.items) lane false ≡ true }
 {
     mark_due(
-        closings_of(context.office, desk.number),
+        closings_of(context.intake, desk.number),
         connection,
         directory,
     );
-    end_where_shut(context, pace, desk, directory);
+    end_where_shut(context, sync_point, desk, directory);
 }

@@ -23,10 +23,10 @@ use shard_queue::{
     ConsumerPermit, Entry, ReplyChannel, SenderEnded, SenderPermit, ShardQueue, Taken,
 };
 use std::sync::{Mutex, Wait};
-use workers_sync::{Gate, Pace, SessionBell};
+use workers_sync::{Gate, SessionBell, SyncPoint};
 
 /// What all consumers share.
-pub struct Depot<B: Naming> {
+pub struct Delivery<B: Naming> {
     /// The mailboxes, by their numbers.
     pub mailboxes: Vec<Mutex<LockedMailbox<B>>>,
     /// The producers' reply channels, by their numbers.
@@ -119,26 +119,28 @@ fn keep(taken: &mut Vec<Entry<Job>>, kept: bool, entry: Entry<Job>) -> bool
 // taken is kept as long as there is memory.
 fn serve_all<B: Naming, R: Wait, G: Gate>(
     rt: &R,
-    pace: &mut Pace<'_, G>,
-    depot: &Depot<B>,
+    sync_point: &mut SyncPoint<'_, G>,
+    delivery: &Delivery<B>,
     lane: &ShardQueue<Letter<B>>,
     stall: &mut Stall<B>,
     taken: &mut Vec<Entry<Job>>,
     producers: usize,
 ) -> Tally
     requires permit { IsConsumer lane.now stall.old.permit × (got stall.old.permit ≡ []) }
-    requires senders { AreSenders depot.now.channels.items stall.old.shard stall.old.senders.items }
+    requires senders { AreSenders delivery.now.channels.items stall.old.shard
+        stall.old.senders.items }
     requires none { taken.old.items ≡ [] }
     ensures shard { stall.new.shard ≡ stall.old.shard }
     ensures permit { IsConsumer lane.now stall.new.permit }
-    ensures senders { AreSenders depot.now.channels.items stall.old.shard stall.new.senders.items }
-    ensures answered { HaveAnswered (length depot.now.mailboxes.items)
-        (length depot.now.channels.items) stall.old.shard
+    ensures senders { AreSenders delivery.now.channels.items stall.old.shard stall.new.senders.items }
+    ensures answered { HaveAnswered (length delivery.now.mailboxes.items)
+        (length delivery.now.channels.items) stall.old.shard
         (got stall.new.permit) (map sent_on stall.old.senders.items)
         (map sent_on stall.new.senders.items) }
     ensures ends { producers ≤ ends_in (got stall.new.permit) }
     ensures torn { result.torn
-        ≡ list_any (is_nobodys (length depot.now.mailboxes.items) (length depot.now.channels.items))
+        ≡ list_any (is_nobodys (length delivery.now.mailboxes.items)
+        (length delivery.now.channels.items))
         (got stall.new.permit) }
     ensures kept { result.kept ≡ true → taken.new.items ≡ got stall.new.permit }
 {
@@ -153,12 +155,20 @@ fn serve_all<B: Naming, R: Wait, G: Gate>(
         if ends >= producers {
             return tally;
         }
-        pace.pass();
+        sync_point.pass();
         match lane.take_as(rt, &mut stall.permit) {
             Taken::Item(p, letter) => {
                 pauses = 0;
                 let entry = entry_of(tally.kept, p, letter.job());
-                let known = serve_copy(rt, pace, depot, shard, &mut stall.senders, p, letter);
+                let known = serve_copy(
+                    rt,
+                    sync_point,
+                    delivery,
+                    shard,
+                    &mut stall.senders,
+                    p,
+                    letter,
+                );
                 tally.torn |= !known;
                 tally.kept = keep_copy(taken, entry);
             }
@@ -182,8 +192,8 @@ fn serve_all<B: Naming, R: Wait, G: Gate>(
 /// puts on the lane, or ends there, has to ring its bell.
 pub fn consume<B: Naming, R: Wait, G: Gate>(
     rt: &R,
-    pace: &mut Pace<'_, G>,
-    depot: &Depot<B>,
+    sync_point: &mut SyncPoint<'_, G>,
+    delivery: &Delivery<B>,
     lane: &ShardQueue<Letter<B>>,
     mut stall: Stall<B>,
     ended: Vec<SenderEnded<Answer<B>>>,
@@ -192,25 +202,28 @@ pub fn consume<B: Naming, R: Wait, G: Gate>(
 ) -> Consumed<B>
     // The stall has its lane's consumer's permit, which took nothing yet, and on each channel a sender's of its shard's number.
     requires permit { IsConsumer lane.now stall.permit × (got stall.permit ≡ []) }
-    requires senders { AreSenders depot.now.channels.items stall.shard stall.senders.items }
-    requires room { (ended.items ≡ []) × (length depot.now.channels.items ≤ vec_capacity ended) }
+    requires senders { AreSenders delivery.now.channels.items stall.shard stall.senders.items }
+    requires room { (ended.items ≡ []) × (length delivery.now.channels.items ≤ vec_capacity ended) }
     requires none { taken.items ≡ [] }
 
     // Each channel got one verdict on each copy taken of its producer, in order, then the end; where `kept`, `taken` is all that was taken.
-    ensures consumed { IsConsumed lane.now depot.now stall.shard (map sent_on stall.senders.items)
+    ensures consumed { IsConsumed lane.now delivery.now stall.shard
+        (map sent_on stall.senders.items)
         result }
 
     // As many producers' ends were taken as `producers` says, or more.
     ensures ends { producers ≤ ends_in (got result.permit) }
 {
-    let tally = serve_all(rt, pace, depot, lane, &mut stall, &mut taken, producers);
+    let tally = serve_all(
+        rt, sync_point, delivery, lane, &mut stall, &mut taken, producers,
+    );
     let Stall {
         shard,
         permit,
         senders,
         bell: _,
     } = stall;
-    let senders = end_senders(rt, pace, &depot.channels, shard, senders, ended);
+    let senders = end_senders(rt, sync_point, &delivery.channels, shard, senders, ended);
     Consumed {
         permit,
         senders,

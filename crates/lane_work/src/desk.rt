@@ -8,7 +8,7 @@ use house_history::{Answer, Letter, Naming};
 use shard_queue::{Ended, ProducerPermit, ReceiverPermit, ShardQueue};
 
 /// What all workers share.
-pub struct Office<B: Naming> {
+pub struct Intake<B: Naming> {
     /// Which mailbox a path names, and which shard keeps it.
     pub directory: Directory,
     /// The house's name in the replies, of 255 bytes at most.

@@ -11,8 +11,8 @@ ghost use Rattle.lane_work.specs.Account.{HaveEnded};
 ghost use Rattle.lane_work.specs.Answering.{HaveClosed};
 ghost use Rattle.lane_work.specs.Ends.{ends_in};
 
-use crate::bells::Summons;
-use crate::desk::{LanePermit, Office};
+use crate::bells::Notifier;
+use crate::desk::{Intake, LanePermit};
 use house_history::{Answer, Letter, Naming};
 use shard_queue::{
     Ended, Entry, ProducerPermit, ReceiverPermit, ReplyChannel, SenderEnded, SenderPermit,
@@ -20,13 +20,13 @@ use shard_queue::{
 };
 use std::sync::Wait;
 use std::thread;
-use workers_sync::{Gate, Pace};
+use workers_sync::{Gate, SyncPoint};
 
 /// Ends a producer's permit: its end goes behind all that it has put. Where the lane is full it tries
 /// again until there is room.
 pub fn end_one<B: Naming, R: Wait, G: Gate>(
     rt: &R,
-    pace: &mut Pace<'_, G>,
+    sync_point: &mut SyncPoint<'_, G>,
     lane: &ShardQueue<Letter<B>>,
     mut permit: ProducerPermit<Letter<B>>,
 ) -> Ended<Letter<B>>
@@ -35,7 +35,7 @@ pub fn end_one<B: Naming, R: Wait, G: Gate>(
         × (said result ≡ sent permit ++ entries.End (number_of permit) ∷ []) }
 {
     for _ in rt.forever() {
-        pace.pass();
+        sync_point.pass();
         match lane.end_as(rt, permit) {
             Ok(ended) => return ended,
             Err(back) => permit = back,
@@ -48,7 +48,7 @@ pub fn end_one<B: Naming, R: Wait, G: Gate>(
 /// The same of a permit that may be over: then it stays as it is.
 pub fn end_permit<B: Naming, R: Wait, G: Gate>(
     rt: &R,
-    pace: &mut Pace<'_, G>,
+    sync_point: &mut SyncPoint<'_, G>,
     lane: &ShardQueue<Letter<B>>,
     permit: LanePermit<Letter<B>>,
 ) -> Ended<Letter<B>>
@@ -57,34 +57,34 @@ pub fn end_permit<B: Naming, R: Wait, G: Gate>(
         (said result ≡ put_by permit ++ entries.End (permit_number permit) ∷ []) }
 {
     match permit {
-        LanePermit::Live(live) => end_one(rt, pace, lane, live),
+        LanePermit::Live(live) => end_one(rt, sync_point, lane, live),
         LanePermit::Over(ended) => ended,
     }
 }
 
-/// Ends a worker's permit on each lane, from the first on, and summons whoever is to take it there. One
+/// Ends a worker's permit on each lane, from the first on, and notifies whoever is to take it there. One
 /// that is over stays as it is. `ended`, which is empty, has room for all.
-pub fn end_all<B: Naming, R: Wait, G: Gate, S: Summons>(
+pub fn end_all<B: Naming, R: Wait, G: Gate, S: Notifier>(
     rt: &R,
-    pace: &mut Pace<'_, G>,
-    office: &Office<B>,
-    summons: &S,
+    sync_point: &mut SyncPoint<'_, G>,
+    intake: &Intake<B>,
+    notifier: &S,
     number: u8,
     mut permits: Vec<LanePermit<Letter<B>>>,
     mut ended: Vec<Ended<Letter<B>>>,
 ) -> Vec<Ended<Letter<B>>>
     // There is a permit of this producer on each lane, over or not.
-    requires permits { ArePermits office.now.lanes.items number permits.items }
-    requires room { (ended.items ≡ []) × (length office.now.lanes.items ≤ vec_capacity ended) }
+    requires permits { ArePermits intake.now.lanes.items number permits.items }
+    requires room { (ended.items ≡ []) × (length intake.now.lanes.items ≤ vec_capacity ended) }
 
     // Each has ended: on its lane was said what had been put there, then the producer's end, and nothing else.
-    ensures ended { AreEnded office.now.lanes.items number result.items }
+    ensures ended { AreEnded intake.now.lanes.items number result.items }
     ensures said { HaveEnded number (map put_by permits.items) (map said result.items) }
 {
-    for lane in 0..office.lanes.len() {
+    for lane in 0..intake.lanes.len() {
         let permit = permits.remove(0);
-        ended.push_reserved(end_permit(rt, pace, &office.lanes[lane], permit));
-        summons.summon(rt, lane);
+        ended.push_reserved(end_permit(rt, sync_point, &intake.lanes[lane], permit));
+        notifier.notify(rt, lane);
     }
     permits.destroy_empty();
     ended
@@ -105,7 +105,7 @@ fn is_end<B: Naming>(entry: Entry<Answer<B>>) -> bool
 /// else came.
 pub fn hear_ends<B: Naming, R: Wait, G: Gate>(
     rt: &R,
-    pace: &mut Pace<'_, G>,
+    sync_point: &mut SyncPoint<'_, G>,
     channel: &ReplyChannel<Answer<B>>,
     receiver: &mut ReceiverPermit<Answer<B>>,
     mut heard: usize,
@@ -134,7 +134,7 @@ pub fn hear_ends<B: Naming, R: Wait, G: Gate>(
         if heard >= shards {
             return quiet;
         }
-        pace.pass();
+        sync_point.pass();
         if is_end(channel.recv_as(rt, receiver)) {
             heard += 1;
         } else {
@@ -148,7 +148,7 @@ pub fn hear_ends<B: Naming, R: Wait, G: Gate>(
 /// again until there is room.
 pub fn end_sender<B: Naming, R: Wait, G: Gate>(
     rt: &R,
-    pace: &mut Pace<'_, G>,
+    sync_point: &mut SyncPoint<'_, G>,
     channel: &ReplyChannel<Answer<B>>,
     mut permit: SenderPermit<Answer<B>>,
 ) -> SenderEnded<Answer<B>>
@@ -158,7 +158,7 @@ pub fn end_sender<B: Naming, R: Wait, G: Gate>(
         (said_on result ≡ sent_on permit ++ entries.End (sender_number permit) ∷ []) }
 {
     for _ in rt.forever() {
-        pace.pass();
+        sync_point.pass();
         match channel.end_as(rt, permit) {
             Ok(ended) => return ended,
             Err(back) => permit = back,
@@ -172,7 +172,7 @@ pub fn end_sender<B: Naming, R: Wait, G: Gate>(
 /// for all.
 pub fn end_senders<B: Naming, R: Wait, G: Gate>(
     rt: &R,
-    pace: &mut Pace<'_, G>,
+    sync_point: &mut SyncPoint<'_, G>,
     channels: &[ReplyChannel<Answer<B>>],
     shard: u8,
     mut senders: Vec<SenderPermit<Answer<B>>>,
@@ -188,7 +188,7 @@ pub fn end_senders<B: Naming, R: Wait, G: Gate>(
 {
     for channel in 0..channels.len() {
         let sender = senders.remove(0);
-        ended.push_reserved(end_sender(rt, pace, &channels[channel], sender));
+        ended.push_reserved(end_sender(rt, sync_point, &channels[channel], sender));
     }
     senders.destroy_empty();
     ended

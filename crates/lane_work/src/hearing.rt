@@ -16,7 +16,7 @@ ghost use Rattle.lane_work.specs.Awaiting.{verdicts_in};
 ghost use Rattle.lane_work.specs.Ends.{CountsEnds, ends_in};
 ghost use Rattle.lane_work.specs.Permits.{AreLive, overs};
 
-use crate::bells::Summons;
+use crate::bells::Notifier;
 use crate::desk::{Desk, LanePermit};
 use crate::producer::Context;
 use delivery_token::{CopyKey, Verdict, Verdicts};
@@ -24,7 +24,7 @@ use house_history::{Letter, Naming};
 use lmtp_machine::Submission;
 use shard_queue::Entry;
 use std::sync::Wait;
-use workers_sync::{Gate, Pace};
+use workers_sync::{Gate, SyncPoint};
 
 /// Something came that wasn't awaited, or not what was.
 #[derive(Clone, Copy)]
@@ -42,9 +42,9 @@ fn is_over_at<B: Naming>(permits: &[LanePermit<Letter<B>>], shard: u8) -> bool
 
 /// Hears verdicts until each of the message's is known; Torn where what comes isn't awaited. The end of
 /// a shard on whose lane the permit is over is counted, and no more.
-pub(crate) fn hear_all<B: Naming, R: Wait, G: Gate, S: Summons>(
+pub(crate) fn hear_all<B: Naming, R: Wait, G: Gate, S: Notifier>(
     context: &Context<'_, B, R, S>,
-    pace: &mut Pace<'_, G>,
+    sync_point: &mut SyncPoint<'_, G>,
     desk: &mut Desk<B>,
     message: &Submission,
     verdicts: &mut Verdicts,
@@ -82,7 +82,7 @@ pub(crate) fn hear_all<B: Naming, R: Wait, G: Gate, S: Summons>(
         if verdicts.are_known(keys.len()) {
             return Ok(());
         }
-        pace.pass();
+        sync_point.pass();
         match context.channel.recv_as(context.rt, &mut desk.receiver) {
             Entry::Item(_, answer) => {
                 desk.dispatch.learn(&answer);
@@ -102,9 +102,9 @@ pub(crate) fn hear_all<B: Naming, R: Wait, G: Gate, S: Summons>(
 }
 
 /// Hears the verdict on the only copy that is under way; Torn where something else comes.
-pub(crate) fn hear_one<B: Naming, R: Wait, G: Gate, S: Summons>(
+pub(crate) fn hear_one<B: Naming, R: Wait, G: Gate, S: Notifier>(
     context: &Context<'_, B, R, S>,
-    pace: &mut Pace<'_, G>,
+    sync_point: &mut SyncPoint<'_, G>,
     desk: &mut Desk<B>,
     key: CopyKey,
     mailbox: u8,
@@ -128,7 +128,7 @@ pub(crate) fn hear_one<B: Naming, R: Wait, G: Gate, S: Summons>(
         < length (received desk.new.receiver)) }
     ensures backed { KeepsBacked desk.old desk.new }
 {
-    pace.pass();
+    sync_point.pass();
     match context.channel.recv_as(context.rt, &mut desk.receiver) {
         Entry::Item(_, answer) => {
             desk.dispatch.learn(&answer);

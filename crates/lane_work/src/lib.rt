@@ -16,7 +16,6 @@ mod ending;
 mod hearing;
 mod lanes;
 mod laws;
-mod notebook;
 mod outcome;
 mod permit_laws;
 mod piece;
@@ -26,24 +25,24 @@ mod reading;
 mod rooms;
 mod shutting;
 mod talk;
+mod verdict_log;
 mod worker;
 
 pub use answering::serve_copy;
-pub use bells::Summons;
+pub use bells::Notifier;
 pub use carrying::LaneCourier;
 pub use channels::{
     Channels, abandon_channels, close_channels, collect_all_senders, collect_senders,
     deal_all_senders, deal_senders, make_channels,
 };
-pub use consumer::{Consumed, Depot, Stall, consume};
-pub use desk::{Closing, Desk, LanePermit, Office};
+pub use consumer::{Consumed, Delivery, Stall, consume};
+pub use desk::{Closing, Desk, Intake, LanePermit};
 pub use dispatch::Dispatch;
 pub use ending::{end_all, end_one, end_permit, end_sender, end_senders, hear_ends};
 pub use lanes::{
     Lanes, abandon_lanes, close_lanes, collect, collect_all, deal, deal_all, make_lanes,
 };
 pub use laws::{accounts_meet_histories, books_stand};
-pub use notebook::{Notebook, Unkept};
 pub use outcome::{Ending, TalkFault};
 pub use permit_laws::{closed_channels_tell, closed_lanes_tell};
 pub use producer::{Context, Producer};
@@ -53,4 +52,5 @@ pub use rooms::{
     spend_lists, spend_permit_rooms, spend_rooms,
 };
 pub use talk::converse;
+pub use verdict_log::{Unkept, VerdictLog};
 pub use worker::{Fate, Stop, Worked, finish, turn, work};

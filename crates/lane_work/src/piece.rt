@@ -12,9 +12,9 @@ ghost use Rattle.lane_work.specs.Speaking.{Stands};
 ghost use Rattle.lane_work.specs.Copies.{rooms_of};
 ghost use Rattle.lane_work.specs.inner.Pieces.{TookPiece, SaidByThen};
 
-use crate::bells::Summons;
-use crate::notebook::Notebook;
+use crate::bells::Notifier;
 use crate::producer::{Context, Producer};
+use crate::verdict_log::VerdictLog;
 use crate::worker::{Stop, turn};
 use house_history::Naming;
 use lmtp_machine::{LmtpMachine, What};
@@ -32,7 +32,7 @@ pub(crate) enum Next {
 }
 
 // Takes a piece turn by turn. `stop` is looked at before the first turn, and behind each that submitted a message.
-pub(crate) fn take_piece<B: Naming, R: Wait, G: Gate, S: Summons, N: Notebook>(
+pub(crate) fn take_piece<B: Naming, R: Wait, G: Gate, S: Notifier, N: VerdictLog>(
     context: &Context<'_, B, R, S>,
     producer: &mut Producer<'_, B, G, N>,
     machine: &mut LmtpMachine,
@@ -40,20 +40,20 @@ pub(crate) fn take_piece<B: Naming, R: Wait, G: Gate, S: Summons, N: Notebook>(
     stop: &AtomicBool,
     out: &mut Vec<u8>,
 ) -> Result<Next, Stop>
-    // The desk has its own permit on each lane, over only where the office marks the shard as shut; its receiver is of `channel`.
-    requires permits { AreInForce context.now.office.now.directory
-        context.now.office.now.lanes.items producer.old.desk.number
+    // The desk has its own permit on each lane, over only where the intake marks the shard as shut; its receiver is of `channel`.
+    requires permits { AreInForce context.now.intake.now.directory
+        context.now.intake.now.lanes.items producer.old.desk.number
         producer.old.desk.permits.items }
     requires receiver { IsReceiver context.now.channel.now producer.old.desk.receiver }
-    requires lanes { context.now.office.now.directory.shards
-        ≡ length context.now.office.now.lanes.items }
+    requires lanes { context.now.intake.now.directory.shards
+        ≡ length context.now.intake.now.lanes.items }
 
     // No message of the connection waits for its verdicts.
     requires quiet { machine.old.pending ≡ [] }
 
     // The same holds after; no end was counted that wasn't heard.
-    ensures permits { AreInForce context.now.office.now.directory
-        context.now.office.now.lanes.items producer.old.desk.number
+    ensures permits { AreInForce context.now.intake.now.directory
+        context.now.intake.now.lanes.items producer.old.desk.number
         producer.new.desk.permits.items }
     ensures receiver { IsReceiver context.now.channel.now producer.new.desk.receiver }
     ensures number { producer.new.desk.number ≡ producer.old.desk.number }
@@ -74,12 +74,12 @@ pub(crate) fn take_piece<B: Naming, R: Wait, G: Gate, S: Summons, N: Notebook>(
 
     // Without an error: as it stood for `bytes`, so it does with a front of the piece, which is all of it at `Read` unless the dialogue ended.
     ensures took { IfOk result (λ next. (done : List Judged) (bytes told : List ℕ)
-        → Stands context.now.office.now.directory context.now.office.now.directory (rooms_of
-        context.now.office.now.lanes.items)
+        → Stands context.now.intake.now.directory context.now.intake.now.directory (rooms_of
+        context.now.intake.now.lanes.items)
         producer.old.desk.number done bytes false machine.old (told
         ++ out.old.items) (N.tells producer.old.book) (received producer.old.desk.receiver)
         (map put_by producer.old.desk.permits.items)
-        → TookPiece context.now.office.now.directory (rooms_of context.now.office.now.lanes.items)
+        → TookPiece context.now.intake.now.directory (rooms_of context.now.intake.now.lanes.items)
         producer.old.desk.number done
         bytes piece.now next machine.new (told
         ++ out.new.items) (N.tells producer.new.book) (received producer.new.desk.receiver)
@@ -87,13 +87,14 @@ pub(crate) fn take_piece<B: Naming, R: Wait, G: Gate, S: Summons, N: Notebook>(
 
     // After `NoMemory`: `told`, then `out`, is the replies to `bytes` and a front of the piece, whose messages are in the books.
     ensures no_memory { result ≡ Err Stop.NoMemory → (done : List Judged) (bytes told : List ℕ)
-        → Stands context.now.office.now.directory context.now.office.now.directory (rooms_of
-        context.now.office.now.lanes.items)
+        → Stands context.now.intake.now.directory context.now.intake.now.directory (rooms_of
+        context.now.intake.now.lanes.items)
         producer.old.desk.number done bytes false machine.old (told
         ++ out.old.items) (N.tells producer.old.book) (received producer.old.desk.receiver)
         (map put_by producer.old.desk.permits.items)
-        → SaidByThen machine.old.setting machine.old.host context.now.office.now.directory
-        (rooms_of context.now.office.now.lanes.items) producer.old.desk.number done bytes piece.now (told
+        → SaidByThen machine.old.setting machine.old.host context.now.intake.now.directory
+        (rooms_of context.now.intake.now.lanes.items) producer.old.desk.number done bytes piece.now
+        (told
         ++ out.new.items) (N.tells producer.new.book)
         (received producer.new.desk.receiver) (map put_by producer.new.desk.permits.items) }
     ensures backed { KeepsBacked producer.old.desk producer.new.desk }
@@ -107,7 +108,7 @@ pub(crate) fn take_piece<B: Naming, R: Wait, G: Gate, S: Summons, N: Notebook>(
         let fed = match turn(
             context,
             producer,
-            &context.office.directory,
+            &context.intake.directory,
             machine,
             &piece[used..],
             out,

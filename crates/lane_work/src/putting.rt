@@ -20,8 +20,8 @@ ghost use Rattle.lane_work.specs.inner.Backing.{GoesOnWith};
 ghost use Rattle.lane_work.specs.inner.Copies.{HavePut, WereTried};
 ghost use Rattle.lane_work.specs.inner.Summoning.{is_last_at};
 
-use crate::bells::Summons;
-use crate::desk::{Desk, LanePermit, Office};
+use crate::bells::Notifier;
+use crate::desk::{Desk, Intake, LanePermit};
 use crate::dispatch::Dispatch;
 use crate::producer::Context;
 use change_ring::{Flags, NO_FLAGS};
@@ -31,7 +31,7 @@ use house_history::{Letter, Naming};
 use lmtp_machine::Submission;
 use shard_queue::{Full, ProducerPermit, ShardQueue};
 use std::sync::Wait;
-use workers_sync::{Gate, Pace};
+use workers_sync::{Gate, SyncPoint};
 
 // A copy that is to be put, as its message lends it.
 #[derive(Drop)]
@@ -42,18 +42,18 @@ struct Lent<'a> {
     flags: Flags,
 }
 
-// Summons whoever takes this mailbox's copies.
-fn summon_for<B: Naming, R: Wait, S: Summons>(context: &Context<'_, B, R, S>, mailbox: u8) {
-    let shard = context.office.directory.shard_of(mailbox);
-    context.summons.summon(context.rt, shard);
+// Notifies whoever takes this mailbox's copies.
+fn notify_for<B: Naming, R: Wait, S: Notifier>(context: &Context<'_, B, R, S>, mailbox: u8) {
+    let shard = context.intake.directory.shard_of(mailbox);
+    context.notifier.notify(context.rt, shard);
 }
 
 // So often a copy is tried before it is refused for want of room: others may fill a short lane as soon as it was emptied.
 const TRIES: u32 = 16;
 
-// Puts a letter on a lane; where there is no room its consumer is summoned, and it is tried again. None where it is under way, else it
+// Puts a letter on a lane; where there is no room its consumer is notified, and it is tried again. None where it is under way, else it
 // comes back.
-fn put_letter<B: Naming, R: Wait, S: Summons>(
+fn put_letter<B: Naming, R: Wait, S: Notifier>(
     context: &Context<'_, B, R, S>,
     lane: &ShardQueue<Letter<B>>,
     permit: &mut ProducerPermit<Letter<B>>,
@@ -72,7 +72,7 @@ fn put_letter<B: Naming, R: Wait, S: Summons>(
             Ok(()) => return None,
             Err(Full(back)) => letter = back,
         }
-        summon_for(context, letter.job().mailbox);
+        notify_for(context, letter.job().mailbox);
     }
     match lane.put_as(context.rt, permit, letter) {
         Ok(()) => None,
@@ -83,7 +83,7 @@ fn put_letter<B: Naming, R: Wait, S: Summons>(
 // Says that a copy is sent, and puts it on a lane: None where it is under way, else what is known of it at once. One that finds no room is
 // taken back.
 #[tactic(auto, using(crate::proofs::BackingLaws::kept_on, crate::proofs::BackingLaws::refused_on, crate::proofs::BackingLaws::put_on))]
-fn put_on<B: Naming, R: Wait, S: Summons>(
+fn put_on<B: Naming, R: Wait, S: Notifier>(
     context: &Context<'_, B, R, S>,
     lane: &ShardQueue<Letter<B>>,
     permit: &mut ProducerPermit<Letter<B>>,
@@ -124,7 +124,7 @@ fn put_on<B: Naming, R: Wait, S: Summons>(
 }
 
 // The same with a permit that may be over: there nothing is put, and the copy is refused at once.
-fn put_at<B: Naming, R: Wait, S: Summons>(
+fn put_at<B: Naming, R: Wait, S: Notifier>(
     context: &Context<'_, B, R, S>,
     lane: &ShardQueue<Letter<B>>,
     permit: &mut LanePermit<Letter<B>>,
@@ -155,33 +155,34 @@ fn put_at<B: Naming, R: Wait, S: Summons>(
     }
 }
 
-// The same, at the lane of the copy's mailbox: where there is no room the consumer is summoned, and the copy is tried again.
-fn put_or_make_room<B: Naming, R: Wait, G: Gate, S: Summons>(
+// The same, at the lane of the copy's mailbox: where there is no room the consumer is notified, and the copy is tried again.
+fn put_or_make_room<B: Naming, R: Wait, G: Gate, S: Notifier>(
     context: &Context<'_, B, R, S>,
-    pace: &mut Pace<'_, G>,
+    sync_point: &mut SyncPoint<'_, G>,
     desk: &mut Desk<B>,
     key: CopyKey,
     mailbox: u8,
     text: &Text,
     flags: Flags,
 ) -> Option<Verdict>
-    requires permits { ArePermits context.now.office.now.lanes.items desk.old.number
+    requires permits { ArePermits context.now.intake.now.lanes.items desk.old.number
         desk.old.permits.items }
-    requires lanes { context.now.office.now.directory.shards
-        ≡ length context.now.office.now.lanes.items }
-    ensures permits { ArePermits context.now.office.now.lanes.items desk.old.number
+    requires lanes { context.now.intake.now.directory.shards
+        ≡ length context.now.intake.now.lanes.items }
+    ensures permits { ArePermits context.now.intake.now.lanes.items desk.old.number
         desk.new.permits.items }
     ensures same { SameButPermits desk.old desk.new }
-    ensures within { shard_of context.now.office.now.directory mailbox < length
-        context.now.office.now.lanes.items }
+    ensures within { shard_of context.now.intake.now.directory mailbox < length
+        context.now.intake.now.lanes.items }
 
     // Where the mailbox's permit isn't over: just the copy was put, on its lane; or it is refused, for want of room or memory, and nothing put.
     ensures put { slice_index_or (overs desk.old.permits.items)
-        (shard_of context.now.office.now.directory mailbox) false ≡ false → MatchOption result
+        (shard_of context.now.intake.now.directory mailbox) false ≡ false → MatchOption result
         (map put_by desk.new.permits.items
-        ≡ slice_set (map put_by desk.old.permits.items) (shard_of context.now.office.now.directory
+        ≡ slice_set (map put_by desk.old.permits.items) (shard_of context.now.intake.now.directory
         mailbox)
-        (slice_index_or (map put_by desk.old.permits.items) (shard_of context.now.office.now.directory mailbox)
+        (slice_index_or (map put_by desk.old.permits.items)
+        (shard_of context.now.intake.now.directory mailbox)
         []
         ++ entries.Item desk.old.number (record {
           key = key;
@@ -190,23 +191,24 @@ fn put_or_make_room<B: Naming, R: Wait, G: Gate, S: Summons>(
           flags = flags;
         }) ∷ []))
         (λ v. (map put_by desk.new.permits.items ≡ map put_by desk.old.permits.items)
-        × IsAtOnce (FilledAlone (room_at (rooms_of context.now.office.now.lanes.items)
-        (shard_of context.now.office.now.directory mailbox)) desk.old.number
-        (slice_index_or (map put_by desk.old.permits.items) (shard_of context.now.office.now.directory mailbox)
+        × IsAtOnce (FilledAlone (room_at (rooms_of context.now.intake.now.lanes.items)
+        (shard_of context.now.intake.now.directory mailbox)) desk.old.number
+        (slice_index_or (map put_by desk.old.permits.items)
+        (shard_of context.now.intake.now.directory mailbox)
         [])) v) }
 
     // Where it is over, the copy is refused as `Shut`, and nothing is put.
     ensures over { slice_index_or (overs desk.old.permits.items)
-        (shard_of context.now.office.now.directory mailbox) false ≡ true
+        (shard_of context.now.intake.now.directory mailbox) false ≡ true
         → (result ≡ Some (verdicts.Refused refusals.Shut))
         × (map put_by desk.new.permits.items ≡ map put_by desk.old.permits.items) }
     ensures backed { KeepsBacked desk.old desk.new }
 {
-    pace.pass();
-    let shard = context.office.directory.shard_of(mailbox);
+    sync_point.pass();
+    let shard = context.intake.directory.shard_of(mailbox);
     put_at(
         context,
-        &context.office.lanes[shard],
+        &context.intake.lanes[shard],
         &mut desk.permits[shard],
         &mut desk.dispatch,
         Lent {
@@ -218,33 +220,34 @@ fn put_or_make_room<B: Naming, R: Wait, G: Gate, S: Summons>(
     )
 }
 
-/// The same, and the consumer is summoned for it.
-pub(crate) fn put_copy<B: Naming, R: Wait, G: Gate, S: Summons>(
+/// The same, and the consumer is notified for it.
+pub(crate) fn put_copy<B: Naming, R: Wait, G: Gate, S: Notifier>(
     context: &Context<'_, B, R, S>,
-    pace: &mut Pace<'_, G>,
+    sync_point: &mut SyncPoint<'_, G>,
     desk: &mut Desk<B>,
     key: CopyKey,
     mailbox: u8,
     text: &Text,
     flags: Flags,
 ) -> Option<Verdict>
-    requires permits { ArePermits context.now.office.now.lanes.items desk.old.number
+    requires permits { ArePermits context.now.intake.now.lanes.items desk.old.number
         desk.old.permits.items }
-    requires lanes { context.now.office.now.directory.shards
-        ≡ length context.now.office.now.lanes.items }
-    ensures permits { ArePermits context.now.office.now.lanes.items desk.old.number
+    requires lanes { context.now.intake.now.directory.shards
+        ≡ length context.now.intake.now.lanes.items }
+    ensures permits { ArePermits context.now.intake.now.lanes.items desk.old.number
         desk.new.permits.items }
     ensures same { SameButPermits desk.old desk.new }
-    ensures within { shard_of context.now.office.now.directory mailbox < length
-        context.now.office.now.lanes.items }
+    ensures within { shard_of context.now.intake.now.directory mailbox < length
+        context.now.intake.now.lanes.items }
 
     // Where the mailbox's permit isn't over: just the copy was put, on its lane; or it is refused, for want of room or memory, and nothing put.
     ensures put { slice_index_or (overs desk.old.permits.items)
-        (shard_of context.now.office.now.directory mailbox) false ≡ false → MatchOption result
+        (shard_of context.now.intake.now.directory mailbox) false ≡ false → MatchOption result
         (map put_by desk.new.permits.items
-        ≡ slice_set (map put_by desk.old.permits.items) (shard_of context.now.office.now.directory
+        ≡ slice_set (map put_by desk.old.permits.items) (shard_of context.now.intake.now.directory
         mailbox)
-        (slice_index_or (map put_by desk.old.permits.items) (shard_of context.now.office.now.directory mailbox)
+        (slice_index_or (map put_by desk.old.permits.items)
+        (shard_of context.now.intake.now.directory mailbox)
         []
         ++ entries.Item desk.old.number (record {
           key = key;
@@ -253,20 +256,21 @@ pub(crate) fn put_copy<B: Naming, R: Wait, G: Gate, S: Summons>(
           flags = flags;
         }) ∷ []))
         (λ v. (map put_by desk.new.permits.items ≡ map put_by desk.old.permits.items)
-        × IsAtOnce (FilledAlone (room_at (rooms_of context.now.office.now.lanes.items)
-        (shard_of context.now.office.now.directory mailbox)) desk.old.number
-        (slice_index_or (map put_by desk.old.permits.items) (shard_of context.now.office.now.directory mailbox)
+        × IsAtOnce (FilledAlone (room_at (rooms_of context.now.intake.now.lanes.items)
+        (shard_of context.now.intake.now.directory mailbox)) desk.old.number
+        (slice_index_or (map put_by desk.old.permits.items)
+        (shard_of context.now.intake.now.directory mailbox)
         [])) v) }
 
     // Where it is over, the copy is refused as `Shut`, and nothing is put.
     ensures over { slice_index_or (overs desk.old.permits.items)
-        (shard_of context.now.office.now.directory mailbox) false ≡ true
+        (shard_of context.now.intake.now.directory mailbox) false ≡ true
         → (result ≡ Some (verdicts.Refused refusals.Shut))
         × (map put_by desk.new.permits.items ≡ map put_by desk.old.permits.items) }
     ensures backed { KeepsBacked desk.old desk.new }
 {
-    let verdict = put_or_make_room(context, pace, desk, key, mailbox, text, flags);
-    summon_for(context, mailbox);
+    let verdict = put_or_make_room(context, sync_point, desk, key, mailbox, text, flags);
+    notify_for(context, mailbox);
     verdict
 }
 
@@ -303,7 +307,7 @@ fn has_none_at(directory: &Directory, shard: usize, mailboxes: &[u8]) -> bool
         .all(|mailbox| directory.shard_of(*mailbox) != shard)
 }
 
-// Whether a summons is due behind the copy at this position: as many wait on its lane as are put at once, or it is the last one for its shard.
+// Whether a notification is due behind the copy at this position: as many wait on its lane as are put at once, or it is the last one for its shard.
 fn is_due(directory: &Directory, is_full: bool, mailboxes: &[u8], position: usize) -> bool
     requires { position < length mailboxes.now }
     ensures { IfSome (slice_get mailboxes.now position) (λ mailbox.
@@ -313,8 +317,8 @@ fn is_due(directory: &Directory, is_full: bool, mailboxes: &[u8], position: usiz
     is_full || has_none_at(directory, shard, &mailboxes[position + 1..])
 }
 
-// Summons whoever takes the copy at this position, where that is due. Of each shard it is counted how many copies wait on its lane.
-fn summon_where_due<B: Naming, R: Wait, S: Summons>(
+// Notifies whoever takes the copy at this position, where that is due. Of each shard it is counted how many copies wait on its lane.
+fn notify_where_due<B: Naming, R: Wait, S: Notifier>(
     context: &Context<'_, B, R, S>,
     waiting: &mut [usize],
     mailboxes: &[u8],
@@ -322,29 +326,29 @@ fn summon_where_due<B: Naming, R: Wait, S: Summons>(
 )
     requires { position < length mailboxes.now }
 {
-    let shard = context.office.directory.shard_of(mailboxes[position]);
-    let is_full = is_group_full(waiting, shard, context.summons.at_once());
-    if is_due(&context.office.directory, is_full, mailboxes, position) {
-        context.summons.summon(context.rt, shard);
+    let shard = context.intake.directory.shard_of(mailboxes[position]);
+    let is_full = is_group_full(waiting, shard, context.notifier.at_once());
+    if is_due(&context.intake.directory, is_full, mailboxes, position) {
+        context.notifier.notify(context.rt, shard);
     }
 }
 
 /// Puts each copy of a message, in the order of its recipients; one for a lane on which the permit is over is refused as Shut. In `verdicts`, which
 /// has room for as many as there are, is then of each what was known of it at once, or None where it is under way.
-pub(crate) fn put_all<B: Naming, R: Wait, G: Gate, S: Summons>(
+pub(crate) fn put_all<B: Naming, R: Wait, G: Gate, S: Notifier>(
     context: &Context<'_, B, R, S>,
-    pace: &mut Pace<'_, G>,
+    sync_point: &mut SyncPoint<'_, G>,
     desk: &mut Desk<B>,
     message: &Submission,
     verdicts: &mut Verdicts,
 )
-    requires permits { ArePermits context.now.office.now.lanes.items desk.old.number
+    requires permits { ArePermits context.now.intake.now.lanes.items desk.old.number
         desk.old.permits.items }
-    requires lanes { context.now.office.now.directory.shards
-        ≡ length context.now.office.now.lanes.items }
+    requires lanes { context.now.intake.now.directory.shards
+        ≡ length context.now.intake.now.lanes.items }
     requires mailboxes { vec_len message.now.mailboxes ≡ vec_len message.now.keys }
     requires slots { (verdicts.old.slots ≡ []) × (vec_len message.now.keys ≤ verdicts.old.most) }
-    ensures permits { ArePermits context.now.office.now.lanes.items desk.old.number
+    ensures permits { ArePermits context.now.intake.now.lanes.items desk.old.number
         desk.new.permits.items }
     ensures same { SameButPermits desk.old desk.new }
     ensures slots { length verdicts.new.slots ≡ vec_len message.now.keys }
@@ -352,15 +356,15 @@ pub(crate) fn put_all<B: Naming, R: Wait, G: Gate, S: Summons>(
     ensures counts { copies_in (map put_by desk.new.permits.items)
         ≡ copies_in (map put_by desk.old.permits.items) + unknown verdicts.new.slots }
     // Where no permit is over that a copy is for.
-    ensures tried { AreOpenTo context.now.office.now.directory message.now.mailboxes.items
+    ensures tried { AreOpenTo context.now.intake.now.directory message.now.mailboxes.items
         desk.old.permits.items
-        → WereTried context.now.office.now.directory (rooms_of context.now.office.now.lanes.items)
+        → WereTried context.now.intake.now.directory (rooms_of context.now.intake.now.lanes.items)
         desk.old.number
         (copies_of (submission_of message.now)) verdicts.new.slots
         (map put_by desk.old.permits.items) }
-    ensures put { AreOpenTo context.now.office.now.directory message.now.mailboxes.items
+    ensures put { AreOpenTo context.now.intake.now.directory message.now.mailboxes.items
         desk.old.permits.items
-        → HavePut context.now.office.now.directory desk.old.number (copies_of (submission_of
+        → HavePut context.now.intake.now.directory desk.old.number (copies_of (submission_of
         message.now))
         verdicts.new.slots (map put_by desk.old.permits.items)
         (map put_by desk.new.permits.items) }
@@ -371,7 +375,7 @@ pub(crate) fn put_all<B: Naming, R: Wait, G: Gate, S: Summons>(
     for i in 0..message.keys.len() {
         let verdict = put_or_make_room(
             context,
-            pace,
+            sync_point,
             desk,
             message.keys[i],
             message.mailboxes[i],
@@ -379,6 +383,6 @@ pub(crate) fn put_all<B: Naming, R: Wait, G: Gate, S: Summons>(
             NO_FLAGS,
         );
         verdicts.note_put(verdict);
-        summon_where_due(context, &mut waiting, &message.mailboxes, i);
+        notify_where_due(context, &mut waiting, &message.mailboxes, i);
     }
 }

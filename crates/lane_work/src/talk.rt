@@ -17,14 +17,14 @@ ghost use Rattle.lane_work.specs.Speaking.{Stands, premises_of};
 ghost use Rattle.lane_work.specs.Copies.{rooms_of};
 ghost use Rattle.lane_work.specs.Streaming.{IsPlayed};
 
-use crate::bells::Summons;
-use crate::desk::Office;
-use crate::notebook::Notebook;
+use crate::bells::Notifier;
+use crate::desk::Intake;
 use crate::outcome::{Ending, TalkFault};
 use crate::piece::{Next, take_piece};
 use crate::producer::{Context, Producer};
 use crate::reading::{Buffers, read_piece, widen};
 use crate::shutting::{give_up, shut_down};
+use crate::verdict_log::VerdictLog;
 use crate::worker::Stop;
 use house_history::Naming;
 use line_io::{Sink, send};
@@ -38,24 +38,24 @@ use workers_sync::Gate;
 // A new connection of this worker, and its greeting in `out`, which is empty.
 fn open<B: Naming>(
     alloc: Global,
-    office: &Office<B>,
+    intake: &Intake<B>,
     seat: u8,
     serial: u64,
     out: &mut Vec<u8>,
 ) -> Result<LmtpMachine, AllocError>
-    requires host { length office.now.host.items < 256 }
+    requires host { length intake.now.host.items < 256 }
     requires none { out.old.items ≡ [] }
     ensures setting { IfOk result (λ m.
-        m.setting ≡ setting_at (premises_of office.now) seat serial) }
-    ensures host { IfOk result (λ m. m.host ≡ office.now.host.items) }
+        m.setting ≡ setting_at (premises_of intake.now) seat serial) }
+    ensures host { IfOk result (λ m. m.host ≡ intake.now.host.items) }
     ensures quiet { IfOk result (λ m. m.pending ≡ []) }
     ensures stands { IfOk result (λ m. StandsFor m opened) }
     ensures greeted { IfOk result (λ m. out.new.items ≡ wire m.host (Greeting ∷ [])) }
 {
     let limits = Limits {
-        host: office.host.as_slice(),
-        max_message: office.max_message,
-        budget: &office.budget,
+        host: intake.host.as_slice(),
+        max_message: intake.max_message,
+        budget: &intake.budget,
     };
     let mut machine = LmtpMachine::new(alloc, seat, serial, limits)?;
     machine.greet(out)?;
@@ -63,7 +63,7 @@ fn open<B: Naming>(
 }
 
 // Sends what was said, reads, and takes what came, over and over.
-fn go_on<B: Naming, R: Wait, G: Gate, S: Summons, N: Notebook, I: Read, O: Sink>(
+fn go_on<B: Naming, R: Wait, G: Gate, S: Notifier, N: VerdictLog, I: Read, O: Sink>(
     context: &Context<'_, B, R, S>,
     producer: &mut Producer<'_, B, G, N>,
     machine: &mut LmtpMachine,
@@ -72,18 +72,18 @@ fn go_on<B: Naming, R: Wait, G: Gate, S: Summons, N: Notebook, I: Read, O: Sink>
     stop: &AtomicBool,
     buffers: &mut Buffers,
 ) -> Result<Ending, TalkFault>
-    requires permits { AreInForce context.now.office.now.directory
-        context.now.office.now.lanes.items producer.old.desk.number
+    requires permits { AreInForce context.now.intake.now.directory
+        context.now.intake.now.lanes.items producer.old.desk.number
         producer.old.desk.permits.items }
     requires receiver { IsReceiver context.now.channel.now producer.old.desk.receiver }
-    requires lanes { context.now.office.now.directory.shards
-        ≡ length context.now.office.now.lanes.items }
+    requires lanes { context.now.intake.now.directory.shards
+        ≡ length context.now.intake.now.lanes.items }
     requires quiet { machine.old.pending ≡ [] }
-    requires host { machine.old.host ≡ context.now.office.now.host.items }
+    requires host { machine.old.host ≡ context.now.intake.now.host.items }
     requires live { O.failed output.old ≡ false }
     requires room { 0 < length buffers.old.input.items }
-    ensures permits { AreInForce context.now.office.now.directory
-        context.now.office.now.lanes.items producer.old.desk.number
+    ensures permits { AreInForce context.now.intake.now.directory
+        context.now.intake.now.lanes.items producer.old.desk.number
         producer.new.desk.permits.items }
     ensures receiver { IsReceiver context.now.channel.now producer.new.desk.receiver }
     ensures number { producer.new.desk.number ≡ producer.old.desk.number }
@@ -100,15 +100,17 @@ fn go_on<B: Naming, R: Wait, G: Gate, S: Summons, N: Notebook, I: Read, O: Sink>
     ensures live { OnOk result (O.failed output.new ≡ false) }
     ensures failed { result ≡ Err TalkFault.Write → O.failed output.new ≡ true }
     ensures played { (done : List Judged)
-        → Stands context.now.office.now.directory context.now.office.now.directory
-        (rooms_of context.now.office.now.lanes.items) producer.old.desk.number done [] false machine.old buffers.old.output.items
+        → Stands context.now.intake.now.directory context.now.intake.now.directory
+        (rooms_of context.now.intake.now.lanes.items) producer.old.desk.number done [] false
+        machine.old buffers.old.output.items
         (N.tells producer.old.book) (received producer.old.desk.receiver)
         (map put_by producer.old.desk.permits.items)
-        → IsPlayed (premises_of context.now.office.now) machine.old.setting
+        → IsPlayed (premises_of context.now.intake.now) machine.old.setting
         producer.old.desk.number done
         (I.remaining input.old) (I.remaining input.new)
         (O.taken output.old) (O.taken output.new) (O.failed output.new)
-        (N.tells producer.new.book) (received producer.new.desk.receiver) (map put_by producer.new.desk.permits.items) result }
+        (N.tells producer.new.book) (received producer.new.desk.receiver)
+        (map put_by producer.new.desk.permits.items) result }
     ensures backed { KeepsBacked producer.old.desk producer.new.desk }
 {
     for _ in context.rt.forever() {
@@ -160,7 +162,7 @@ fn go_on<B: Naming, R: Wait, G: Gate, S: Summons, N: Notebook, I: Read, O: Sink>
 /// the sink fails; each message that was submitted by then has its verdicts. `NoMemory` where memory is
 /// refused; what was said by then was offered to the sink, and no copy was put that has no verdict. `Torn`
 /// where something came that was not awaited, a verdict or a shard's end; copies may be under way then.
-pub fn converse<B: Naming, R: Wait, G: Gate, S: Summons, N: Notebook, I: Read, O: Sink>(
+pub fn converse<B: Naming, R: Wait, G: Gate, S: Notifier, N: VerdictLog, I: Read, O: Sink>(
     context: &Context<'_, B, R, S>,
     producer: &mut Producer<'_, B, G, N>,
     serial: u64,
@@ -169,20 +171,20 @@ pub fn converse<B: Naming, R: Wait, G: Gate, S: Summons, N: Notebook, I: Read, O
     stop: &AtomicBool,
     buffers: &mut Buffers,
 ) -> Result<Ending, TalkFault>
-    // The desk has its own permit on each lane, over only where the office marks the shard as shut; its receiver is of `channel`.
-    requires permits { AreInForce context.now.office.now.directory
-        context.now.office.now.lanes.items producer.old.desk.number
+    // The desk has its own permit on each lane, over only where the intake marks the shard as shut; its receiver is of `channel`.
+    requires permits { AreInForce context.now.intake.now.directory
+        context.now.intake.now.lanes.items producer.old.desk.number
         producer.old.desk.permits.items }
     requires receiver { IsReceiver context.now.channel.now producer.old.desk.receiver }
-    requires lanes { context.now.office.now.directory.shards
-        ≡ length context.now.office.now.lanes.items }
-    requires host { length context.now.office.now.host.items < 256 }
+    requires lanes { context.now.intake.now.directory.shards
+        ≡ length context.now.intake.now.lanes.items }
+    requires host { length context.now.intake.now.host.items < 256 }
     requires live { O.failed output.old ≡ false }
     requires room { 0 < length buffers.old.input.items }
 
     // The same holds after, so that the next connection may follow; no end was counted that wasn't heard.
-    ensures permits { AreInForce context.now.office.now.directory
-        context.now.office.now.lanes.items producer.old.desk.number
+    ensures permits { AreInForce context.now.intake.now.directory
+        context.now.intake.now.lanes.items producer.old.desk.number
         producer.new.desk.permits.items }
     ensures receiver { IsReceiver context.now.channel.now producer.new.desk.receiver }
     ensures number { producer.new.desk.number ≡ producer.old.desk.number }
@@ -207,15 +209,17 @@ pub fn converse<B: Naming, R: Wait, G: Gate, S: Summons, N: Notebook, I: Read, O
 
     // If the books told of `done`: what was taken is a conversation, its replies were sent as `result` says, and, unless `Torn`, it is booked.
     ensures played { (done : List Judged)
-        → AreBooks context.now.office.now.directory (rooms_of context.now.office.now.lanes.items)
+        → AreBooks context.now.intake.now.directory (rooms_of context.now.intake.now.lanes.items)
         producer.old.desk.number done
         (N.tells producer.old.book) (received producer.old.desk.receiver)
         (map put_by producer.old.desk.permits.items)
-        → IsPlayed (premises_of context.now.office.now)
-        (setting_at (premises_of context.now.office.now) producer.old.desk.number serial) producer.old.desk.number done
+        → IsPlayed (premises_of context.now.intake.now)
+        (setting_at (premises_of context.now.intake.now) producer.old.desk.number serial)
+        producer.old.desk.number done
         (I.remaining input.old) (I.remaining input.new) (O.taken output.old) (O.taken output.new)
         (O.failed output.new)
-        (N.tells producer.new.book) (received producer.new.desk.receiver) (map put_by producer.new.desk.permits.items) result }
+        (N.tells producer.new.book) (received producer.new.desk.receiver)
+        (map put_by producer.new.desk.permits.items) result }
 
     // What the house's history had of all that the desk has put and heard, it has of what was put and heard since: so by `books_stand` each
     // copy of which the books tell Stored stands there, in the mailbox that its RCPT line named, with the text that came.
@@ -224,7 +228,7 @@ pub fn converse<B: Naming, R: Wait, G: Gate, S: Summons, N: Notebook, I: Read, O
     buffers.output.clear();
     let Ok(mut machine) = open(
         context.alloc,
-        context.office,
+        context.intake,
         producer.desk.number,
         serial,
         &mut buffers.output,

@@ -23,15 +23,15 @@ ghost use Rattle.lane_work.specs.Speaking.{Stands, is_quit, premises_of};
 ghost use Rattle.lane_work.specs.inner.Speaking.{Spoke};
 ghost use Rattle.lane_work.specs.Copies.{rooms_of};
 
-use crate::bells::Summons;
+use crate::bells::Notifier;
 use crate::closing::close_due;
 use crate::desk::Desk;
 use crate::dispatch::Dispatch;
 use crate::ending::{end_all, hear_ends};
 use crate::hearing::hear_all;
-use crate::notebook::Notebook;
 use crate::producer::{Context, Producer};
 use crate::putting::put_all;
+use crate::verdict_log::VerdictLog;
 use delivery_token::{Verdict, Verdicts, WorkerLog};
 use envelope::Directory;
 use house_history::{Answer, Letter, Naming};
@@ -39,7 +39,7 @@ use lmtp_machine::{ANSWER_ROOM, Fed, Limits, LmtpMachine, Submission, What};
 use shard_queue::{Ended, ReceiverPermit};
 use std::alloc::AllocError;
 use std::sync::Wait;
-use workers_sync::{Gate, Pace};
+use workers_sync::{Gate, SyncPoint};
 
 /// Why a worker submits no more.
 #[derive(Clone, Copy, Debug, PartialEq, Eq)]
@@ -75,18 +75,18 @@ pub enum Fate {
 }
 
 // Puts the copies of a message, hears the verdict on each, and notes them. All memory that this takes is asked for before the first copy is put.
-fn put_and_hear<B: Naming, R: Wait, G: Gate, S: Summons, N: Notebook>(
+fn put_and_hear<B: Naming, R: Wait, G: Gate, S: Notifier, N: VerdictLog>(
     context: &Context<'_, B, R, S>,
     producer: &mut Producer<'_, B, G, N>,
     message: &Submission,
 ) -> Result<Vec<Verdict>, Stop>
-    requires permits { ArePermits context.now.office.now.lanes.items producer.old.desk.number
+    requires permits { ArePermits context.now.intake.now.lanes.items producer.old.desk.number
         producer.old.desk.permits.items }
     requires receiver { IsReceiver context.now.channel.now producer.old.desk.receiver }
-    requires lanes { context.now.office.now.directory.shards
-        ≡ length context.now.office.now.lanes.items }
+    requires lanes { context.now.intake.now.directory.shards
+        ≡ length context.now.intake.now.lanes.items }
     requires mailboxes { vec_len message.now.mailboxes ≡ vec_len message.now.keys }
-    ensures permits { ArePermits context.now.office.now.lanes.items producer.old.desk.number
+    ensures permits { ArePermits context.now.intake.now.lanes.items producer.old.desk.number
         producer.new.desk.permits.items }
     ensures receiver { IsReceiver context.now.channel.now producer.new.desk.receiver }
     ensures number { producer.new.desk.number ≡ producer.old.desk.number }
@@ -97,12 +97,13 @@ fn put_and_hear<B: Naming, R: Wait, G: Gate, S: Summons, N: Notebook>(
     ensures verdicts { IfOk result (λ vs. vec_len vs ≡ vec_len message.now.keys) }
     // Where no permit is over that a copy is for.
     ensures books { IfOk result (λ vs.
-        AreOpenTo context.now.office.now.directory message.now.mailboxes.items
+        AreOpenTo context.now.intake.now.directory message.now.mailboxes.items
         producer.old.desk.permits.items →
-        (judged : List Judged) → AreBooks context.now.office.now.directory (rooms_of context.now.office.now.lanes.items)
+        (judged : List Judged) → AreBooks context.now.intake.now.directory
+        (rooms_of context.now.intake.now.lanes.items)
         producer.old.desk.number judged (N.tells producer.old.book)
         (received producer.old.desk.receiver) (map put_by producer.old.desk.permits.items)
-        → AreBooks context.now.office.now.directory (rooms_of context.now.office.now.lanes.items)
+        → AreBooks context.now.intake.now.directory (rooms_of context.now.intake.now.lanes.items)
         producer.old.desk.number (judged
         ++ record { message = submission_of message.now; verdicts = vs.items }
         ∷ []) (N.tells producer.new.book) (received producer.new.desk.receiver)
@@ -124,9 +125,9 @@ fn put_and_hear<B: Naming, R: Wait, G: Gate, S: Summons, N: Notebook>(
     producer.book.reserve(count)?;
     let mut heard = Verdicts::with_room(context.alloc, count)?;
     let room = Vec::with_capacity(context.alloc, count)?;
-    let (pace, desk) = (&mut producer.pace, &mut producer.desk);
-    put_all(context, pace, desk, message, &mut heard);
-    let Ok(()) = hear_all(context, pace, desk, message, &mut heard) else {
+    let (sync_point, desk) = (&mut producer.sync_point, &mut producer.desk);
+    put_all(context, sync_point, desk, message, &mut heard);
+    let Ok(()) = hear_all(context, sync_point, desk, message, &mut heard) else {
         return Err(Stop::Torn);
     };
     let verdicts = heard.known_in(room);
@@ -136,14 +137,14 @@ fn put_and_hear<B: Naming, R: Wait, G: Gate, S: Summons, N: Notebook>(
 
 /// Takes bytes from the front of a piece: one line, or one end of data. A message that is submitted by
 /// it is put and heard of before anything more is taken: its copies are put, each into the lane of its mailbox's
-/// shard, whose consumer is summoned; the verdict on each is awaited, and noted in the producer's book; and then
+/// shard, whose consumer is notified; the verdict on each is awaited, and noted in the producer's book; and then
 /// they are said. Replies go to `out`, behind what stands there; what was said before may have been
-/// sent. `directory` is the producer's own, which may have more marks than the office's.
+/// sent. `directory` is the producer's own, which may have more marks than the intake's.
 ///
 /// Errors: `NoMemory` where memory was refused; then no copy was put and nothing was heard. `Torn` where
 /// something came that wasn't awaited, a verdict or a shard's end; copies may be under way then. After
 /// either, bytes may have been taken and replies written, and what stood in `out` stands there still.
-pub fn turn<B: Naming, R: Wait, G: Gate, S: Summons, N: Notebook>(
+pub fn turn<B: Naming, R: Wait, G: Gate, S: Notifier, N: VerdictLog>(
     context: &Context<'_, B, R, S>,
     producer: &mut Producer<'_, B, G, N>,
     directory: &Directory,
@@ -152,21 +153,21 @@ pub fn turn<B: Naming, R: Wait, G: Gate, S: Summons, N: Notebook>(
     out: &mut Vec<u8>,
 ) -> Result<Fed, Stop>
     // The desk has its own permit on each lane, over only where `directory` marks the shard as shut; its receiver is of `channel`.
-    requires permits { AreInForce directory.now context.now.office.now.lanes.items
+    requires permits { AreInForce directory.now context.now.intake.now.lanes.items
         producer.old.desk.number
         producer.old.desk.permits.items }
     requires receiver { IsReceiver context.now.channel.now producer.old.desk.receiver }
 
-    // There is a lane for each shard, and but for its marks `directory` is the office's.
-    requires lanes { context.now.office.now.directory.shards
-        ≡ length context.now.office.now.lanes.items }
-    requires marks { directory.now ≡ marked directory.now.shut context.now.office.now.directory }
+    // There is a lane for each shard, and but for its marks `directory` is the intake's.
+    requires lanes { context.now.intake.now.directory.shards
+        ≡ length context.now.intake.now.lanes.items }
+    requires marks { directory.now ≡ marked directory.now.shut context.now.intake.now.directory }
 
     // No message of the connection waits for its verdicts.
     requires quiet { machine.old.pending ≡ [] }
 
     // The permits are as required still; desk and book stay whose they were, and no end was counted that wasn't heard.
-    ensures permits { AreInForce directory.now context.now.office.now.lanes.items
+    ensures permits { AreInForce directory.now context.now.intake.now.lanes.items
         producer.old.desk.number
         producer.new.desk.permits.items }
     ensures receiver { IsReceiver context.now.channel.now producer.new.desk.receiver }
@@ -188,13 +189,13 @@ pub fn turn<B: Naming, R: Wait, G: Gate, S: Summons, N: Notebook>(
 
     // Without an error: if `told`, then `out`, was the replies to `bytes`, with their messages booked behind `done`, so it is with what was taken.
     ensures stands { IfOk result (λ fed. (done : List Judged) (bytes told : List ℕ)
-        → Stands directory.now context.now.office.now.directory (rooms_of
-        context.now.office.now.lanes.items)
+        → Stands directory.now context.now.intake.now.directory (rooms_of
+        context.now.intake.now.lanes.items)
         producer.old.desk.number done bytes false machine.old (told
         ++ out.old.items) (N.tells producer.old.book) (received producer.old.desk.receiver)
         (map put_by producer.old.desk.permits.items)
-        → Stands directory.now context.now.office.now.directory (rooms_of
-        context.now.office.now.lanes.items)
+        → Stands directory.now context.now.intake.now.directory (rooms_of
+        context.now.intake.now.lanes.items)
         producer.old.desk.number done (bytes ++ take fed.used piece.now)
         (is_quit fed.what) machine.new (told
         ++ out.new.items) (N.tells producer.new.book) (received producer.new.desk.receiver)
@@ -202,8 +203,8 @@ pub fn turn<B: Naming, R: Wait, G: Gate, S: Summons, N: Notebook>(
 
     // After an error, where it stood so before: what was in `out` stands there still, in front.
     ensures kept { OnErr result ((done : List Judged) (bytes told : List ℕ)
-        → Stands directory.now context.now.office.now.directory (rooms_of
-        context.now.office.now.lanes.items)
+        → Stands directory.now context.now.intake.now.directory (rooms_of
+        context.now.intake.now.lanes.items)
         producer.old.desk.number done bytes false machine.old (told
         ++ out.old.items) (N.tells producer.old.book) (received producer.old.desk.receiver)
         (map put_by producer.old.desk.permits.items)
@@ -242,7 +243,7 @@ pub fn turn<B: Naming, R: Wait, G: Gate, S: Summons, N: Notebook>(
 }
 
 // Goes on turn by turn, until all bytes are taken or the connection has ended.
-fn speak<B: Naming, R: Wait, G: Gate, S: Summons>(
+fn speak<B: Naming, R: Wait, G: Gate, S: Notifier>(
     context: &Context<'_, B, R, S>,
     producer: &mut Producer<'_, B, G, WorkerLog>,
     directory: &Directory,
@@ -250,15 +251,15 @@ fn speak<B: Naming, R: Wait, G: Gate, S: Summons>(
     bytes: &[u8],
     out: &mut Vec<u8>,
 ) -> Result<(), Stop>
-    requires permits { AreInForce directory.now context.now.office.now.lanes.items
+    requires permits { AreInForce directory.now context.now.intake.now.lanes.items
         producer.old.desk.number
         producer.old.desk.permits.items }
     requires receiver { IsReceiver context.now.channel.now producer.old.desk.receiver }
-    requires lanes { context.now.office.now.directory.shards
-        ≡ length context.now.office.now.lanes.items }
-    requires marks { directory.now ≡ marked directory.now.shut context.now.office.now.directory }
+    requires lanes { context.now.intake.now.directory.shards
+        ≡ length context.now.intake.now.lanes.items }
+    requires marks { directory.now ≡ marked directory.now.shut context.now.intake.now.directory }
     requires quiet { machine.old.pending ≡ [] }
-    ensures permits { AreInForce directory.now context.now.office.now.lanes.items
+    ensures permits { AreInForce directory.now context.now.intake.now.lanes.items
         producer.old.desk.number
         producer.new.desk.permits.items }
     ensures receiver { IsReceiver context.now.channel.now producer.new.desk.receiver }
@@ -268,12 +269,14 @@ fn speak<B: Naming, R: Wait, G: Gate, S: Summons>(
     ensures backed { KeepsBacked producer.old.desk producer.new.desk }
     ensures only { OnOk result (HearsItsOwn producer.old.desk producer.new.desk) }
     ensures spoke { OnOk result ((done : List Judged)
-        → Stands directory.now context.now.office.now.directory (rooms_of
-        context.now.office.now.lanes.items)
+        → Stands directory.now context.now.intake.now.directory (rooms_of
+        context.now.intake.now.lanes.items)
         producer.old.desk.number done [] false machine.old out.old.items
-        (notes_tell producer.old.book.notes) (received producer.old.desk.receiver) (map put_by producer.old.desk.permits.items)
-        → Spoke directory.now context.now.office.now.directory
-        (rooms_of context.now.office.now.lanes.items) producer.old.desk.number done bytes.now machine.old.setting
+        (notes_tell producer.old.book.notes) (received producer.old.desk.receiver)
+        (map put_by producer.old.desk.permits.items)
+        → Spoke directory.now context.now.intake.now.directory
+        (rooms_of context.now.intake.now.lanes.items) producer.old.desk.number done bytes.now
+        machine.old.setting
         machine.old.host out.new.items
         (notes_tell producer.new.book.notes) (received producer.new.desk.receiver)
         (map put_by producer.new.desk.permits.items)) }
@@ -295,22 +298,22 @@ fn speak<B: Naming, R: Wait, G: Gate, S: Summons>(
 }
 
 // One connection: the replies to these bytes.
-fn converse<B: Naming, R: Wait, G: Gate, S: Summons>(
+fn converse<B: Naming, R: Wait, G: Gate, S: Notifier>(
     context: &Context<'_, B, R, S>,
     producer: &mut Producer<'_, B, G, WorkerLog>,
     directory: &Directory,
     serial: u64,
     bytes: &[u8],
 ) -> Result<Vec<u8>, Stop>
-    requires permits { AreInForce directory.now context.now.office.now.lanes.items
+    requires permits { AreInForce directory.now context.now.intake.now.lanes.items
         producer.old.desk.number
         producer.old.desk.permits.items }
     requires receiver { IsReceiver context.now.channel.now producer.old.desk.receiver }
-    requires lanes { context.now.office.now.directory.shards
-        ≡ length context.now.office.now.lanes.items }
-    requires marks { directory.now ≡ marked directory.now.shut context.now.office.now.directory }
-    requires host { length context.now.office.now.host.items < 256 }
-    ensures permits { AreInForce directory.now context.now.office.now.lanes.items
+    requires lanes { context.now.intake.now.directory.shards
+        ≡ length context.now.intake.now.lanes.items }
+    requires marks { directory.now ≡ marked directory.now.shut context.now.intake.now.directory }
+    requires host { length context.now.intake.now.host.items < 256 }
+    ensures permits { AreInForce directory.now context.now.intake.now.lanes.items
         producer.old.desk.number
         producer.new.desk.permits.items }
     ensures receiver { IsReceiver context.now.channel.now producer.new.desk.receiver }
@@ -320,21 +323,22 @@ fn converse<B: Naming, R: Wait, G: Gate, S: Summons>(
     ensures backed { KeepsBacked producer.old.desk producer.new.desk }
     ensures only { OnOk result (HearsItsOwn producer.old.desk producer.new.desk) }
     ensures spoke { IfOk result (λ reply. (done : List Judged)
-        → AreBooks context.now.office.now.directory (rooms_of context.now.office.now.lanes.items)
+        → AreBooks context.now.intake.now.directory (rooms_of context.now.intake.now.lanes.items)
         producer.old.desk.number done
         (notes_tell producer.old.book.notes)
         (received producer.old.desk.receiver) (map put_by producer.old.desk.permits.items)
-        → Spoke directory.now context.now.office.now.directory (rooms_of
-        context.now.office.now.lanes.items) producer.old.desk.number
+        → Spoke directory.now context.now.intake.now.directory (rooms_of
+        context.now.intake.now.lanes.items) producer.old.desk.number
         done bytes.now
-        (setting_at (premises_of context.now.office.now) producer.old.desk.number serial) context.now.office.now.host.items
+        (setting_at (premises_of context.now.intake.now) producer.old.desk.number serial)
+        context.now.intake.now.host.items
         reply.items (notes_tell producer.new.book.notes)
         (received producer.new.desk.receiver) (map put_by producer.new.desk.permits.items)) }
 {
     let limits = Limits {
-        host: context.office.host.as_slice(),
-        max_message: context.office.max_message,
-        budget: &context.office.budget,
+        host: context.intake.host.as_slice(),
+        max_message: context.intake.max_message,
+        budget: &context.intake.budget,
     };
     let mut machine = LmtpMachine::new(context.alloc, producer.desk.number, serial, limits)?;
     let mut out = Vec::new(context.alloc);
@@ -360,25 +364,25 @@ pub struct Worked<B: Naming> {
 }
 
 // The connections, one after another.
-fn go_through<B: Naming, R: Wait, G: Gate, S: Summons>(
+fn go_through<B: Naming, R: Wait, G: Gate, S: Notifier>(
     context: &Context<'_, B, R, S>,
     producer: &mut Producer<'_, B, G, WorkerLog>,
     replies: &mut Vec<Vec<u8>>,
     connections: &[Vec<u8>],
 ) -> Fate
-    requires permits { ArePermits context.now.office.now.lanes.items producer.old.desk.number
+    requires permits { ArePermits context.now.intake.now.lanes.items producer.old.desk.number
         producer.old.desk.permits.items
         × All IsNew producer.old.desk.permits.items }
     requires receiver { IsReceiver context.now.channel.now producer.old.desk.receiver }
-    requires lanes { context.now.office.now.directory.shards
-        ≡ length context.now.office.now.lanes.items }
-    requires host { length context.now.office.now.host.items < 256 }
+    requires lanes { context.now.intake.now.directory.shards
+        ≡ length context.now.intake.now.lanes.items }
+    requires host { length context.now.intake.now.host.items < 256 }
     requires begun { (replies.old.items ≡ [])
-        × AreBooks context.now.office.now.directory (rooms_of context.now.office.now.lanes.items)
+        × AreBooks context.now.intake.now.directory (rooms_of context.now.intake.now.lanes.items)
         producer.old.desk.number []
         (notes_tell producer.old.book.notes) (received producer.old.desk.receiver)
         (map put_by producer.old.desk.permits.items) }
-    ensures permits { ArePermits context.now.office.now.lanes.items producer.old.desk.number
+    ensures permits { ArePermits context.now.intake.now.lanes.items producer.old.desk.number
         producer.new.desk.permits.items }
     ensures receiver { IsReceiver context.now.channel.now producer.new.desk.receiver }
     ensures number { producer.new.desk.number ≡ producer.old.desk.number }
@@ -388,17 +392,17 @@ fn go_through<B: Naming, R: Wait, G: Gate, S: Summons>(
     ensures backed { KeepsBacked producer.old.desk producer.new.desk }
     ensures only { result ≡ Fate.Whole → HearsItsOwn producer.old.desk producer.new.desk }
     ensures whole { result ≡ Fate.Whole
-        → HasServed (premises_of context.now.office.now) producer.old.desk.number (map (λ b.
+        → HasServed (premises_of context.now.intake.now) producer.old.desk.number (map (λ b.
         b.items) connections.now)
         (map (λ b. b.items) replies.new.items) (notes_tell producer.new.book.notes)
         (received producer.new.desk.receiver) (map put_by producer.new.desk.permits.items) }
 {
-    let Ok(mut directory) = context.office.directory.copy(context.alloc) else {
+    let Ok(mut directory) = context.intake.directory.copy(context.alloc) else {
         return Fate::NoMemory;
     };
     for i in 0..connections.len() {
-        let (pace, desk) = (&mut producer.pace, &mut producer.desk);
-        close_due(context, pace, desk, &mut directory, i);
+        let (sync_point, desk) = (&mut producer.sync_point, &mut producer.desk);
+        close_due(context, sync_point, desk, &mut directory, i);
         let reply = match converse(
             context,
             producer,
@@ -428,28 +432,28 @@ fn go_through<B: Naming, R: Wait, G: Gate, S: Summons>(
 /// still ends its permits and hears all ends.
 ///
 /// `room`, which is empty, has room for what is left of each permit.
-pub fn work<B: Naming, R: Wait, G: Gate, S: Summons>(
+pub fn work<B: Naming, R: Wait, G: Gate, S: Notifier>(
     context: &Context<'_, B, R, S>,
-    pace: Pace<'_, G>,
+    sync_point: SyncPoint<'_, G>,
     desk: Desk<B>,
     room: Vec<Ended<Letter<B>>>,
     connections: &[Vec<u8>],
 ) -> Worked<B>
     // The desk has its own permit on each lane, none of them over, and put nothing yet; its receiver is of `channel`.
-    requires permits { ArePermits context.now.office.now.lanes.items desk.number desk.permits.items
+    requires permits { ArePermits context.now.intake.now.lanes.items desk.number desk.permits.items
         × All IsNew desk.permits.items }
     requires receiver { IsReceiver context.now.channel.now desk.receiver }
-    requires lanes { context.now.office.now.directory.shards
-        ≡ length context.now.office.now.lanes.items }
-    requires host { length context.now.office.now.host.items < 256 }
-    requires room { (room.items ≡ []) × (length context.now.office.now.lanes.items
+    requires lanes { context.now.intake.now.directory.shards
+        ≡ length context.now.intake.now.lanes.items }
+    requires host { length context.now.intake.now.host.items < 256 }
+    requires room { (room.items ≡ []) × (length context.now.intake.now.lanes.items
         ≤ vec_capacity room) }
 
     // It did begin, however it came to its end.
     ensures began { result.fate ≢ Fate.NotBegun }
 
     // It heard as many shards' ends as there are lanes, or more, of which `desk.ends` were counted before.
-    ensures heard { length context.now.office.now.lanes.items + ends_in (received desk.receiver)
+    ensures heard { length context.now.intake.now.lanes.items + ends_in (received desk.receiver)
         ≤ desk.ends + ends_in (received result.receiver) }
 
     // Where it is `Whole`, as many verdicts were heard as copies were put on all lanes: each was awaited, and nothing else came.
@@ -464,13 +468,13 @@ pub fn work<B: Naming, R: Wait, G: Gate, S: Summons>(
         result.ended.items) }
 
     // The permits, the receiver and the log are its own; where it is `Whole`, this is its account: of replies, notes and what it put.
-    ensures worked { IsWorked context.now.office.now context.now.channel.now desk.number (map (λ b.
+    ensures worked { IsWorked context.now.intake.now context.now.channel.now desk.number (map (λ b.
         b.items) connections.now) result }
 {
     desk.dispatch.is_kept();
     let log = WorkerLog::new(context.alloc, desk.number);
     let mut producer = Producer {
-        pace,
+        sync_point,
         desk,
         book: log,
     };
@@ -484,7 +488,7 @@ pub fn work<B: Naming, R: Wait, G: Gate, S: Summons>(
 /// it came there; where all had gone well and something else than an end comes now, it is torn.
 ///
 /// `room`, which is empty, has room for what is left of each permit.
-pub fn finish<B: Naming, R: Wait, G: Gate, S: Summons>(
+pub fn finish<B: Naming, R: Wait, G: Gate, S: Notifier>(
     context: &Context<'_, B, R, S>,
     producer: Producer<'_, B, G, WorkerLog>,
     room: Vec<Ended<Letter<B>>>,
@@ -492,14 +496,14 @@ pub fn finish<B: Naming, R: Wait, G: Gate, S: Summons>(
     fate: Fate,
 ) -> Worked<B>
     // The desk has its own permit on each lane, over or not; its receiver is of `channel`.
-    requires permits { ArePermits context.now.office.now.lanes.items producer.desk.number
+    requires permits { ArePermits context.now.intake.now.lanes.items producer.desk.number
         producer.desk.permits.items }
     requires receiver { IsReceiver context.now.channel.now producer.desk.receiver }
-    requires room { (room.items ≡ []) × (length context.now.office.now.lanes.items
+    requires room { (room.items ≡ []) × (length context.now.intake.now.lanes.items
         ≤ vec_capacity room) }
 
     // Its permit on each lane has ended: there it has said what it had put, then its end, and nothing else.
-    ensures ended { AreEnded context.now.office.now.lanes.items producer.entry.desk.number
+    ensures ended { AreEnded context.now.intake.now.lanes.items producer.entry.desk.number
         result.ended.items }
     ensures said { HaveEnded producer.entry.desk.number (map put_by
         producer.entry.desk.permits.items)
@@ -508,7 +512,7 @@ pub fn finish<B: Naming, R: Wait, G: Gate, S: Summons>(
     // It heard as many shards' ends as there are lanes, or more, of which `producer.desk.ends` were counted before.
     ensures receiver { IsReceiver context.now.channel.now result.receiver }
     ensures grew { IsStartOf (received producer.entry.desk.receiver) (received result.receiver) }
-    ensures heard { length context.now.office.now.lanes.items + ends_in (received
+    ensures heard { length context.now.intake.now.lanes.items + ends_in (received
         producer.entry.desk.receiver)
         ≤ producer.entry.desk.ends + ends_in (received result.receiver) }
 
@@ -532,7 +536,7 @@ pub fn finish<B: Naming, R: Wait, G: Gate, S: Summons>(
     ensures began { fate ≢ Fate.NotBegun → result.fate ≢ Fate.NotBegun }
 {
     let Producer {
-        mut pace,
+        mut sync_point,
         desk,
         book: log,
     } = producer;
@@ -545,20 +549,20 @@ pub fn finish<B: Naming, R: Wait, G: Gate, S: Summons>(
     } = desk;
     let ended = end_all(
         context.rt,
-        &mut pace,
-        context.office,
-        context.summons,
+        &mut sync_point,
+        context.intake,
+        context.notifier,
         number,
         permits,
         room,
     );
     let quiet = hear_ends(
         context.rt,
-        &mut pace,
+        &mut sync_point,
         context.channel,
         &mut receiver,
         ends,
-        context.office.lanes.len(),
+        context.intake.lanes.len(),
     );
     Worked {
         ended,

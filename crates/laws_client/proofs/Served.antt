@@ -162,7 +162,7 @@ never old new _ n h = h
 
 pub small_call : (old new : LockedStore) (call : Call) (answer : Answer) → Holds old call answer new → HasSmallCursor old → HasSmallCursor new
 small_call old new call (Refused fault) h small = still_small old new (still old new call fault h) small
-small_call old new (Enter m) (Entered opening) (nowhere, door, (handle, (found, left, (number, enters), k), is), fits) small =
+small_call old new (Enter m) (Entered opening) (nowhere, acceptor, (handle, (found, left, (number, enters), k), is), fits) small =
     at_small new (record { mailbox = m; start = handle.at; handle = handle }) (ap (λ (p : LockedStore). p.entered) is) (within_few left.mailbox handle _ enters.event.left_kept enters.known)
 small_call old new (Look by_uid set) (Looked view) h small = still_small old new h.0 small
 small_call old new (Read uid mark) (Found row) h small = seen_small old new h.0 small

@@ -10,7 +10,7 @@ use Rattle.imap_session.specs.Commands.{greeting}
 use Rattle.imap_session.specs.Dialogue.{Dialogue, StandsFor}
 use Rattle.imap_session.specs.Folders.{folders_of}
 use Rattle.session_thread.specs.Locks.{LockedStore}
-use Rattle.imap_stream.specs.declared.berth.Parting.{Parting}
+use Rattle.imap_stream.specs.declared.client_slot.Parting.{Parting}
 use Rattle.imap_stream.specs.Attending.{Attended, Calls, HasCalled}
 use Rattle.imap_stream.specs.Visits.{IsGreeted, Visit, is_over}
 use Rattle.laws_client.specs.Clients.{IsRightAbout, Told, bytes_in, hears_all}
@@ -65,7 +65,8 @@ CallsGoOn = (beginning : Beginning) (before heard : List ℕ) (told : List Told)
     → Calls old heard new
     → (more : List Told) × HasLived beginning (before ++ heard) (told ++ more) new
 
--- A client that was greeted, and then attended by a berth's thread: the calls that were made are such a life, of just the bytes that were heard.
+-- A client that was greeted, and then attended by a client slot's thread: the calls that were made are such a life, of just the bytes that were
+-- heard.
 abbrev pub AttendedClientsLive : Type 0
 AttendedClientsLive =
     (admission : Admission) (folders : List Folder) (store : LockedStore) (taken before after : Option (List ℕ)) (how : Parting)

@@ -79,7 +79,7 @@ pub fn served_visits_are_lives()
     ensures begin { VisitsBegin }
     ensures go_on { VisitsGoOn }
 
-    // So do all calls of a visit together, one after another: those by which a berth attends a client that was greeted, from the first byte on.
+    // So do all calls of a visit together, one after another: those by which a client slot attends a client that was greeted, from the first byte on.
     ensures calls { CallsGoOn }
     ensures attended { AttendedClientsLive }
 

@@ -30,7 +30,7 @@ use Rattle.shard_queue.specs.Lane.{of}
 use Rattle.shard_queue.specs.Permits.{history as taken_of}
 use Rattle.laws_relay.specs.Handed.{Between, handed, handed_over}
 use Rattle.laws_relay.specs.ReplyLaws.{IsInLine}
-use Rattle.laws_relay.specs.Served.{BerthsConclude, ConnectionStands, ServedConcludes, ServedRelaysConclude, ServersConclude, WorkersConclude, bytes_on, replies_on}
+use Rattle.laws_relay.specs.Served.{ClientSlotsConclude, ConnectionStands, ServedConcludes, ServedRelaysConclude, ServersConclude, WorkersConclude, bytes_on, replies_on}
 use Rattle.laws_relay.proofs.FateLaws.{taken_there}
 use Rattle.laws_relay.proofs.Names.{settings_are_in_line}
 use Rattle.laws_relay.proofs.Positions.{none_at}
@@ -201,14 +201,14 @@ servers_conclude workers config finished left range faultless n worker =
     let many = left.workers in
     workers left.house n (left.mail n worker).line (slice_index_or (answers finished) n []) (map (of n) (histories finished)) finished.front in_line some lanes (left.mail n worker).served (left.backed n (omega (arith, worker, many)))
 
--- ---- a berth
+-- ---- a client slot
 
-pub berths_conclude : WordsStand → BerthsConclude
-berths_conclude words_stand config finished left range n berth under =
+pub client_slots_conclude : WordsStand → ClientSlotsConclude
+client_slots_conclude words_stand config finished left range n client_slot under =
     let some : 0 < left.house.directory.shards = subst (λ (d : Directory). 0 < d.shards) (sym left.set.directory) (let few = range.shards.0 in omega (arith, few)) in
     let lanes : left.house.directory.shards ≡ length (map (of n) (histories finished)) =
     ap (λ (d : Directory). d.shards) left.set.directory ∙ sym left.shards ∙ sym (length-map finished.lanes.items taken_of) ∙ sym (length-map (histories finished) (of n)) in
-    let has = left.clients n berth under in
+    let has = left.clients n client_slot under in
     let backed = left.backed n under in
     let as_many : left.house.directory.shards ≡ length has.sent = lanes ∙ ap length has.ended ∙ length-map has.sent (λ entries. entries ++ End n ∷ []) in
     let stand : StandAsTold n finished.front has.served.0 =

@@ -137,22 +137,22 @@ ServersConclude = (config : Config) (finished : Finished) (left : HasLeft config
 
 -- ---- what clients append
 
--- Of a berth, whose clients appended these messages, of which these verdicts were told: just those stand
+-- Of a client slot, whose clients appended these messages, of which these verdicts were told: just those stand
 -- of which Stored was told. They are the very messages, in the mailboxes that were named, with
 -- their texts and flags, each once, under the UID that was told, and in no other
 -- mailbox; and in each mailbox they stand in the order in which they were appended.
-pub record BerthConcludes (seat : ℕ) (history : List Event) (copies : List (Job × Verdict)) : Type 0 where
+pub record ClientSlotConcludes (seat : ℕ) (history : List Event) (copies : List (Job × Verdict)) : Type 0 where
   pub stand : StandAsTold seat history copies
   pub once : All (λ (one : Job × Verdict). (uid : ℕ) → one.1 ≡ Stored uid → StandsAlone history one.0 uid) copies
   pub in_order : (mailbox : ℕ) → AllPairs Below (keys_of_seat seat (accepted_in mailbox history))
 
--- So it is of each berth of a server that stopped in order, and of the very messages that the server
+-- So it is of each client slot of a server that stopped in order, and of the very messages that the server
 -- hands out as appended there: they are what was put on its lanes, and the verdicts are what
 -- came on its reply channel (`HasServedClients`).
-abbrev pub BerthsConclude : Type 0
-BerthsConclude = (config : Config) (finished : Finished) (left : HasLeft config finished) → IsInRange config
-    → (n : ℕ) (berth : config.workers ≤ n) (under : n < length finished.channels.items)
-    → BerthConcludes n finished.front (left.clients n berth under).served.0
+abbrev pub ClientSlotsConclude : Type 0
+ClientSlotsConclude = (config : Config) (finished : Finished) (left : HasLeft config finished) → IsInRange config
+    → (n : ℕ) (client_slot : config.workers ≤ n) (under : n < length finished.channels.items)
+    → ClientSlotConcludes n finished.front (left.clients n client_slot under).served.0
 
 -- ---- a line that tells what came and what was said
 

@@ -15,5 +15,6 @@ pub use record_laws::{
 };
 pub use reply_laws::{connections_are_known, messages_are_known, replies_are_read};
 pub use served_laws::{
-    berths_conclude, lines_conclude, served_relays_conclude, servers_conclude, workers_conclude,
+    client_slots_conclude, lines_conclude, served_relays_conclude, servers_conclude,
+    workers_conclude,
 };

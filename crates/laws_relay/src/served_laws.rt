@@ -1,7 +1,7 @@
 //! Laws of what a relay may conclude of a server, by the one history that all its threads share, as functions that do nothing but rest on the
 //! laws of the crates below.
 
-ghost use Rattle.laws_relay.specs.Served.{BerthsConclude, LinesConclude, ServedRelaysConclude, ServersConclude, WorkersConclude};
+ghost use Rattle.laws_relay.specs.Served.{ClientSlotsConclude, LinesConclude, ServedRelaysConclude, ServersConclude, WorkersConclude};
 
 use crate::account_laws::connections_of_accounts_are_known;
 use crate::reply_laws::messages_are_known;
@@ -38,10 +38,10 @@ pub fn servers_conclude()
     workers_conclude();
 }
 
-/// Of each berth of such a server just those messages that its clients appended stand of which Stored was told: the very messages, each once,
+/// Of each client slot of such a server just those messages that its clients appended stand of which Stored was told: the very messages, each once,
 /// under the UID that was told, in the order in which they were appended.
-pub fn berths_conclude()
-    ensures { BerthsConclude }
+pub fn client_slots_conclude()
+    ensures { ClientSlotsConclude }
 {
     books_stand();
 }

@@ -20,7 +20,7 @@ pub enum Failure {
     /// Memory was refused.
     #[error("out of memory")]
     NoMemory,
-    /// A server's house could not be closed as it should, or a worker or a berth heard what it didn't await.
+    /// A server's house could not be closed as it should, or a worker or a client slot heard what it didn't await.
     #[error("torn")]
     Torn,
 }

@@ -28,10 +28,10 @@ use Rattle.lane_work.specs.LanePermits.{AllIn, AreIn}
 use Rattle.lane_work.specs.ChannelPermits.{AllSendersIn, AreSendersIn}
 use Rattle.lane_work.proofs.CloseLaws as lanes
 use Rattle.lane_work.proofs.ChannelCloseLaws as channels
-use Rattle.house_floor.specs.Crew.{AllAt}
-use Rattle.house_floor.specs.declared.floor.Floor.{Floor}
-use Rattle.house_floor.specs.declared.floor.Guest.{Guest}
-use Rattle.house_floor.specs.Left.{IsServiceOf, Plans}
+use Rattle.house_shared.specs.Crew.{AllAt}
+use Rattle.house_shared.specs.declared.shared.HouseShared.{HouseShared}
+use Rattle.house_shared.specs.declared.shared.Guest.{Guest}
+use Rattle.house_shared.specs.Left.{IsServiceOf, Plans}
 use Rattle.house_history.specs.declared.event.Event.{Event}
 use Rattle.house_history.specs.Events.{sent_by}
 use Rattle.house_history.specs.Legal.{Legal}
@@ -83,15 +83,15 @@ whole_of fates.Torn is = absurd (cc)
 -- ---- accounts
 
 -- What each worker's connections came to, where these were its replies and its log.
-abbrev pub HasAccount : {B : Type 0} (floor : Floor B) (plans : Plans) (replies : List (List (List ℕ))) (notes : List (List Noted)) (answers : List (List (Entry Noted))) (histories : List (List (Entry Job))) → ℕ → Type 0
-HasAccount floor plans replies notes answers histories p =
-    Account (premises_of floor.office) p (slice_index_or (map (λ (w : Vec (Vec ℕ Global) Global). map (λ b. b.items) w.items) plans) p []) (slice_index_or replies p []) (slice_index_or notes p [])
+abbrev pub HasAccount : {B : Type 0} (shared : HouseShared B) (plans : Plans) (replies : List (List (List ℕ))) (notes : List (List Noted)) (answers : List (List (Entry Noted))) (histories : List (List (Entry Job))) → ℕ → Type 0
+HasAccount shared plans replies notes answers histories p =
+    Account (premises_of shared.intake) p (slice_index_or (map (λ (w : Vec (Vec ℕ Global) Global). map (λ b. b.items) w.items) plans) p []) (slice_index_or replies p []) (slice_index_or notes p [])
     (slice_index_or answers p []) (map (of p) histories)
 
 -- What the steps of the session with seat p came to.
-abbrev pub HasSessionAccount : {B : Type 0} (floor : Floor B) (guest : Guest) (replies : List (List (List ℕ))) (notes : List (List Noted)) (answers : List (List (Entry Noted))) (histories : List (List (Entry Job))) → ℕ → Type 0
-HasSessionAccount floor guest replies notes answers histories p =
-    SessionAccount (premises_of floor.office) (length floor.depot.mailboxes.items) floor.turns p guest (slice_index_or replies p []) (slice_index_or notes p [])
+abbrev pub HasSessionAccount : {B : Type 0} (shared : HouseShared B) (guest : Guest) (replies : List (List (List ℕ))) (notes : List (List Noted)) (answers : List (List (Entry Noted))) (histories : List (List (Entry Job))) → ℕ → Type 0
+HasSessionAccount shared guest replies notes answers histories p =
+    SessionAccount (premises_of shared.intake) (length shared.delivery.mailboxes.items) shared.turns p guest (slice_index_or replies p []) (slice_index_or notes p [])
     (slice_index_or answers p []) (map (of p) histories)
 
 twice : {B : Type 0} (vs : List (Worked B)) → map received (map (λ (v : Worked B). v.receiver) vs) ≡ map (λ (v : Worked B). received v.receiver) vs
@@ -111,48 +111,48 @@ module _ {B : Type 0} (ws : List (Worked B)) (p : ℕ) (w : Worked B) (at : slic
       (subst (λ x. P (map (λ b. b.items) w.replies.items) x (slice_index_or answers p [])) c
       (subst (λ x. P (map (λ b. b.items) w.replies.items) w.log.notes x) d here))
 
-module _ {B : Type 0} (floor : Floor B) (plans : Plans) (guests : List Guest) (ws : List (Worked B)) (all : AllAt (IsProduceOf floor plans guests) 0 ws) (count : length ws ≡ length plans + length guests)
-    (fine : All (λ w. fault_of_fate w.fate ≡ None) ws) (permits : List (ConsumerPermit Job)) (closed : List (Closed Job)) (are : AreClosedWith floor.office.lanes.items (map (λ w. w.ended.items) ws) permits closed)
-    (hands : List (List (SenderEnded Noted))) (replied : List (ReplyClosed Noted)) (heard : AreChannelsClosedWith floor.depot.channels.items hands (map (λ w. w.receiver) ws) replied) where
+module _ {B : Type 0} (shared : HouseShared B) (plans : Plans) (guests : List Guest) (ws : List (Worked B)) (all : AllAt (IsProduceOf shared plans guests) 0 ws) (count : length ws ≡ length plans + length guests)
+    (fine : All (λ w. fault_of_fate w.fate ≡ None) ws) (permits : List (ConsumerPermit Job)) (closed : List (Closed Job)) (are : AreClosedWith shared.intake.lanes.items (map (λ w. w.ended.items) ws) permits closed)
+    (hands : List (List (SenderEnded Noted))) (replied : List (ReplyClosed Noted)) (heard : AreChannelsClosedWith shared.delivery.channels.items hands (map (λ w. w.receiver) ws) replied) where
   -- what producer p left, that it came to its end, and that what it said is what was taken
   left_by : (p : ℕ) → p < length plans + length guests
-      → (w : Worked B) × (slice_get ws p ≡ Some w) × IsProduceOf floor plans guests p w × (w.fate ≡ fates.Whole) × (map said w.ended.items ≡ map (of p) (map history closed))
+      → (w : Worked B) × (slice_get ws p ≡ Some w) × IsProduceOf shared plans guests p w × (w.fate ≡ fates.Whole) × (map said w.ended.items ≡ map (of p) (map history closed))
   left_by p under =
       let w = some_at ws p (omega (arith, under, count)) in
-      let here = at_position (IsProduceOf floor plans guests) 0 p ws w.0 all w.1 in
+      let here = at_position (IsProduceOf shared plans guests) 0 p ws w.0 all w.1 in
       let e : 0 + p ≡ p = omega arith in
-      let work : IsProduceOf floor plans guests p w.0 = subst (λ i. IsProduceOf floor plans guests i w.0) e here in
+      let work : IsProduceOf shared plans guests p w.0 = subst (λ i. IsProduceOf shared plans guests i w.0) e here in
       let within = in_at (λ (v : Worked B). v.ended.items) ws are.0 p w.0 are.1 w.1 in (
         w.0,
         w.1,
         work,
         whole_of w.0.fate (all_at (λ (v : Worked B). fault_of_fate v.fate ≡ None) ws p w.0 fine w.1),
-        said_is_taken floor.office.lanes.items p w.0.ended.items (map history closed) work.ended (lanes.are_heard are.2 w.0.ended.items within),
+        said_is_taken shared.intake.lanes.items p w.0.ended.items (map history closed) work.ended (lanes.are_heard are.2 w.0.ended.items within),
       )
 
   answers_are : map reply_history replied ≡ map (λ (v : Worked B). received v.receiver) ws
   answers_are = channels.histories_taken heard.2 ∙ twice ws
 
   pub account_of : (p : ℕ) → p < length plans
-      → HasAccount floor plans (map (λ (w : Worked B). map (λ b. b.items) w.replies.items) ws) (map (λ (w : Worked B). w.log.notes) ws) (map reply_history replied) (map history closed) p
+      → HasAccount shared plans (map (λ (w : Worked B). map (λ b. b.items) w.replies.items) ws) (map (λ (w : Worked B). w.log.notes) ws) (map reply_history replied) (map history closed) p
   account_of p under =
       let l = left_by p (omega (arith, under)) in
       let plan = some_at plans p under in
       let a = sym (mapped_at (λ (v : Vec (Vec ℕ Global) Global). map (λ b. b.items) v.items) plans p plan.0 [] plan.1) in
       among ws p l.0 l.1 (map reply_history replied) answers_are
-      (λ replies notes answers. Account (premises_of floor.office) p (slice_index_or (map (λ (w : Vec (Vec ℕ Global) Global). map (λ b. b.items) w.items) plans) p []) replies notes answers (map (of p) (map history closed)))
-      (subst (λ x. Account (premises_of floor.office) p x (map (λ b. b.items) l.0.replies.items) l.0.log.notes (received l.0.receiver) (map (of p) (map history closed))) a
-      (subst (λ x. Account (premises_of floor.office) p (map (λ b. b.items) plan.0.items) (map (λ b. b.items) l.0.replies.items) l.0.log.notes (received l.0.receiver) x) l.4
+      (λ replies notes answers. Account (premises_of shared.intake) p (slice_index_or (map (λ (w : Vec (Vec ℕ Global) Global). map (λ b. b.items) w.items) plans) p []) replies notes answers (map (of p) (map history closed)))
+      (subst (λ x. Account (premises_of shared.intake) p x (map (λ b. b.items) l.0.replies.items) l.0.log.notes (received l.0.receiver) (map (of p) (map history closed))) a
+      (subst (λ x. Account (premises_of shared.intake) p (map (λ b. b.items) plan.0.items) (map (λ b. b.items) l.0.replies.items) l.0.log.notes (received l.0.receiver) x) l.4
       (l.2.worker plan.0 plan.1 l.3)))
 
   pub session_account_of : (k : ℕ) (guest : Guest) → slice_get guests k ≡ Some guest → k < length guests
-      → HasSessionAccount floor guest (map (λ (w : Worked B). map (λ b. b.items) w.replies.items) ws) (map (λ (w : Worked B). w.log.notes) ws) (map reply_history replied) (map history closed) (length plans + k)
+      → HasSessionAccount shared guest (map (λ (w : Worked B). map (λ b. b.items) w.replies.items) ws) (map (λ (w : Worked B). w.log.notes) ws) (map reply_history replied) (map history closed) (length plans + k)
   session_account_of k guest at under =
       let p = length plans + k in
       let l = left_by p (omega (arith, under)) in
       among ws p l.0 l.1 (map reply_history replied) answers_are
-      (λ replies notes answers. SessionAccount (premises_of floor.office) (length floor.depot.mailboxes.items) floor.turns p guest replies notes answers (map (of p) (map history closed)))
-      (subst (λ x. SessionAccount (premises_of floor.office) (length floor.depot.mailboxes.items) floor.turns p guest (map (λ b. b.items) l.0.replies.items) l.0.log.notes (received l.0.receiver) x) l.4
+      (λ replies notes answers. SessionAccount (premises_of shared.intake) (length shared.delivery.mailboxes.items) shared.turns p guest replies notes answers (map (of p) (map history closed)))
+      (subst (λ x. SessionAccount (premises_of shared.intake) (length shared.delivery.mailboxes.items) shared.turns p guest (map (λ b. b.items) l.0.replies.items) l.0.log.notes (received l.0.receiver) x) l.4
       (l.2.session k guest refl at l.3))
 
   -- each producer heard as many verdicts as copies of it were taken
@@ -187,12 +187,12 @@ kept_of (c ∷ cs) all =
         absurd (cc)
 
 -- what the consumers kept is what was taken
-pub all_taken : {B : Type 0} (floor : Floor B) (cs : List (Consumed B)) (closed : List (Closed Job)) (hands : List (List (Ended Job)))
-    → AllAt (IsServiceOf floor) 0 cs → length cs ≡ length floor.office.lanes.items → All (λ c. fault_of_consumer c ≡ None) cs
-    → AreClosedWith floor.office.lanes.items hands (map (λ c. c.permit) cs) closed
+pub all_taken : {B : Type 0} (shared : HouseShared B) (cs : List (Consumed B)) (closed : List (Closed Job)) (hands : List (List (Ended Job)))
+    → AllAt (IsServiceOf shared) 0 cs → length cs ≡ length shared.intake.lanes.items → All (λ c. fault_of_consumer c ≡ None) cs
+    → AreClosedWith shared.intake.lanes.items hands (map (λ c. c.permit) cs) closed
     → map (λ c. c.taken.items) cs ≡ map history closed
-all_taken floor cs closed hands all count services are =
-    taken_of floor 0 cs all (omega (arith, count)) (kept_of cs services) ∙ sym (lanes.histories_taken are.2 ∙ twice cs)
+all_taken shared cs closed hands all count services are =
+    taken_of shared 0 cs all (omega (arith, count)) (kept_of cs services) ∙ sym (lanes.histories_taken are.2 ∙ twice cs)
   where
     twice : {C : Type 0} (ds : List (Consumed C)) → map got (map (λ (c : Consumed C). c.permit) ds) ≡ map (λ (c : Consumed C). got c.permit) ds
     twice [] = refl
@@ -223,24 +223,24 @@ got_twice [] = refl
 got_twice (c ∷ cs) = ap (λ xs. got c.permit ∷ xs) (got_twice cs)
 
 -- what each consumer told each producer, of what it had taken, and then its end
-pub answers_of : {B : Type 0} (floor : Floor B) (cs : List (Consumed B)) (closed : List (Closed Job)) (hands : List (List (Ended Job))) (replied : List (ReplyClosed Noted)) (receivers : List (ReceiverPermit Noted))
-    → AllAt (IsServiceOf floor) 0 cs → length cs ≡ length floor.office.lanes.items
-    → AreClosedWith floor.office.lanes.items hands (map (λ c. c.permit) cs) closed
-    → AreChannelsClosedWith floor.depot.channels.items (map (λ c. c.senders.items) cs) receivers replied
-    → (s p : ℕ) → s < length floor.office.lanes.items → p < length floor.depot.channels.items
-    → (told : List (Entry Noted)) × WereAnswered (length floor.depot.mailboxes.items) s p (slice_index_or (map history closed) s []) told
+pub answers_of : {B : Type 0} (shared : HouseShared B) (cs : List (Consumed B)) (closed : List (Closed Job)) (hands : List (List (Ended Job))) (replied : List (ReplyClosed Noted)) (receivers : List (ReceiverPermit Noted))
+    → AllAt (IsServiceOf shared) 0 cs → length cs ≡ length shared.intake.lanes.items
+    → AreClosedWith shared.intake.lanes.items hands (map (λ c. c.permit) cs) closed
+    → AreChannelsClosedWith shared.delivery.channels.items (map (λ c. c.senders.items) cs) receivers replied
+    → (s p : ℕ) → s < length shared.intake.lanes.items → p < length shared.delivery.channels.items
+    → (told : List (Entry Noted)) × WereAnswered (length shared.delivery.mailboxes.items) s p (slice_index_or (map history closed) s []) told
     × (of s (slice_index_or (map reply_history replied) p []) ≡ told ++ End s ∷ [])
-answers_of floor cs closed hands replied receivers all count are heard s p lane channel =
+answers_of shared cs closed hands replied receivers all count are heard s p lane channel =
     let c = some_at cs s (omega (arith, lane, count)) in
-    let q = some_at floor.office.lanes.items s lane in
+    let q = some_at shared.intake.lanes.items s lane in
     let e : 0 + s ≡ s = omega arith in
-    let service : IsServiceOf floor s c.0 = subst (λ i. IsServiceOf floor i c.0) e (at_position (IsServiceOf floor) 0 s cs c.0 all c.1) in
+    let service : IsServiceOf shared s c.0 = subst (λ i. IsServiceOf shared i c.0) e (at_position (IsServiceOf shared) 0 s cs c.0 all c.1) in
     let left = service.each q.0 q.1 in
     let said = left.2.said p channel in
     let taken : slice_index_or (map history closed) s [] ≡ got c.0.permit =
     ap (λ xs. slice_index_or xs s []) (lanes.histories_taken are.2 ∙ got_twice cs) ∙ mapped_at (λ (d : Consumed _). got d.permit) cs s c.0 [] c.1 in
     let own = channels.said_on_is_history heard.2 s c.0.senders.items left.2.senders (senders_at (λ (d : Consumed _). d.senders.items) cs heard.0 s c.0 heard.1 c.1) in (
       said.0,
-      subst (λ entries. WereAnswered (length floor.depot.mailboxes.items) s p entries said.0) (sym taken) said.1,
+      subst (λ entries. WereAnswered (length shared.delivery.mailboxes.items) s p entries said.0) (sym taken) said.1,
       of_at s (map reply_history replied) p ∙ ap (λ xs. slice_index_or xs p []) (sym own) ∙ said.2 ∙ ap (λ b. (b ++ said.0) ++ End s ∷ []) (none_at left.0 p left.1),
     )

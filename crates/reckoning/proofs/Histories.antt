@@ -11,7 +11,7 @@ use Rattle.house_history.specs.Legal.{Legal}
 use Rattle.lane_work.specs.Backing.{IsBackedBy}
 use Rattle.lane_work.specs.declared.worker.Worked.{Worked}
 use Rattle.lane_work.proofs.BackingLaws.{backed_later, goes_farther}
-use Rattle.house_floor.specs.Crew.{AllAt}
+use Rattle.house_shared.specs.Crew.{AllAt}
 use Rattle.reckoning.specs.Histories.{AreBacked, IsKnownIn}
 use Rattle.reckoning.specs.inner.Histories.{HasSentAll, IsKnown}
 use Rattle.reckoning.specs.Shelves.{HasAccepted, IsTaught}

@@ -8,10 +8,10 @@ use Rattle.lane_work.specs.declared.worker.Worked.{Worked}
 use Rattle.lane_work.specs.LanePermits.{AreEndedHands}
 use Rattle.lane_work.specs.LanePermits as rows
 use Rattle.lane_work.specs.ChannelPermits.{AreReceivers, AreSenderEndedHands}
-use Rattle.house_floor.specs.Crew.{AllAt}
-use Rattle.house_floor.specs.declared.floor.Floor.{Floor}
-use Rattle.house_floor.specs.declared.floor.Guest.{Guest}
-use Rattle.house_floor.specs.Left.{IsServiceOf, Plans}
+use Rattle.house_shared.specs.Crew.{AllAt}
+use Rattle.house_shared.specs.declared.shared.HouseShared.{HouseShared}
+use Rattle.house_shared.specs.declared.shared.Guest.{Guest}
+use Rattle.house_shared.specs.Left.{IsServiceOf, Plans}
 use Rattle.reckoning.specs.Produced.{IsProduceOf}
 
 -- an element at each position below the end
@@ -32,41 +32,41 @@ past_all [] n is = let e : n ≡ 0 = omega (arith, is) in ap (λ k. drop k []) e
 past_all (x ∷ xs) zero is = absurd (cc)
 past_all (x ∷ xs) (suc n) is = past_all xs n (omega (arith, is))
 
-module _ {B : Type 0} (floor : Floor B) (plans : Plans) (guests : List Guest) where
-  pub ended_of : (n : ℕ) (ws : List (Worked B)) → AllAt (IsProduceOf floor plans guests) n ws → AreEndedHands floor.office.lanes.items n (map (λ w. w.ended.items) ws)
+module _ {B : Type 0} (shared : HouseShared B) (plans : Plans) (guests : List Guest) where
+  pub ended_of : (n : ℕ) (ws : List (Worked B)) → AllAt (IsProduceOf shared plans guests) n ws → AreEndedHands shared.intake.lanes.items n (map (λ w. w.ended.items) ws)
   ended_of n [] all = tt
   ended_of n (w ∷ ws) all = (all.0.ended, ended_of (suc n) ws all.1)
 
-  pub receivers_of : (n : ℕ) (ws : List (Worked B)) → AllAt (IsProduceOf floor plans guests) n ws → n + length ws ≡ length floor.depot.channels.items → AreReceivers (drop n floor.depot.channels.items) (map (λ w. w.receiver) ws)
-  receivers_of n [] all count = subst (λ cs. AreReceivers cs []) (sym (past_all floor.depot.channels.items n (omega (arith, count)))) tt
+  pub receivers_of : (n : ℕ) (ws : List (Worked B)) → AllAt (IsProduceOf shared plans guests) n ws → n + length ws ≡ length shared.delivery.channels.items → AreReceivers (drop n shared.delivery.channels.items) (map (λ w. w.receiver) ws)
+  receivers_of n [] all count = subst (λ cs. AreReceivers cs []) (sym (past_all shared.delivery.channels.items n (omega (arith, count)))) tt
   receivers_of n (w ∷ ws) all count =
-      let channel = some_at floor.depot.channels.items n (omega (arith, count)) in
-      subst (λ cs. AreReceivers cs (w.receiver ∷ map (λ v. v.receiver) ws)) (sym (from_here floor.depot.channels.items n channel.0 channel.1))
+      let channel = some_at shared.delivery.channels.items n (omega (arith, count)) in
+      subst (λ cs. AreReceivers cs (w.receiver ∷ map (λ v. v.receiver) ws)) (sym (from_here shared.delivery.channels.items n channel.0 channel.1))
       (all.0.receiver channel.0 channel.1, receivers_of (suc n) ws all.1 (omega (arith, count)))
 
-  pub seats_of : (n : ℕ) (ws : List (Worked B)) → AllAt (IsProduceOf floor plans guests) n ws → map (λ w. w.log.seat) ws ≡ numbers n (length ws)
+  pub seats_of : (n : ℕ) (ws : List (Worked B)) → AllAt (IsProduceOf shared plans guests) n ws → map (λ w. w.log.seat) ws ≡ numbers n (length ws)
   seats_of n [] all = refl
   seats_of n (w ∷ ws) all = ap (λ s. s ∷ map (λ v. v.log.seat) ws) all.0.seat ∙ ap (λ ss. n ∷ ss) (seats_of (suc n) ws all.1)
 
-module _ {B : Type 0} (floor : Floor B) where
-  pub consumers_of : (n : ℕ) (cs : List (Consumed B)) → AllAt (IsServiceOf floor) n cs → n + length cs ≡ length floor.office.lanes.items → rows.AreConsumers (drop n floor.office.lanes.items) (map (λ c. c.permit) cs)
-  consumers_of n [] all count = subst (λ qs. rows.AreConsumers qs []) (sym (past_all floor.office.lanes.items n (omega (arith, count)))) tt
+module _ {B : Type 0} (shared : HouseShared B) where
+  pub consumers_of : (n : ℕ) (cs : List (Consumed B)) → AllAt (IsServiceOf shared) n cs → n + length cs ≡ length shared.intake.lanes.items → rows.AreConsumers (drop n shared.intake.lanes.items) (map (λ c. c.permit) cs)
+  consumers_of n [] all count = subst (λ qs. rows.AreConsumers qs []) (sym (past_all shared.intake.lanes.items n (omega (arith, count)))) tt
   consumers_of n (c ∷ cs) all count =
-      let lane = some_at floor.office.lanes.items n (omega (arith, count)) in
-      subst (λ qs. rows.AreConsumers qs (c.permit ∷ map (λ d. d.permit) cs)) (sym (from_here floor.office.lanes.items n lane.0 lane.1))
+      let lane = some_at shared.intake.lanes.items n (omega (arith, count)) in
+      subst (λ qs. rows.AreConsumers qs (c.permit ∷ map (λ d. d.permit) cs)) (sym (from_here shared.intake.lanes.items n lane.0 lane.1))
       ((all.0.each lane.0 lane.1).2.permit, consumers_of (suc n) cs all.1 (omega (arith, count)))
 
-  pub sender_hands_of : (n : ℕ) (cs : List (Consumed B)) → AllAt (IsServiceOf floor) n cs → n + length cs ≡ length floor.office.lanes.items → AreSenderEndedHands floor.depot.channels.items n (map (λ c. c.senders.items) cs)
+  pub sender_hands_of : (n : ℕ) (cs : List (Consumed B)) → AllAt (IsServiceOf shared) n cs → n + length cs ≡ length shared.intake.lanes.items → AreSenderEndedHands shared.delivery.channels.items n (map (λ c. c.senders.items) cs)
   sender_hands_of n [] all count = tt
   sender_hands_of n (c ∷ cs) all count =
-      let lane = some_at floor.office.lanes.items n (omega (arith, count)) in
+      let lane = some_at shared.intake.lanes.items n (omega (arith, count)) in
       ((all.0.each lane.0 lane.1).2.senders, sender_hands_of (suc n) cs all.1 (omega (arith, count)))
 
   -- where each kept all that it took, that is what was taken
-  pub taken_of : (n : ℕ) (cs : List (Consumed B)) → AllAt (IsServiceOf floor) n cs → n + length cs ≡ length floor.office.lanes.items → All (λ c. c.kept ≡ true) cs
+  pub taken_of : (n : ℕ) (cs : List (Consumed B)) → AllAt (IsServiceOf shared) n cs → n + length cs ≡ length shared.intake.lanes.items → All (λ c. c.kept ≡ true) cs
       → map (λ c. c.taken.items) cs ≡ map (λ c. got c.permit) cs
   taken_of n [] all count kept = refl
   taken_of n (c ∷ cs) all count kept =
-      let lane = some_at floor.office.lanes.items n (omega (arith, count)) in
+      let lane = some_at shared.intake.lanes.items n (omega (arith, count)) in
       ap (λ xs. xs ∷ map (λ d. d.taken.items) cs) ((all.0.each lane.0 lane.1).2.kept (All-head (λ (d : Consumed B). d.kept ≡ true) c cs kept))
       ∙ ap (λ xss. got c.permit ∷ xss) (taken_of (suc n) cs all.1 (omega (arith, count)) (All-tail (λ (d : Consumed B). d.kept ≡ true) c cs kept))

@@ -3,9 +3,9 @@ use Rattle.std.proofs.Common.{◌≡◌, ◌≤◌, ◌+◌, ◌*◌, ℕ, zero,
 use Rattle.std.specs.Global.{Global}
 use Rattle.std.proofs.lemmas.List.Elements.{All-cons, All-head, All-nil, All-tail, All-weaker}
 use Rattle.std.proofs.lemmas.List.Sums.{sum_by-le}
-use Rattle.house_floor.specs.declared.floor.Post.{Post}
-use Rattle.house_floor.specs.declared.floor.Stand.{Stand}
-use Rattle.house_floor.specs.Left.{IsPostLeft, IsStandLeft}
+use Rattle.house_shared.specs.declared.shared.Post.{Post}
+use Rattle.house_shared.specs.declared.shared.Stand.{Stand}
+use Rattle.house_shared.specs.Left.{IsPostLeft, IsStandLeft}
 
 -- what so many actors have, of whom none has more than so much
 pub in_all : {X : Type 0} (f : X → ℕ) (each count : ℕ) (xs : List X) → All (λ x. f x ≤ each) xs → length xs ≤ count → sum_by f xs ≤ count * each

@@ -20,10 +20,10 @@ use Rattle.lane_work.specs.Permits.{AreEnded}
 use Rattle.lane_work.specs.Speaking.{premises_of}
 use Rattle.shard_queue.specs.Reply.{IsReceiver, received}
 use Rattle.shard_queue.specs.Permits.{said}
-use Rattle.house_floor.specs.Users.{user_numbered}
-use Rattle.house_floor.specs.Left.{Plans, most_of}
-use Rattle.house_floor.specs.declared.floor.Floor.{Floor}
-use Rattle.house_floor.specs.declared.floor.Guest.{Guest}
+use Rattle.house_shared.specs.Users.{user_numbered}
+use Rattle.house_shared.specs.Left.{Plans, most_of}
+use Rattle.house_shared.specs.declared.shared.HouseShared.{HouseShared}
+use Rattle.house_shared.specs.declared.shared.Guest.{Guest}
 
 module _ (house : Premises) (mailboxes turns : ℕ) (guest : Guest) where
   -- A session of this user with these steps said this: it was greeted in no mailbox, and lived through its steps, over so many mailboxes. These
@@ -50,16 +50,16 @@ module _ (house : Premises) (mailboxes turns seat : ℕ) (guest : Guest) where
 -- What producer n left: its ended permits are its own on each lane, its receiver is of its channel, and the log is its own. Where a worker went
 -- through all its connections, that is its account of them; where a session, behind the workers, made all its steps, that is its account of these.
 -- Either then heard as many verdicts as it put copies: each was awaited, and nothing else came but ends.
-pub record IsProduceOf {B : Type 0} (floor : Floor B) (plans : Plans) (guests : List Guest) (n : ℕ) (w : Worked B) : Type 0 where
-  pub ended : AreEnded floor.office.lanes.items n w.ended.items
-  pub receiver : (channel : ReplyChannel Noted) → slice_get floor.depot.channels.items n ≡ Some channel → IsReceiver channel w.receiver
+pub record IsProduceOf {B : Type 0} (shared : HouseShared B) (plans : Plans) (guests : List Guest) (n : ℕ) (w : Worked B) : Type 0 where
+  pub ended : AreEnded shared.intake.lanes.items n w.ended.items
+  pub receiver : (channel : ReplyChannel Noted) → slice_get shared.delivery.channels.items n ≡ Some channel → IsReceiver channel w.receiver
   pub seat : w.log.seat ≡ n
   pub only : w.fate ≡ Whole → verdicts_in (received w.receiver) ≡ copies_in (map said w.ended.items)
   -- Where it came whole the history has what it put and heard, and nothing else of its seat.
   pub backed : w.fate ≡ Whole → IsBackedBy n w.dispatch (received w.receiver) (map said w.ended.items)
   pub worker : (plan : Vec (Vec ℕ Global) Global) → slice_get plans n ≡ Some plan → w.fate ≡ Whole
-      → Account (premises_of floor.office) n (map (λ b. b.items) plan.items) (map (λ b. b.items) w.replies.items) w.log.notes (received w.receiver)
+      → Account (premises_of shared.intake) n (map (λ b. b.items) plan.items) (map (λ b. b.items) w.replies.items) w.log.notes (received w.receiver)
       (map said w.ended.items)
   pub session : (k : ℕ) (guest : Guest) → n ≡ length plans + k → slice_get guests k ≡ Some guest → w.fate ≡ Whole
-      → SessionAccount (premises_of floor.office) (length floor.depot.mailboxes.items) floor.turns n guest
+      → SessionAccount (premises_of shared.intake) (length shared.delivery.mailboxes.items) shared.turns n guest
       (map (λ b. b.items) w.replies.items) w.log.notes (received w.receiver) (map said w.ended.items)

@@ -2,13 +2,13 @@
 //! is made of it.
 
 ghost use Rattle.std.specs.Prelude.{◌≡◌, ◌<◌, ◌≤◌, ◌+◌, [], All, length, sum_by, vec_len, vec_capacity};
-ghost use Rattle.house_floor.specs.Opening.{AreBaskets};
-ghost use Rattle.house_floor.specs.Left.{IsSpendable};
+ghost use Rattle.house_shared.specs.Opening.{AreBaskets};
+ghost use Rattle.house_shared.specs.Left.{IsSpendable};
 ghost use Rattle.reckoning.specs.inner.Spending.{HasGrown, HasGrownAtMost};
 
 use crate::remains::{Remains, remains_of};
-use house_floor::{Baskets, Floor, Post, Ran, Spares, Stand};
 use house_history::{Answer, Letter, Naming};
+use house_shared::{Baskets, HouseShared, Post, Ran, Spares, Stand};
 use lane_work::{Consumed, Desk, LanePermit, Stall, Worked, spend_lists};
 use shard_queue::{
     ConsumerPermit, Ended, ProducerPermit, ReceiverPermit, ReplyChannel, SenderEnded, SenderPermit,
@@ -305,29 +305,29 @@ fn ends_of<B: Naming>(baskets: Baskets<B>) -> Ends<B>
 
 /// Spends all that is left of a run that came to nothing, whichever of its actors have had a thread.
 /// What waits in a queue is dropped. It takes no memory.
-pub fn abandon<B: Naming>(alloc: Global, floor: Floor<B>, ran: Ran<B>, baskets: Baskets<B>)
-    requires lanes { 0 < length floor.office.lanes.items }
-    requires channels { 0 < length floor.depot.channels.items }
+pub fn abandon<B: Naming>(alloc: Global, shared: HouseShared<B>, ran: Ran<B>, baskets: Baskets<B>)
+    requires lanes { 0 < length shared.intake.lanes.items }
+    requires channels { 0 < length shared.delivery.channels.items }
 
     // Nothing lies in the baskets, which have room for what so many producers and consumers leave.
-    requires baskets { AreBaskets (length floor.depot.channels.items)
-        (length floor.office.lanes.items) baskets }
+    requires baskets { AreBaskets (length shared.delivery.channels.items)
+        (length shared.intake.lanes.items) baskets }
 
     // Of each producer there is its post or what it left, of each consumer its stand or what it left.
-    requires left { IsSpendable floor (length floor.depot.channels.items) ran }
+    requires left { IsSpendable shared (length shared.delivery.channels.items) ran }
 
     // Who left something left what is left of its permit on each lane, or of its sender on each channel.
     requires worked { All (λ w. vec_len w.ended
-        ≡ length floor.office.lanes.items) ran.worked.items }
+        ≡ length shared.intake.lanes.items) ran.worked.items }
     requires consumed { All (λ c. vec_len c.senders
-        ≡ length floor.depot.channels.items) ran.consumed.items }
+        ≡ length shared.delivery.channels.items) ran.consumed.items }
 {
     let Remains {
         directory: _,
         lanes,
         channels,
         mailboxes: _,
-    } = remains_of(floor);
+    } = remains_of(shared);
     let Ran {
         worked,
         consumed,

@@ -2,7 +2,7 @@
 //! the mailboxes hold, and how it all agrees, stands above.
 
 ghost use Rattle.std.specs.Prelude.{◌≡◌, IfErr, IfOk, map, vec_len};
-ghost use Rattle.house_floor.specs.Opening.{AreBaskets};
+ghost use Rattle.house_shared.specs.Opening.{AreBaskets};
 ghost use Rattle.lane_work.specs.LanePermits.{AreConsumers, AreEndedHands};
 ghost use Rattle.lane_work.specs.ChannelPermits.{AreReceivers, AreSenderEndedHands};
 ghost use Rattle.reckoning.specs.Balancing.{IsClosing, IsGathered, IsBalanced, IsWhyNot};
@@ -10,8 +10,8 @@ ghost use Rattle.reckoning.specs.Balancing.{IsClosing, IsGathered, IsBalanced, I
 use crate::close::{close_all_channels, close_all_lanes};
 use crate::gather::{Fault, FromConsumers, FromWorkers, gather_consumers, gather_workers, graver};
 use delivery_token::{Job, WorkerLog};
-use house_floor::Baskets;
 use house_history::{Answer, Letter, Naming};
+use house_shared::Baskets;
 use lane_work::{Consumed, Worked};
 use shard_queue::{Closed, Ended, Entry, ReplyChannel, ReplyClosed, SenderEnded, ShardQueue};
 use std::alloc::Global;

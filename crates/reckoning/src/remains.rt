@@ -3,14 +3,14 @@
 ghost use Rattle.std.specs.Prelude.{◌≡◌};
 
 use envelope::Directory;
-use house_floor::Floor;
 use house_history::{Answer, Letter, Naming};
-use lane_work::{Depot, Office};
+use house_shared::HouseShared;
+use lane_work::{Delivery, Intake};
 use locked_mailbox::LockedMailbox;
 use shard_queue::{ReplyChannel, ShardQueue};
 use std::sync::Mutex;
 
-/// What is left of a house's floor when nothing runs there any more.
+/// What is left of a house's shared state when nothing runs there any more.
 pub struct Remains<B: Naming> {
     /// Which mailbox a path names, and which shard keeps it.
     pub directory: Directory,
@@ -22,34 +22,34 @@ pub struct Remains<B: Naming> {
     pub mailboxes: Vec<Mutex<LockedMailbox<B>>>,
 }
 
-/// Takes a floor apart; bells and names are let go.
-pub fn remains_of<B: Naming>(floor: Floor<B>) -> Remains<B>
-    ensures directory { result.directory ≡ floor.office.directory }
-    ensures lanes { result.lanes ≡ floor.office.lanes }
-    ensures channels { result.channels ≡ floor.depot.channels }
-    ensures mailboxes { result.mailboxes ≡ floor.depot.mailboxes }
+/// Takes a shared state apart; bells and names are let go.
+pub fn remains_of<B: Naming>(shared: HouseShared<B>) -> Remains<B>
+    ensures directory { result.directory ≡ shared.intake.directory }
+    ensures lanes { result.lanes ≡ shared.intake.lanes }
+    ensures channels { result.channels ≡ shared.delivery.channels }
+    ensures mailboxes { result.mailboxes ≡ shared.delivery.mailboxes }
 {
-    let Floor {
-        office,
-        depot,
+    let HouseShared {
+        intake,
+        delivery,
         bells: _,
         turns: _,
         alloc: _,
-    } = floor;
-    let Office {
+    } = shared;
+    let Intake {
         directory,
         host: _,
         max_message: _,
         budget: _,
         lanes,
         closings: _,
-    } = office;
-    let Depot {
+    } = intake;
+    let Delivery {
         mailboxes,
         channels,
         sessions: _,
         front: _,
-    } = depot;
+    } = delivery;
     Remains {
         directory,
         lanes,

@@ -3,7 +3,7 @@
 
 ghost use Rattle.std.specs.Prelude.{◌≡◌, ◌+◌, ◌≤◌, [], All, IfOk, OnOk, length, true, vec_capacity, vec_len};
 ghost use mathlib.Core.List.{IsPrefix};
-ghost use Rattle.house_floor.specs.Crew.{AllAt};
+ghost use Rattle.house_shared.specs.Crew.{AllAt};
 ghost use Rattle.house_history.specs.Legal.{Legal};
 ghost use Rattle.reckoning.specs.Shelves.{AreNumbered, AreToldOnce, HasAccepted, IsRecorded, IsTaught};
 ghost use Rattle.mailbox.specs.Accepted.{kept_of};

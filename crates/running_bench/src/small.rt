@@ -6,8 +6,8 @@ ghost use Rattle.settings.specs.Settings.{IsInRange};
 
 use crate::threads::Open;
 use delivery_token::{CopyKey, Text};
-use house_floor::Guest;
 use house_history::{Naming, Opened};
+use house_shared::Guest;
 use running_house::{Plan, Report, run_house};
 use settings::{Config, Step};
 use std::alloc::{AllocError, Global};

@@ -22,10 +22,10 @@ use Rattle.lane_work.specs.declared.consumer.Consumed.{Consumed}
 use Rattle.lane_work.specs.declared.worker.Worked.{Worked}
 use Rattle.lane_work.proofs.CloseLaws as lanes
 use Rattle.lane_work.proofs.ChannelCloseLaws as channels
-use Rattle.house_floor.specs.Crew.{AllAt}
-use Rattle.house_floor.specs.declared.floor.Floor.{Floor}
-use Rattle.house_floor.specs.declared.floor.Guest.{Guest}
-use Rattle.house_floor.specs.Left.{IsServiceOf}
+use Rattle.house_shared.specs.Crew.{AllAt}
+use Rattle.house_shared.specs.declared.shared.HouseShared.{HouseShared}
+use Rattle.house_shared.specs.declared.shared.Guest.{Guest}
+use Rattle.house_shared.specs.Left.{IsServiceOf}
 use Rattle.reckoning.specs.Produced.{IsProduceOf, SessionAccount}
 use Rattle.reckoning.specs.Balancing.{IsBalanced}
 use Rattle.reckoning.specs.declared.balancing.Books.{Books}
@@ -42,7 +42,7 @@ use Rattle.running_house.specs.Agree.{Agrees}
 use Rattle.running_house.specs.Agree.{IsEmptied, WasAnswered}
 use Rattle.std.proofs.lemmas.List.Elements.{All-cons, All-head, All-nil, All-tail}
 use Rattle.running_house.specs.Order.{AreInLaneOrder}
-use Rattle.running_house.specs.inner.Agree.{AreTexts, IsFloorFor, IsNumbered}
+use Rattle.running_house.specs.inner.Agree.{AreTexts, IsHouseSharedFor, IsNumbered}
 use Rattle.running_house.specs.Plan.{connections_of, premises_for, producers_in}
 use Rattle.running_house.specs.Refusals.{MayCome}
 use Rattle.running_house.specs.declared.plan.Plan.{Plan}
@@ -65,10 +65,10 @@ all_noted {A} notes P [] p all = All-nil P
 all_noted {A} notes P (log ∷ logs) zero all = All-head (λ (l : A). All P (notes l)) log logs all
 all_noted {A} notes P (log ∷ logs) (suc p) all = all_noted notes P logs p (All-tail (λ (l : A). All P (notes l)) log logs all)
 
-module _ {B : Type 0} (plan : Plan) (floor : Floor B) (is : IsFloorFor plan floor) (ws : List (Worked B)) (cs : List (Consumed B))
-    (worked : AllAt (IsProduceOf floor plan.workers.items plan.sessions.items) 0 ws) (services : AllAt (IsServiceOf floor) 0 cs)
-    (producers : length ws ≡ producers_in plan) (shards : length cs ≡ length floor.office.lanes.items)
-    (books : Books B) (balanced : IsBalanced floor.office.lanes.items floor.depot.channels.items ws cs books)
+module _ {B : Type 0} (plan : Plan) (shared : HouseShared B) (is : IsHouseSharedFor plan shared) (ws : List (Worked B)) (cs : List (Consumed B))
+    (worked : AllAt (IsProduceOf shared plan.workers.items plan.sessions.items) 0 ws) (services : AllAt (IsServiceOf shared) 0 cs)
+    (producers : length ws ≡ producers_in plan) (shards : length cs ≡ length shared.intake.lanes.items)
+    (books : Books B) (balanced : IsBalanced shared.intake.lanes.items shared.delivery.channels.items ws cs books)
     (r : Report) (replies_are : r.replies.items ≡ take (length plan.workers.items) books.replies.items) (logs_are : r.logs ≡ books.logs) (lanes_are : r.closed.lanes ≡ books.closed.lanes) (channels_are : r.closed.channels ≡ books.closed.channels)
     (texts : AreTexts (drop (length plan.workers.items) books.replies.items) r.sessions.items) (count : length r.sessions.items ≡ length plan.sessions.items) where
   pub connections_count : length (connections_of plan) ≡ length plan.workers.items
@@ -103,9 +103,9 @@ module _ {B : Type 0} (plan : Plan) (floor : Floor B) (is : IsFloorFor plan floo
       let here : slice_index_or all_replies p [] ≡ slice_index_or (report.replies_of r) p [] =
       sym (ap (λ (l : List (List (List ℕ))). slice_index_or l p []) replies_same ∙ first_at all_replies (length plan.workers.items) p [] within) in
       moved (λ house replies notes answers histories. Account house p (slice_index_or (connections_of plan) p []) replies notes answers histories) p
-      (premises_of floor.office) (premises_for plan) _ (slice_index_or (report.replies_of r) p []) _ (report.notes_of r) _ (report.answers r) _ (report.histories r)
+      (premises_of shared.intake) (premises_for plan) _ (slice_index_or (report.replies_of r) p []) _ (report.notes_of r) _ (report.answers r) _ (report.histories r)
       is.premises here notes_same answers_same histories_same
-      (account_of floor plan.workers.items plan.sessions.items ws worked producers balanced.fates _ books.closed.lanes.items balanced.lanes_closed _ books.closed.channels.items balanced.channels_closed p within)
+      (account_of shared plan.workers.items plan.sessions.items ws worked producers balanced.fates _ books.closed.lanes.items balanced.lanes_closed _ books.closed.channels.items balanced.channels_closed p within)
 
   pub sessions : (n : ℕ) (guest : Guest) → slice_get plan.sessions.items n ≡ Some guest
       → SessionAccount (premises_for plan) (length (premises_for plan).directory.homes) plan.turns (length plan.workers.items + n) guest (slice_index_or (report.said_of r) n [] ∷ [])
@@ -116,60 +116,60 @@ module _ {B : Type 0} (plan : Plan) (floor : Floor B) (is : IsFloorFor plan floo
       let heard = slice_index_or (map reply_history books.closed.channels.items) p [] in
       let taken = map (of p) (map history books.closed.lanes.items) in
       let under = below plan.sessions.items n guest at in
-      let account = session_account_of floor plan.workers.items plan.sessions.items ws worked producers balanced.fates _ books.closed.lanes.items balanced.lanes_closed _ books.closed.channels.items balanced.channels_closed n guest at under in
+      let account = session_account_of shared plan.workers.items plan.sessions.items ws worked producers balanced.fates _ books.closed.lanes.items balanced.lanes_closed _ books.closed.channels.items balanced.channels_closed n guest at under in
       let w = some_at ws p (omega (arith, under, producers)) in
       let laid = ap (λ vs. slice_get vs p) balanced.replies ∙ get_mapped (λ (v : Worked B). v.replies) ws p w.0 w.1 in
       let one = sym (mapped_at (λ (v : Worked B). map (λ b. b.items) v.replies.items) ws p w.0 [] w.1) ∙ account.alone in
       let text = text_at (drop (length plan.workers.items) books.replies.items) r.sessions.items n w.0.replies account.text texts (behind books.replies.items (length plan.workers.items) n w.0.replies laid) one in
       let said : slice_index_or all_replies p [] ≡ slice_index_or (report.said_of r) n [] ∷ [] = account.alone ∙ ap (λ (t : List ℕ). t ∷ []) (sym text) in
       moved (λ house replies notes answers histories. SessionAccount house (length (premises_for plan).directory.homes) plan.turns p guest replies notes answers histories) p
-      (premises_of floor.office) (premises_for plan) (slice_index_or all_replies p []) (slice_index_or (report.said_of r) n [] ∷ []) _ (report.notes_of r) _ (report.answers r) _ (report.histories r)
+      (premises_of shared.intake) (premises_for plan) (slice_index_or all_replies p []) (slice_index_or (report.said_of r) n [] ∷ []) _ (report.notes_of r) _ (report.answers r) _ (report.histories r)
       is.premises said notes_same answers_same histories_same
-      (subst (λ x. SessionAccount (premises_of floor.office) (length (premises_for plan).directory.homes) x p guest (slice_index_or all_replies p []) notes heard taken) is.turns
-      (subst (λ x. SessionAccount (premises_of floor.office) x floor.turns p guest (slice_index_or all_replies p []) notes heard taken) is.mailboxes account))
+      (subst (λ x. SessionAccount (premises_of shared.intake) (length (premises_for plan).directory.homes) x p guest (slice_index_or all_replies p []) notes heard taken) is.turns
+      (subst (λ x. SessionAccount (premises_of shared.intake) x shared.turns p guest (slice_index_or all_replies p []) notes heard taken) is.mailboxes account))
 
   pub taken_same : map (λ t. t.items) books.taken.items ≡ report.histories r
   taken_same = ap (λ vs. map (λ v. v.items) vs) balanced.taken ∙ map_twice (λ v. v.items) (λ (c : Consumed B). c.taken) cs
-      ∙ all_taken floor cs books.closed.lanes.items _ services shards balanced.services balanced.lanes_closed ∙ histories_same
+      ∙ all_taken shared cs books.closed.lanes.items _ services shards balanced.services balanced.lanes_closed ∙ histories_same
 
   pub copies_same : map (λ t. items_of t.items) books.taken.items ≡ report.copies_taken r
   copies_same = sym (map_twice items_of (λ t. t.items) books.taken.items) ∙ ap (λ hs. map items_of hs) taken_same
 
   pub seats_are : map (λ l. l.seat) r.logs.items ≡ numbers 0 (producers_in plan)
   seats_are = ap (λ v. map (λ l. l.seat) v.items) logs_are ∙ ap (λ ls. map (λ l. l.seat) ls) balanced.logs ∙ map_twice (λ l. l.seat) (λ (w : Worked B). w.log) ws
-      ∙ seats_of floor plan.workers.items plan.sessions.items 0 ws worked ∙ ap (λ n. numbers 0 n) producers
+      ∙ seats_of shared plan.workers.items plan.sessions.items 0 ws worked ∙ ap (λ n. numbers 0 n) producers
 
   replies_count : length (report.replies_of r) ≡ length (connections_of plan)
   replies_count =
       let l = length-map ws (λ (w : Worked B). map (λ b. b.items) w.replies.items) in
       ap length replies_same ∙ length-take-le (length plan.workers.items) all_replies (omega (arith, l, producers)) ∙ sym connections_count
 
-  shards_are : plan.config.shards ≡ length floor.office.lanes.items
+  shards_are : plan.config.shards ≡ length shared.intake.lanes.items
   shards_are = sym (sym is.house.shards ∙ ap (λ h. h.directory.shards) is.premises)
 
   pub answered : (s p : ℕ) → s < plan.config.shards → p < producers_in plan
       → WasAnswered (length (premises_for plan).directory.homes) s p (slice_index_or (report.histories r) s []) (slice_index_or (report.answers r) p [])
   answered s p shard seat =
       let channels_are = is.house.channels in
-      let a = answers_of floor cs books.closed.lanes.items _ books.closed.channels.items _ services shards balanced.lanes_closed balanced.channels_closed s p (omega (arith, shard, shards_are)) (omega (arith, seat, channels_are)) in
+      let a = answers_of shared cs books.closed.lanes.items _ books.closed.channels.items _ services shards balanced.lanes_closed balanced.channels_closed s p (omega (arith, shard, shards_are)) (omega (arith, seat, channels_are)) in
       record {
         told = a.0;
         each = subst (λ (n : ℕ). WereAnswered n s p (slice_index_or (report.histories r) s []) a.0) is.mailboxes
-            (subst (λ (hs : List (List (Entry Job))). WereAnswered (length floor.depot.mailboxes.items) s p (slice_index_or hs s []) a.0) histories_same a.1);
+            (subst (λ (hs : List (List (Entry Job))). WereAnswered (length shared.delivery.mailboxes.items) s p (slice_index_or hs s []) a.0) histories_same a.1);
         ended = ap (λ (xs : List (List (Entry Noted))). of s (slice_index_or xs p [])) (sym answers_same) ∙ a.2;
       }
 
   pub only : (p : ℕ) → p < producers_in plan → verdicts_in (slice_index_or (report.answers r) p []) ≡ copies_in (map (of p) (report.histories r))
   only p under =
       ap (λ (xs : List (List (Entry Noted))). verdicts_in (slice_index_or xs p [])) (sym answers_same)
-      ∙ only_of floor plan.workers.items plan.sessions.items ws worked producers balanced.fates _ books.closed.lanes.items balanced.lanes_closed _ books.closed.channels.items balanced.channels_closed p under
+      ∙ only_of shared plan.workers.items plan.sessions.items ws worked producers balanced.fates _ books.closed.lanes.items balanced.lanes_closed _ books.closed.channels.items balanced.channels_closed p under
       ∙ ap (λ (hs : List (List (Entry Job))). copies_in (map (of p) hs)) histories_same
 
-  pub in_order : (whole : Bool) → ListsMet floor.office.directory whole (report.notes_of r) (map (λ t. items_of t.items) books.taken.items) (report.accepted_of r) (report.texts_of r)
+  pub in_order : (whole : Bool) → ListsMet shared.intake.directory whole (report.notes_of r) (map (λ t. items_of t.items) books.taken.items) (report.accepted_of r) (report.texts_of r)
       → (m : ℕ) → m < length (premises_for plan).directory.homes
       → AreInLaneOrder m (slice_index_or (report.texts_of r) m []) (slice_index_or (report.accepted_of r) m []) (slice_index_or (report.copies_taken r) (shard_of (premises_for plan).directory m) [])
   in_order whole met m under =
-      let same : floor.office.directory ≡ (premises_for plan).directory = ap (λ h. h.directory) is.premises in
+      let same : shared.intake.directory ≡ (premises_for plan).directory = ap (λ h. h.directory) is.premises in
       let here = (subst (λ (d : Directory). ListsMet d whole (report.notes_of r) (map (λ t. items_of t.items) books.taken.items) (report.accepted_of r) (report.texts_of r)) same met).mailbox m under in
       subst (λ (copies : List (List Job)). AreInLaneOrder m (slice_index_or (report.texts_of r) m []) (slice_index_or (report.accepted_of r) m []) (slice_index_or copies (shard_of (premises_for plan).directory m) [])) copies_same
       (in_lane_order m (slice_index_or (report.texts_of r) m []) (slice_index_or (report.accepted_of r) m []) (slice_index_or (map (λ t. items_of t.items) books.taken.items) (shard_of (premises_for plan).directory m) []) here.met)
@@ -177,33 +177,33 @@ module _ {B : Type 0} (plan : Plan) (floor : Floor B) (is : IsFloorFor plan floo
   logs_count : length r.logs.items ≡ producers_in plan
   logs_count = ap (λ v. length v.items) logs_are ∙ ap length balanced.logs ∙ length-map ws (λ (w : Worked B). w.log) ∙ producers
 
-  pub refusals : All (λ log. All (MayCome plan.config floor.office.directory (report.accepted_of r) (map (λ t. t.items) books.taken.items)) log.notes) r.logs.items
+  pub refusals : All (λ log. All (MayCome plan.config shared.intake.directory (report.accepted_of r) (map (λ t. t.items) books.taken.items)) log.notes) r.logs.items
       → (p : ℕ) → p < producers_in plan
       → All (MayCome plan.config (premises_for plan).directory (report.accepted_of r) (report.histories r)) (slice_index_or (report.notes_of r) p [])
   refusals all p under =
-      let same : floor.office.directory ≡ (premises_for plan).directory = ap (λ h. h.directory) is.premises in
-      let here = all_noted (λ l. l.notes) (MayCome plan.config floor.office.directory (report.accepted_of r) (map (λ t. t.items) books.taken.items)) r.logs.items p all in
+      let same : shared.intake.directory ≡ (premises_for plan).directory = ap (λ h. h.directory) is.premises in
+      let here = all_noted (λ l. l.notes) (MayCome plan.config shared.intake.directory (report.accepted_of r) (map (λ t. t.items) books.taken.items)) r.logs.items p all in
       subst (λ (d : Directory). All (MayCome plan.config d (report.accepted_of r) (report.histories r)) (slice_index_or (report.notes_of r) p [])) same
-      (subst (λ (taken : List (List (Entry Job))). All (MayCome plan.config floor.office.directory (report.accepted_of r) taken) (slice_index_or (report.notes_of r) p [])) taken_same here)
+      (subst (λ (taken : List (List (Entry Job))). All (MayCome plan.config shared.intake.directory (report.accepted_of r) taken) (slice_index_or (report.notes_of r) p [])) taken_same here)
 
   pub backed : All (IsKnownIn r.history) ws → Legal r.history → (p : ℕ) → p < producers_in plan → IsBacked p r.history (slice_index_or (report.answers r) p []) (map (of p) (report.histories r))
   backed known legal p under =
       subst (λ (hs : List (List (Entry Job))). IsBacked p r.history (slice_index_or (report.answers r) p []) (map (of p) hs)) histories_same
       (subst (λ (xs : List (List (Entry Noted))). IsBacked p r.history (slice_index_or xs p []) (map (of p) (map history books.closed.lanes.items))) answers_same
-      (backed_by floor plan.workers.items plan.sessions.items ws worked producers balanced.fates _ books.closed.lanes.items balanced.lanes_closed _ books.closed.channels.items balanced.channels_closed r.history known legal p under))
+      (backed_by shared plan.workers.items plan.sessions.items ws worked producers balanced.fates _ books.closed.lanes.items balanced.lanes_closed _ books.closed.channels.items balanced.channels_closed r.history known legal p under))
 
   pub agrees : (whole : Bool) → whole ≡ (length plan.sessions.items == 0)
-      → ListsAgree floor.office.directory whole (report.notes_of r) (map (λ t. items_of t.items) books.taken.items) (report.accepted_of r) (report.texts_of r)
-      → ListsMet floor.office.directory whole (report.notes_of r) (map (λ t. items_of t.items) books.taken.items) (report.accepted_of r) (report.texts_of r)
+      → ListsAgree shared.intake.directory whole (report.notes_of r) (map (λ t. items_of t.items) books.taken.items) (report.accepted_of r) (report.texts_of r)
+      → ListsMet shared.intake.directory whole (report.notes_of r) (map (λ t. items_of t.items) books.taken.items) (report.accepted_of r) (report.texts_of r)
       → IsNumbered plan.config.first_uid r
-      → All (λ log. All (MayCome plan.config floor.office.directory (report.accepted_of r) (map (λ t. t.items) books.taken.items)) log.notes) r.logs.items
+      → All (λ log. All (MayCome plan.config shared.intake.directory (report.accepted_of r) (map (λ t. t.items) books.taken.items)) log.notes) r.logs.items
       → All (IsKnownIn r.history) ws → Legal r.history → AllAt (HasAccepted r.history) 0 r.accepted.items → Agrees plan r
   agrees whole all lists met numbered founded known legal accepted = record {
     accounts = accounts;
     sessions = sessions;
     lists = subst (λ x. ListsAgree x.directory (length plan.sessions.items == 0) (report.notes_of r) (report.copies_taken r) (report.accepted_of r) (report.texts_of r)) is.premises
-        (subst (λ x. ListsAgree floor.office.directory (length plan.sessions.items == 0) (report.notes_of r) x (report.accepted_of r) (report.texts_of r)) copies_same
-        (subst (λ x. ListsAgree floor.office.directory x (report.notes_of r) (map (λ t. items_of t.items) books.taken.items) (report.accepted_of r) (report.texts_of r)) all lists));
+        (subst (λ x. ListsAgree shared.intake.directory (length plan.sessions.items == 0) (report.notes_of r) x (report.accepted_of r) (report.texts_of r)) copies_same
+        (subst (λ x. ListsAgree shared.intake.directory x (report.notes_of r) (map (λ t. items_of t.items) books.taken.items) (report.accepted_of r) (report.texts_of r)) all lists));
     answered = answered;
     only = only;
     uids = λ m under. numbered_from plan.config.first_uid r.accepted.items numbered.accepted numbered.begins m;
@@ -213,7 +213,7 @@ module _ {B : Type 0} (plan : Plan) (floor : Floor B) (is : IsFloorFor plan floo
     legal = legal;
     backed = backed known legal;
     mailboxes = λ m under.
-        let same : floor.office.directory ≡ (premises_for plan).directory = ap (λ h. h.directory) is.premises in
+        let same : shared.intake.directory ≡ (premises_for plan).directory = ap (λ h. h.directory) is.premises in
         let many = (subst (λ (d : Directory). length (report.accepted_of r) ≡ length d.homes) same lists.mailboxes.0) in
         let mapped = length-map r.accepted.items (λ v. v.items) in
         let none : 0 + m ≡ m = omega arith in

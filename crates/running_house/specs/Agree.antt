@@ -21,7 +21,7 @@ use Rattle.lane_work.specs.Awaiting.{copies_in, verdicts_in}
 use Rattle.lane_work.specs.Backing.{IsBacked}
 use Rattle.lane_work.specs.Consuming.{items_of}
 use Rattle.reckoning.specs.Produced.{SessionAccount}
-use Rattle.house_floor.specs.declared.floor.Guest.{Guest}
+use Rattle.house_shared.specs.declared.shared.Guest.{Guest}
 use Rattle.reckoning.specs.Shelves.{AreToldOnce}
 use Rattle.running_house.specs.Order.{AreInLaneOrder}
 use Rattle.running_house.specs.Plan.{connections_of, premises_for, producers_in}

@@ -6,8 +6,8 @@ use Rattle.envelope.specs.Directory.{Home}
 use Rattle.settings.specs.Settings.{config_fault, directory_for}
 use Rattle.settings.specs.declared.config.ConfigFault.{ConfigFault}
 use Rattle.settings.specs.declared.config.ConfigFault.TheVariants as settings
-use Rattle.house_floor.specs.Users.{user_numbered}
-use Rattle.house_floor.specs.declared.floor.Guest.{Guest}
+use Rattle.house_shared.specs.Users.{user_numbered}
+use Rattle.house_shared.specs.declared.shared.Guest.{Guest}
 use Rattle.lane_work.specs.declared.desk.Closing.{Closing}
 use Rattle.lane_work.specs.Account.{Premises}
 use Rattle.reckoning.specs.declared.gather.Fault.{Fault}

@@ -3,13 +3,13 @@
 ghost use Rattle.std.specs.Prelude.{◌≡◌, ◌≢◌, ◌<◌, ◌≤◌, All, None, IfErr, IfOk, length, nat_le};
 ghost use Rattle.std.specs.List.{list_any};
 ghost use Rattle.settings.specs.Settings.{IsInRange, directory_for};
-ghost use Rattle.house_floor.specs.Users.{user_numbered};
+ghost use Rattle.house_shared.specs.Users.{user_numbered};
 ghost use Rattle.running_house.specs.Plan.{IsFaultOf, after_settings, are_too_many, is_shard_missing, count_of, is_someone_missing, most_producers, most_workers, of_config, of_reckoning, plan_fault, producers_in};
 
 use delivery_token::{CopyKey, Text, WorkerLog};
 use envelope::Directory;
-use house_floor::{Guest, MOST_PRODUCERS, is_nobody};
 use house_history::{Front, Naming};
+use house_shared::{Guest, MOST_PRODUCERS, is_nobody};
 use lane_work::Closing;
 use reckoning::{Closes, Fault};
 use settings::{Config, ConfigFault, directory_of};

@@ -4,14 +4,14 @@ ghost use Rattle.std.specs.Global.{Global};
 ghost use Rattle.std.specs.Prelude.{◌≡◌, ◌==◌, ◌⊎◌, ◌≤◌, ◌+◌, ◌∷◌, ℕ, [], All, IfErr, IfOk, OnOk, Vec, drop, length, map, take, vec_len};
 ghost use Rattle.running_house.specs.Lists.{ListsAgree};
 ghost use Rattle.running_house.specs.Walk.{ListsMet};
-ghost use Rattle.house_floor.specs.Crew.{AllAt};
-ghost use Rattle.house_floor.specs.Opening.{AreBaskets};
-ghost use Rattle.house_floor.specs.Left.{IsServiceOf, LeavesAll};
+ghost use Rattle.house_shared.specs.Crew.{AllAt};
+ghost use Rattle.house_shared.specs.Opening.{AreBaskets};
+ghost use Rattle.house_shared.specs.Left.{IsServiceOf, LeavesAll};
 ghost use Rattle.reckoning.specs.Produced.{IsProduceOf};
 ghost use Rattle.lane_work.specs.Consuming.{items_of};
 ghost use Rattle.running_house.specs.Agree.{Agrees, accepted_of, notes_of, texts_of};
 ghost use Rattle.reckoning.specs.Shelves.{AreNumbered, AreToldOnce, HasAccepted, IsTaught};
-ghost use Rattle.running_house.specs.inner.Agree.{AreTexts, IsFloorFor, IsNumbered};
+ghost use Rattle.running_house.specs.inner.Agree.{AreTexts, IsHouseSharedFor, IsNumbered};
 ghost use Rattle.running_house.specs.Plan.{of_reckoning, producers_in};
 ghost use Rattle.running_house.specs.Refusals.{MayCome};
 
@@ -21,8 +21,8 @@ use crate::copies::all_copies;
 use crate::plan::{Plan, Report, WorkFault};
 use crate::refusals::{Evidence, all_may_come};
 use envelope::Directory;
-use house_floor::{Baskets, Floor, Ran};
 use house_history::{Front, Naming};
+use house_shared::{Baskets, HouseShared, Ran};
 use locked_mailbox::LockedMailbox;
 use reckoning::{
     Books, Fault, Remains, Shelves, balance, learn_all, remains_of, take_out, unlock_all,
@@ -197,26 +197,26 @@ fn report_on<B: Naming>(
 pub(crate) fn report_of<B: Naming>(
     alloc: Global,
     plan: &Plan,
-    floor: Floor<B>,
+    shared: HouseShared<B>,
     ran: Ran<B>,
     baskets: Baskets<B>,
 ) -> Result<Report<B>, WorkFault>
-    requires floor { IsFloorFor plan.now floor }
-    requires consumed { AllAt (IsServiceOf floor) 0 ran.consumed.items }
-    requires worked { AllAt (IsProduceOf floor plan.now.workers.items plan.now.sessions.items) 0
+    requires shared { IsHouseSharedFor plan.now shared }
+    requires consumed { AllAt (IsServiceOf shared) 0 ran.consumed.items }
+    requires worked { AllAt (IsProduceOf shared plan.now.workers.items plan.now.sessions.items) 0
         ran.worked.items }
-    requires all { LeavesAll floor plan.now.workers.items plan.now.sessions.items ran }
+    requires all { LeavesAll shared plan.now.workers.items plan.now.sessions.items ran }
     requires baskets { AreBaskets (producers_in plan.now) plan.now.config.shards baskets }
     ensures agrees { IfOk result (Agrees plan.now) }
     ensures fault { IfErr result (λ fault. (known : Fault) × (fault ≡ of_reckoning known)) }
 {
-    let mut history = floor.depot.front.again();
+    let mut history = shared.delivery.front.again();
     let Remains {
         directory,
         lanes,
         channels,
         mailboxes,
-    } = remains_of(floor);
+    } = remains_of(shared);
     let Ran {
         mut worked,
         consumed,

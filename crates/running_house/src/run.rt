@@ -8,8 +8,8 @@ ghost use Rattle.running_house.specs.Plan.{IsFault, most_producers, plan_fault, 
 
 use crate::plan::{Plan, Report, WorkFault, directory_for};
 use crate::report::report_of;
-use house_floor::{Opened, Sizes, Started, open};
 use house_history::Naming;
+use house_shared::{Opened, Sizes, Started, open};
 use house_threads::run_threads;
 use mailbox::{History, Limits};
 use reckoning::abandon;
@@ -83,21 +83,21 @@ pub fn run_house<B: Naming + Send + Sync, R: Threads + Wait + Sync, G: Gate + Sy
     let directory = directory_for(alloc, plan)?;
     let sizes = sizes_of(plan);
     let Opened {
-        floor,
+        shared,
         crew,
         baskets,
-        sleepers: _,
+        session_parkers: _,
     } = open(alloc, history, directory, sizes, plan.sessions.as_slice())?;
     let (workers, sessions) = (plan.workers.as_slice(), plan.sessions.as_slice());
-    let ran = run_threads(rt, &floor, gate, workers, sessions, crew);
+    let ran = run_threads(rt, &shared, gate, workers, sessions, crew);
     match ran.started {
-        Started::All => report_of(alloc, plan, floor, ran, baskets),
+        Started::All => report_of(alloc, plan, shared, ran, baskets),
         Started::Spawn => {
-            abandon(alloc, floor, ran, baskets);
+            abandon(alloc, shared, ran, baskets);
             Err(WorkFault::Spawn)
         }
         Started::NoMemory => {
-            abandon(alloc, floor, ran, baskets);
+            abandon(alloc, shared, ran, baskets);
             Err(WorkFault::NoMemory)
         }
     }

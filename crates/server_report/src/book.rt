@@ -11,19 +11,19 @@ use crate::line::{Caller, Happened, append_copy, append_message, call_number};
 use crate::log::Log;
 use delivery_token::{CopyKey, Verdict};
 use envelope::Directory;
-use lane_work::Notebook;
+use lane_work::VerdictLog;
 use lmtp_machine::Submission;
 use std::alloc::{AllocError, Global};
 use std::sync::Wait;
 
-/// By what the callers of a server are told apart: its producers are so many workers, and behind them so many berths of each user.
+/// By what the callers of a server are told apart: its producers are so many workers, and behind them so many client slots of each user.
 #[derive(Clone, Copy)]
 pub struct Names<'a> {
     /// The mailboxes and their users.
     pub directory: &'a Directory,
     /// How many workers take mail.
     pub workers: u8,
-    /// How many berths each user has.
+    /// How many client slots each user has.
     pub sessions: u8,
 }
 
@@ -35,9 +35,9 @@ impl<'a> Names<'a> {
         call_number(self.workers, seat, serial)
     }
 
-    /// The number, among its user's, of the session that is served in this berth, by its number among all berths, with this serial.
-    pub fn session_number(self, berth: u8, serial: u64) -> u128 {
-        let place = berth % self.sessions.max(1);
+    /// The number, among its user's, of the session that is served in this client slot, by its number among all client slots, with this serial.
+    pub fn session_number(self, client_slot: u8, serial: u64) -> u128 {
+        let place = client_slot % self.sessions.max(1);
         call_number(self.sessions, place, serial)
     }
 
@@ -46,21 +46,21 @@ impl<'a> Names<'a> {
         Caller::Mail(self.connection_number(seat, serial))
     }
 
-    /// The session of this user that is served in this berth, by its number among all berths, with this serial.
-    pub fn session(self, user: &'a [u8], berth: u8, serial: u64) -> Caller<'a> {
+    /// The session of this user that is served in this client slot, by its number among all client slots, with this serial.
+    pub fn session(self, user: &'a [u8], client_slot: u8, serial: u64) -> Caller<'a> {
         Caller::Client {
             user,
-            number: self.session_number(berth, serial),
+            number: self.session_number(client_slot, serial),
         }
     }
 
     // The session that has appended a copy of this key to this mailbox, which is one of its user's.
     fn appender(self, key: CopyKey, mailbox: u8) -> Caller<'a> {
-        let berth = key.seat.saturating_sub(self.workers);
+        let client_slot = key.seat.saturating_sub(self.workers);
         if usize::from(mailbox) >= self.directory.mailboxes() {
-            return self.session(b"?", berth, key.serial);
+            return self.session(b"?", client_slot, key.serial);
         }
-        self.session(self.directory.user_of(mailbox), berth, key.serial)
+        self.session(self.directory.user_of(mailbox), client_slot, key.serial)
     }
 }
 
@@ -145,7 +145,7 @@ impl<'a, R: Wait> LogBook<'a, R> {
 }
 
 /// What it tells is not said: the log stands behind a lock.
-impl<'a, R: Wait> Notebook for LogBook<'a, R> {
+impl<'a, R: Wait> VerdictLog for LogBook<'a, R> {
     ghost tells = { λ _ _. Unit {0} };
 
     ghost owner = { λ _. 0 };

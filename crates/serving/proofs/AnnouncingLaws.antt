@@ -5,7 +5,7 @@ use Rattle.std.specs.Io.KnownBytes.{Appends}
 use Rattle.std.proofs.lemmas.List.Elements.{All-append, All-cons, All-nil}
 use Rattle.std.proofs.lemmas.Option.{slice_get-get_or}
 use Rattle.envelope.specs.Directory.{Home}
-use Rattle.house_floor.specs.Users.{is_inbox}
+use Rattle.house_shared.specs.Users.{is_inbox}
 use Rattle.settings.specs.Settings.{IsFrom, directory_for}
 use Rattle.settings.specs.declared.config.Config.{Config}
 use Rattle.serving.specs.Announcing.{AreUserPorts, HasBegun, IsAnnouncement, IsPageFor, IsPortFor, announcement, imap_lines, ports_from, users_of}

@@ -1,4 +1,4 @@
--- What a house came to, from what its producers and its clerks left and how it was closed.
+-- What a house came to, from what its producers and its shared consumers left and how it was closed.
 use Rattle.std.proofs.Common.{◌≡◌, ◌<◌, ◌≤◌, ◌+◌, ◌++◌, ◌∙◌, ◌||◌, ℕ, zero, suc, Bool, true, false, List, [], ◌∷◌, All, Option, Some, length, map, slice_get, slice_index_or, ap, refl, sym, subst, arith, Result, Ok, Err}
 use Rattle.std.specs.Prelude.{IfOk}
 use Rattle.std.specs.List.{list_any}
@@ -33,16 +33,16 @@ use Rattle.lane_work.specs.ChannelClosings as channel_closings
 use Rattle.lane_work.specs.Closings.{AreClosed}
 use Rattle.lane_work.specs.Closings as lane_closings
 use Rattle.lane_work.proofs.CloseLaws.{are_heard}
-use Rattle.clerks.specs.Staff.{IsService}
-use Rattle.clerks.specs.declared.staff.Dismissed.{Dismissed}
+use Rattle.shared_consumers.specs.ConsumerSet.{IsService}
+use Rattle.shared_consumers.specs.declared.consumer_set.Dismissed.{Dismissed}
 use Rattle.envelope.specs.Directory.{Directory}
 use Rattle.settings.specs.Settings.{directory_for}
 use Rattle.settings.specs.declared.config.Config.{Config}
-use Rattle.house_floor.specs.Crew.{AllAt}
-use Rattle.house_floor.specs.Opening.{IsFloor}
-use Rattle.house_floor.specs.declared.opening.Sizes.{Sizes}
-use Rattle.house_floor.specs.declared.floor.Floor.{Floor}
-use Rattle.house_floor.specs.Left.{IsServiceOf}
+use Rattle.house_shared.specs.Crew.{AllAt}
+use Rattle.house_shared.specs.Opening.{IsHouseShared}
+use Rattle.house_shared.specs.declared.opening.Sizes.{Sizes}
+use Rattle.house_shared.specs.declared.shared.HouseShared.{HouseShared}
+use Rattle.house_shared.specs.Left.{IsServiceOf}
 use Rattle.reckoning.proofs.Accounts.{answers_of, at_position, in_at}
 use Rattle.reckoning.proofs.Parts.{some_at}
 use Rattle.reckoning.specs.Histories.{AreBacked}
@@ -164,7 +164,7 @@ line_at told (x ∷ served) zero s line at is =
     ap (λ (y : Served _ _). Some (told_of told y.line)) same ∙ ap (λ (o : Option _). Some (told_of told o)) is
 line_at told (x ∷ served) (suc n) s line at is = line_at told served n s line at is
 
--- the same of a berth
+-- the same of a client slot
 clients_later : (house : Premises) (seat : ℕ) (heard hears : List (Entry Noted)) (words : List (List (Entry Job))) → IsStartOf heard hears → HasServedClients house seat heard words
     → HasServedClients house seat hears words
 clients_later house seat heard hears words grew has = record {
@@ -210,39 +210,39 @@ heard_count (channel ∷ channels) (c ∷ closed) were = ap suc (heard_count cha
 
 -- ---- all of it
 
-services_of : {B : Type 0} (floor : Floor B) (n : ℕ) (cs : List (Consumed B)) → AllAt (IsService floor.office.lanes.items floor.depot) n cs → AllAt (IsServiceOf floor) n cs
-services_of floor n [] all = tt
-services_of floor n (c ∷ cs) all =
-    (record { each = λ lane at. ([], All-nil (λ (e : List (Entry Noted)). e ≡ []), all.0.each lane at) }, services_of floor (suc n) cs all.1)
+services_of : {B : Type 0} (shared : HouseShared B) (n : ℕ) (cs : List (Consumed B)) → AllAt (IsService shared.intake.lanes.items shared.delivery) n cs → AllAt (IsServiceOf shared) n cs
+services_of shared n [] all = tt
+services_of shared n (c ∷ cs) all =
+    (record { each = λ lane at. ([], All-nil (λ (e : List (Entry Noted)). e ≡ []), all.0.each lane at) }, services_of shared (suc n) cs all.1)
 
-module _ {B L : Type 0} (told : L → Told) (floor : Floor B) (workers : ℕ) (served : List (Served B L)) (d : Dismissed B) (finished : Finished) (all : AllAt (IsServed told floor) 0 served)
-    (each : length served ≡ length floor.depot.channels.items) (first : FirstTakeMail workers (map (λ s. s.mail) served)) (count : length d.consumed.items ≡ length floor.office.lanes.items)
-    (services : d.in_order ≡ true → AllAt (IsService floor.office.lanes.items floor.depot) 0 d.consumed.items) (was : WasClosed told floor served d finished) where
+module _ {B L : Type 0} (told : L → Told) (shared : HouseShared B) (workers : ℕ) (served : List (Served B L)) (d : Dismissed B) (finished : Finished) (all : AllAt (IsServed told shared) 0 served)
+    (each : length served ≡ length shared.delivery.channels.items) (first : FirstTakeMail workers (map (λ s. s.mail) served)) (count : length d.consumed.items ≡ length shared.intake.lanes.items)
+    (services : d.in_order ≡ true → AllAt (IsService shared.intake.lanes.items shared.delivery) 0 d.consumed.items) (was : WasClosed told shared served d finished) where
   -- what producer n left, and that what it said is what was taken
-  left_by : (n : ℕ) → n < length served → (s : Served B L) × (slice_get served n ≡ Some s) × IsServed told floor n s × (map said s.ended.items ≡ map (of n) (histories finished))
+  left_by : (n : ℕ) → n < length served → (s : Served B L) × (slice_get served n ≡ Some s) × IsServed told shared n s × (map said s.ended.items ≡ map (of n) (histories finished))
   left_by n under =
       let s = some_at served n under in
       let e : 0 + n ≡ n = omega arith in
-      let is : IsServed told floor n s.0 = subst (λ (i : ℕ). IsServed told floor i s.0) e (at_position (IsServed told floor) 0 n served s.0 all s.1) in
+      let is : IsServed told shared n s.0 = subst (λ (i : ℕ). IsServed told shared i s.0) e (at_position (IsServed told shared) 0 n served s.0 all s.1) in
       let within = in_at (λ (x : Served B L). x.ended.items) served was.lanes.0 n s.0 was.lanes.1 s.1 in
-      (s.0, s.1, is, said_is_taken floor.office.lanes.items n s.0.ended.items (histories finished) is.ended (are_heard was.lanes.2 s.0.ended.items within))
+      (s.0, s.1, is, said_is_taken shared.intake.lanes.items n s.0.ended.items (histories finished) is.ended (are_heard was.lanes.2 s.0.ended.items within))
 
-  clients_of : (n : ℕ) → workers ≤ n → n < length served → HasServedClients (premises_of floor.office) n (slice_index_or (answers finished) n []) (map (of n) (histories finished))
+  clients_of : (n : ℕ) → workers ≤ n → n < length served → HasServedClients (premises_of shared.intake) n (slice_index_or (answers finished) n []) (map (of n) (histories finished))
   clients_of n past under =
       let s = left_by n under in
       let clients = s.2.clients (takes_none workers n served s.0 first past s.1) (untorn served n s.0 was.producers s.1) in
-      clients_later (premises_of floor.office) n (received s.0.receiver) (slice_index_or (answers finished) n []) (map (of n) (histories finished)) (heard_at served (answers finished) n s.0 was.heard s.1)
-      (subst (λ (words : List (List (Entry Job))). HasServedClients (premises_of floor.office) n (received s.0.receiver) words) s.3 clients)
+      clients_later (premises_of shared.intake) n (received s.0.receiver) (slice_index_or (answers finished) n []) (map (of n) (histories finished)) (heard_at served (answers finished) n s.0 was.heard s.1)
+      (subst (λ (words : List (List (Entry Job))). HasServedClients (premises_of shared.intake) n (received s.0.receiver) words) s.3 clients)
 
-  mail_of : (n : ℕ) → n < workers → IsWorkerOf (premises_of floor.office) n finished
+  mail_of : (n : ℕ) → n < workers → IsWorkerOf (premises_of shared.intake) n finished
   mail_of n under =
       let s = left_by n (there workers n served first under) in
       let mail = s.2.mail (takes_mail workers n served s.0 first under s.1) (untorn served n s.0 was.producers s.1) in
       let line = told mail.0 in record {
         line = line;
         here = ap (λ (lines : List (Option Told)). slice_get lines n) was.lines ∙ line_at told served n s.0 mail.0 s.1 mail.1;
-        served = mail_later (premises_of floor.office) n line (received s.0.receiver) (slice_index_or (answers finished) n []) (map (of n) (histories finished)) (heard_at served (answers finished) n s.0 was.heard s.1)
-            (subst (λ (words : List (List (Entry Job))). HasServedMail (premises_of floor.office) n line (received s.0.receiver) words) s.3 mail.2);
+        served = mail_later (premises_of shared.intake) n line (received s.0.receiver) (slice_index_or (answers finished) n []) (map (of n) (histories finished)) (heard_at served (answers finished) n s.0 was.heard s.1)
+            (subst (λ (words : List (List (Entry Job))). HasServedMail (premises_of shared.intake) n line (received s.0.receiver) words) s.3 mail.2);
       }
 
   -- what it put and heard the history has
@@ -253,12 +253,12 @@ module _ {B L : Type 0} (told : L → Told) (floor : Floor B) (workers : ℕ) (s
       (subst (λ (p : ℕ). IsBacked p finished.front (slice_index_or (answers finished) n []) (map said s.0.ended.items)) (let e : 0 + n ≡ n = omega arith in e)
       (backed_at 0 served finished.front (answers finished) n s.0 was.backed s.1))
 
-  pub came_to : CameTo floor workers finished
+  pub came_to : CameTo shared workers finished
   came_to = record {
     mail = mail_of;
     clients = λ n past under. clients_of n past (omega (arith, under, each));
     answered = λ s p lane channel.
-        let a = answers_of floor d.consumed.items finished.lanes.items _ finished.channels.items _ (services_of floor 0 d.consumed.items (services was.in_order)) count was.lanes was.channels.2 s p lane channel in
+        let a = answers_of shared d.consumed.items finished.lanes.items _ finished.channels.items _ (services_of shared 0 d.consumed.items (services was.in_order)) count was.lanes was.channels.2 s p lane channel in
         record { told = a.0; each = a.1; ended = a.2 };
     lanes = emptied was.lanes.2;
     channels = heard_out was.channels.2.2;
@@ -268,18 +268,18 @@ module _ {B L : Type 0} (told : L → Told) (floor : Floor B) (workers : ℕ) (s
     each_mailbox = was.each_mailbox;
   }
 
--- what a house on this floor has left is what these settings ask for
-pub has_left : {B : Type 0} (config : Config) (sizes : Sizes) (floor : Floor B) (workers guests : ℕ) (finished : Finished) → IsFloor (directory_for config) sizes floor → sizes.host.now ≡ config.host.items
-    → sizes.max_message ≡ config.max_message → workers ≡ config.workers → sizes.producers ≡ config.workers + guests → CameTo floor workers finished → HasLeft config finished
-has_left config sizes floor workers guests finished is host most same producers came =
-    let lanes = closed_count floor.office.lanes.items finished.lanes.items came.lanes in
-    let channels = heard_count floor.depot.channels.items finished.channels.items came.channels in
+-- what a house on this shared state has left is what these settings ask for
+pub has_left : {B : Type 0} (config : Config) (sizes : Sizes) (shared : HouseShared B) (workers guests : ℕ) (finished : Finished) → IsHouseShared (directory_for config) sizes shared → sizes.host.now ≡ config.host.items
+    → sizes.max_message ≡ config.max_message → workers ≡ config.workers → sizes.producers ≡ config.workers + guests → CameTo shared workers finished → HasLeft config finished
+has_left config sizes shared workers guests finished is host most same producers came =
+    let lanes = closed_count shared.intake.lanes.items finished.lanes.items came.lanes in
+    let channels = heard_count shared.delivery.channels.items finished.channels.items came.channels in
     let shards = ap (λ (d : Directory). d.shards) is.is in
     let house = is.house in
     let of_lanes = house.shards in
     let of_channels = house.channels in
     let homes = is.mailboxes in record {
-      house = premises_of floor.office;
+      house = premises_of shared.intake;
       set = record { directory = is.is; host = is.host ∙ host; max_message = is.max_message ∙ most };
       shards = omega (arith, lanes, shards, of_lanes);
       workers = omega (arith, channels, of_channels, producers);
@@ -293,7 +293,7 @@ has_left config sizes floor workers guests finished is host most same producers 
           (came.answered s p (omega (arith, lane, lanes)) (omega (arith, channel, channels)));
     }
 
-pub left_ok : {B : Type 0} (config : Config) (sizes : Sizes) (floor : Floor B) (workers guests : ℕ) (r : Result Finished ServeFault) → IsFloor (directory_for config) sizes floor → sizes.host.now ≡ config.host.items
-    → sizes.max_message ≡ config.max_message → workers ≡ config.workers → sizes.producers ≡ config.workers + guests → IfOk r (CameTo floor workers) → IfOk r (HasLeft config)
-left_ok config sizes floor workers guests (Ok finished) is host most same producers came = has_left config sizes floor workers guests finished is host most same producers came
-left_ok config sizes floor workers guests (Err fault) is host most same producers came = tt
+pub left_ok : {B : Type 0} (config : Config) (sizes : Sizes) (shared : HouseShared B) (workers guests : ℕ) (r : Result Finished ServeFault) → IsHouseShared (directory_for config) sizes shared → sizes.host.now ≡ config.host.items
+    → sizes.max_message ≡ config.max_message → workers ≡ config.workers → sizes.producers ≡ config.workers + guests → IfOk r (CameTo shared workers) → IfOk r (HasLeft config)
+left_ok config sizes shared workers guests (Ok finished) is host most same producers came = has_left config sizes shared workers guests finished is host most same producers came
+left_ok config sizes shared workers guests (Err fault) is host most same producers came = tt

@@ -1,4 +1,4 @@
--- Whose folders a client of a berth is shown, and how it comes in.
+-- Whose folders a client of a client slot is shown, and how it comes in.
 use Rattle.std.proofs.Common.{◌≡◌, ℕ, Bool, List, Option, Some, ap, subst, ◌∙◌}
 use Rattle.imap_session.specs.Exchange.{Admission, Folder}
 use Rattle.imap_session.specs.Folders.{admission_of}

@@ -3,7 +3,7 @@
 use Rattle.std.specs.Prelude.{ℕ, zero, suc, ◌≡◌, ◌≢◌, ◌+◌, ◌++◌, ◌∷◌, [], List, All, Option, Some, None, ⊤, codes, decimal, if◌then◌else◌, length, take}
 use Rattle.std.specs.Io.KnownBytes.{Appends}
 use Rattle.envelope.specs.Directory.{Home}
-use Rattle.house_floor.specs.Users.{is_inbox}
+use Rattle.house_shared.specs.Users.{is_inbox}
 use Rattle.settings.specs.Settings.{IsFrom, directory_for}
 use Rattle.settings.specs.declared.config.Config.{Config}
 use Rattle.serving.specs.declared.server.Uidvalidity.{Uidvalidity}

@@ -14,7 +14,7 @@ use Rattle.lane_work.specs.Backing.{IsBacked}
 use Rattle.settings.specs.Settings.{directory_for}
 use Rattle.settings.specs.declared.config.Config.{Config}
 use Rattle.serving_workers.specs.Leaving.{HasServedClients, HasServedMail}
-use Rattle.house_floor.specs.Crew.{AllAt}
+use Rattle.house_shared.specs.Crew.{AllAt}
 use Rattle.reckoning.specs.Shelves.{IsRecorded}
 use Rattle.serving_workers.specs.Finished.{Finished}
 use Rattle.serving_workers.specs.Lines.{Told}
@@ -28,8 +28,8 @@ abbrev pub answers : Finished → List (List (Entry Noted))
 answers finished = map reply_history finished.channels.items
 
 module _ (mailboxes shard producer : ℕ) where
-  -- What the clerk of a shard told a producer: of these entries, which it took, one verdict on each copy of that producer, in their order, and then
-  -- its end. `heard`: all that came on the producer's reply channel
+  -- What the shared consumer of a shard told a producer: of these entries, which it took, one verdict on each copy of that producer, in their order,
+  -- and then its end. `heard`: all that came on the producer's reply channel
   pub record WasAnswered (taken : List (Entry Job)) (heard : List (Entry Noted)) : Type 0 where
     pub told : List (Entry Noted)
     pub each : WereAnswered mailboxes shard producer taken told
@@ -63,9 +63,10 @@ pub record HasLeft (config : Config) (finished : Finished) : Type 0 where
   -- What was taken of a worker from each lane is what the connections at its line submitted, one after another with the serials from 0 on, and then
   -- its end; and the verdict on each of these copies came on its channel.
   pub mail : (n : ℕ) → n < config.workers → IsWorkerOf house n finished
-  -- So it is of each berth: what was taken of it is what its clients appended, one client after another with the serials from 0 on.
+  -- So it is of each client slot: what was taken of it is what its clients appended, one client after another with the serials from 0 on.
   pub clients : (n : ℕ) → config.workers ≤ n → n < length finished.channels.items
       → HasServedClients house n (slice_index_or (answers finished) n []) (map (of n) (histories finished))
-  -- Each copy that was taken of a producer was answered once, by its shard's clerk and to that producer, in the order in which they were taken.
+  -- Each copy that was taken of a producer was answered once, by its shard's shared consumer and to that producer, in the order in which they were
+  -- taken.
   pub answered : (s p : ℕ) → s < length finished.lanes.items → p < length finished.channels.items
       → WasAnswered (length (directory_for config).homes) s p (slice_index_or (histories finished) s []) (slice_index_or (answers finished) p [])

@@ -6,17 +6,17 @@ use Rattle.settings.specs.declared.config.ConfigFault.{ConfigFault}
 use Rattle.settings.specs.declared.config.ConfigFault.TheVariants as settings
 use Rattle.serving.specs.Announcing.{users_of}
 
--- The berths of a user: as many as sessions may be open at a time. In the compatible profile there is one more, where one too many is told so.
-abbrev pub berths_of_user : Config → ℕ
-berths_of_user c = if c.compatible then c.sessions + 1 else c.sessions
+-- The client slots of a user: as many as sessions may be open at a time. In the compatible profile there is one more, where one too many is told so.
+abbrev pub client_slots_of_user : Config → ℕ
+client_slots_of_user c = if c.compatible then c.sessions + 1 else c.sessions
 
--- the berths of all users
-abbrev pub berths_in : Config → ℕ
-berths_in c = berths_of_user c * length (users_of (directory_for c).homes)
+-- the client slots of all users
+abbrev pub client_slots_in : Config → ℕ
+client_slots_in c = client_slots_of_user c * length (users_of (directory_for c).homes)
 
--- each worker, and each berth, whose clients may append messages
+-- each worker, and each client slot, whose clients may append messages
 abbrev pub producers_in : Config → ℕ
-producers_in c = c.workers + berths_in c
+producers_in c = c.workers + client_slots_in c
 
 abbrev pub after_settings : Config → Option ConfigFault → Option ConfigFault
 after_settings c (Some fault) = Some fault

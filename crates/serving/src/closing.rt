@@ -3,23 +3,23 @@
 
 ghost use Rattle.std.specs.Prelude.{ℕ, ◌≡◌, ◌≢◌, ◌≤◌, ◌<◌, ◌+◌, All, Err, None, Ok, OnOk, Option, IfOk, IfSome, [], false, true, length, map, vec_len, vec_capacity};
 ghost use Rattle.settings.specs.declared.config.ConfigFault.{ConfigFault};
-ghost use Rattle.house_floor.specs.Left.{IsPostLeft, IsStandLeft};
-ghost use Rattle.house_floor.specs.Crew.{AllAt, IsHouse, IsPost};
-ghost use Rattle.house_floor.specs.Opening.{AreBaskets};
+ghost use Rattle.house_shared.specs.Left.{IsPostLeft, IsStandLeft};
+ghost use Rattle.house_shared.specs.Crew.{AllAt, IsHouse, IsPost};
+ghost use Rattle.house_shared.specs.Opening.{AreBaskets};
 ghost use Rattle.lane_work.specs.Rooms.{AreRooms};
-ghost use Rattle.clerks.specs.Keeping.{parts_of};
+ghost use Rattle.shared_consumers.specs.Keeping.{parts_of};
 ghost use Rattle.serving_workers.specs.Leaving.{IsServed};
 ghost use Rattle.serving.specs.inner.Ending.{CameTo, FirstTakeMail};
 
 use crate::fault::ServeFault;
 use crate::site::Site;
-use clerks::{Hall, Staff, dismiss_all, stand_down};
-use house_floor::{Baskets, Floor, Post, Ran, Stand, Started};
 use house_history::{Answer, Naming};
+use house_shared::{Baskets, HouseShared, Post, Ran, Stand, Started};
 use lane_work::{Consumed, Worked};
 use reckoning::abandon;
 use serving_workers::{Finished, Line, Rest, Served, Workplace, close_all};
 use shard_queue::SenderEnded;
+use shared_consumers::{ConsumerSet, LaneGroup, dismiss_all, stand_down};
 use std::sync::Wait;
 
 /// What the threads of the producers leave; or their posts, where there was no memory to note the threads in, or no thread for the log, and
@@ -39,25 +39,25 @@ pub(crate) struct Over<B: Naming, L> {
 
 /// Spends a house in which nothing ran. Its fault is `NoMemory`.
 pub(crate) fn give_up<B: Naming>(
-    floor: Floor<B>,
+    shared: HouseShared<B>,
     worked: Vec<Worked<B>>,
     consumed: Vec<Consumed<B>>,
     stands: Vec<Stand<B>>,
     posts: Vec<Post<B>>,
     baskets: Baskets<B>,
 ) -> ServeFault
-    requires some { (0 < length floor.depot.channels.items)
-        × (0 < length floor.office.lanes.items) }
+    requires some { (0 < length shared.delivery.channels.items)
+        × (0 < length shared.intake.lanes.items) }
     requires none { (worked.items ≡ []) × (consumed.items ≡ []) }
-    requires stands { (vec_len stands ≡ length floor.office.lanes.items)
-        × All (IsStandLeft (length floor.depot.channels.items)) stands.items }
-    requires posts { (vec_len posts ≡ length floor.depot.channels.items)
-        × All (IsPostLeft (length floor.office.lanes.items)) posts.items }
-    requires baskets { AreBaskets (length floor.depot.channels.items)
-        (length floor.office.lanes.items) baskets }
+    requires stands { (vec_len stands ≡ length shared.intake.lanes.items)
+        × All (IsStandLeft (length shared.delivery.channels.items)) stands.items }
+    requires posts { (vec_len posts ≡ length shared.delivery.channels.items)
+        × All (IsPostLeft (length shared.intake.lanes.items)) posts.items }
+    requires baskets { AreBaskets (length shared.delivery.channels.items)
+        (length shared.intake.lanes.items) baskets }
     ensures { result ≡ ServeFault.NoMemory }
 {
-    let alloc = floor.alloc;
+    let alloc = shared.alloc;
     let ran = Ran {
         worked,
         consumed,
@@ -65,7 +65,7 @@ pub(crate) fn give_up<B: Naming>(
         posts,
         started: Started::NoMemory,
     };
-    abandon(alloc, floor, ran, baskets);
+    abandon(alloc, shared, ran, baskets);
     ServeFault::NoMemory
 }
 
@@ -95,29 +95,30 @@ fn told<B: Naming, L: Line>(
 }
 
 // Spends a house of which no producer was started.
-fn spend<B: Naming, H: Hall, L: Drop>(
-    floor: Floor<B>,
-    staff: Staff<B, H>,
+fn spend<B: Naming, H: LaneGroup, L: Drop>(
+    shared: HouseShared<B>,
+    consumer_set: ConsumerSet<B, H>,
     posts: Vec<Post<B>>,
     rest: Rest<B, L>,
     consumed: Vec<Consumed<B>>,
     baskets: Baskets<B>,
 ) -> ServeFault
-    requires lanes { H.lanes ≡ Some floor.office.lanes.items }
-    requires depot { H.depot ≡ Some (parts_of floor.depot) }
-    requires house { IsHouse floor (length floor.depot.channels.items) }
-    requires some { (0 < length floor.depot.channels.items)
-        × (0 < length floor.office.lanes.items) }
-    requires clerks { vec_len staff.clerks ≡ length floor.office.lanes.items }
-    requires rooms { AreRooms (length floor.office.lanes.items)
-        (length floor.depot.channels.items) staff.rooms }
-    requires stands { (staff.stands.items ≡ [])
-        × (length floor.office.lanes.items ≤ vec_capacity staff.stands) }
-    requires posts { AllAt (IsPost floor) 0 posts.items
-        × (vec_len posts ≡ length floor.depot.channels.items) }
+    requires lanes { H.lanes ≡ Some shared.intake.lanes.items }
+    requires delivery { H.delivery ≡ Some (parts_of shared.delivery) }
+    requires house { IsHouse shared (length shared.delivery.channels.items) }
+    requires some { (0 < length shared.delivery.channels.items)
+        × (0 < length shared.intake.lanes.items) }
+    requires shared_consumers { vec_len consumer_set.shared_consumers
+        ≡ length shared.intake.lanes.items }
+    requires rooms { AreRooms (length shared.intake.lanes.items)
+        (length shared.delivery.channels.items) consumer_set.rooms }
+    requires stands { (consumer_set.stands.items ≡ [])
+        × (length shared.intake.lanes.items ≤ vec_capacity consumer_set.stands) }
+    requires posts { AllAt (IsPost shared) 0 posts.items
+        × (vec_len posts ≡ length shared.delivery.channels.items) }
     requires none { (rest.worked.items ≡ []) × (consumed.items ≡ []) }
-    requires baskets { AreBaskets (length floor.depot.channels.items)
-        (length floor.office.lanes.items) baskets }
+    requires baskets { AreBaskets (length shared.delivery.channels.items)
+        (length shared.intake.lanes.items) baskets }
     ensures { result ≡ ServeFault.NoMemory }
 {
     let Rest {
@@ -125,8 +126,8 @@ fn spend<B: Naming, H: Hall, L: Drop>(
         unlocked: _,
         lines: _,
     } = rest;
-    let stands = stand_down(&floor, staff);
-    give_up(floor, worked, consumed, stands, posts, baskets)
+    let stands = stand_down(&shared, consumer_set);
+    give_up(shared, worked, consumed, stands, posts, baskets)
 }
 
 /// Closes the house that the threads have left, and hands out what it has left, or spends it where none was started. Ok says that nothing was
@@ -134,7 +135,7 @@ fn spend<B: Naming, H: Hall, L: Drop>(
 ///
 /// Errors, the first that holds: `NoMemory` where no producer was started, for want of memory, and `Spawn` where a thread could not be made;
 /// `Device` where not all lines could be written; `Torn` where a queue could not be closed. All of the house is spent then too.
-pub(crate) fn close_or_spend<B: Naming, H: Hall, R: Wait, L: Line>(
+pub(crate) fn close_or_spend<B: Naming, H: LaneGroup, R: Wait, L: Line>(
     rt: &R,
     site: Site<B, H>,
     rooms: Vec<Vec<SenderEnded<Answer<B>>>>,
@@ -144,38 +145,42 @@ pub(crate) fn close_or_spend<B: Naming, H: Hall, R: Wait, L: Line>(
     consumed: Vec<Consumed<B>>,
     baskets: Baskets<B>,
 ) -> Result<Finished<B, L>, ServeFault>
-    requires lanes { H.lanes ≡ Some site.workplace.floor.office.lanes.items }
-    requires depot { H.depot ≡ Some (parts_of site.workplace.floor.depot) }
-    requires house { IsHouse site.workplace.floor
-        (length site.workplace.floor.depot.channels.items) }
-    requires some { (0 < length site.workplace.floor.depot.channels.items)
-        × (0 < length site.workplace.floor.office.lanes.items) }
-    requires clerks { vec_len site.workplace.clerks
-        ≡ length site.workplace.floor.office.lanes.items }
-    requires rooms { AreRooms (length site.workplace.floor.office.lanes.items)
-        (length site.workplace.floor.depot.channels.items) rooms }
+    requires lanes { H.lanes ≡ Some site.workplace.shared.intake.lanes.items }
+    requires delivery { H.delivery ≡ Some (parts_of site.workplace.shared.delivery) }
+    requires house { IsHouse site.workplace.shared
+        (length site.workplace.shared.delivery.channels.items) }
+    requires some { (0 < length site.workplace.shared.delivery.channels.items)
+        × (0 < length site.workplace.shared.intake.lanes.items) }
+    requires shared_consumers { vec_len site.workplace.shared_consumers
+        ≡ length site.workplace.shared.intake.lanes.items }
+    requires rooms { AreRooms (length site.workplace.shared.intake.lanes.items)
+        (length site.workplace.shared.delivery.channels.items) rooms }
     requires stands { (stands.items ≡ [])
-        × (length site.workplace.floor.office.lanes.items ≤ vec_capacity stands) }
+        × (length site.workplace.shared.intake.lanes.items ≤ vec_capacity stands) }
     requires served { over.none_started ≡ false
-        → AllAt (IsServed L.told site.workplace.floor) 0 over.served.items ×
-        (vec_len over.served ≡ length site.workplace.floor.depot.channels.items) × (over.posts.items ≡ []) }
+        → AllAt (IsServed L.told site.workplace.shared) 0 over.served.items ×
+        (vec_len over.served ≡ length site.workplace.shared.delivery.channels.items)
+        × (over.posts.items ≡ []) }
     requires mail { over.none_started ≡ false
-        → FirstTakeMail (length site.grips.mail.items) (map (λ s. s.mail) over.served.items) }
+        → FirstTakeMail (length site.shutdown_handles.mail.items)
+        (map (λ s. s.mail) over.served.items) }
     requires none_started { over.none_started ≡ true
-        → AllAt (IsPost site.workplace.floor) 0 over.posts.items ×
-        (vec_len over.posts ≡ length site.workplace.floor.depot.channels.items) × (over.served.items ≡ []) }
+        → AllAt (IsPost site.workplace.shared) 0 over.posts.items ×
+        (vec_len over.posts ≡ length site.workplace.shared.delivery.channels.items)
+        × (over.served.items ≡ []) }
     requires worked { (rest.worked.items ≡ [])
-        × (length site.workplace.floor.depot.channels.items ≤ vec_capacity rest.worked) }
+        × (length site.workplace.shared.delivery.channels.items ≤ vec_capacity rest.worked) }
     requires unlocked { (rest.unlocked.items ≡ [])
-        × (vec_len site.workplace.floor.depot.mailboxes ≤ vec_capacity rest.unlocked) }
+        × (vec_len site.workplace.shared.delivery.mailboxes ≤ vec_capacity rest.unlocked) }
     requires lines { (rest.lines.items ≡ [])
-        × (length site.workplace.floor.depot.channels.items ≤ vec_capacity rest.lines) }
+        × (length site.workplace.shared.delivery.channels.items ≤ vec_capacity rest.lines) }
     requires consumed { (consumed.items ≡ [])
-        × (length site.workplace.floor.office.lanes.items ≤ vec_capacity consumed) }
-    requires baskets { AreBaskets (length site.workplace.floor.depot.channels.items)
-        (length site.workplace.floor.office.lanes.items) baskets }
+        × (length site.workplace.shared.intake.lanes.items ≤ vec_capacity consumed) }
+    requires baskets { AreBaskets (length site.workplace.shared.delivery.channels.items)
+        (length site.workplace.shared.intake.lanes.items) baskets }
     ensures setting { (fault : ConfigFault) → result ≢ Err (ServeFault.Config fault) }
-    ensures whole { IfOk result (CameTo site.workplace.floor (length site.grips.mail.items)) }
+    ensures whole { IfOk result (CameTo site.workplace.shared
+        (length site.shutdown_handles.mail.items)) }
     ensures told { OnOk result (over.is_told ≡ true) }
     ensures unsaid { result ≡ Err ServeFault.Spawn → over.all_started ≡ false }
     ensures untried { result ≡ Err ServeFault.NoMemory → over.none_started ≡ true }
@@ -187,15 +192,15 @@ pub(crate) fn close_or_spend<B: Naming, H: Hall, R: Wait, L: Line>(
         compatible: _,
         limits: _,
         imap: _,
-        grips: _,
+        shutdown_handles: _,
         signs: _,
         page: _,
         watch: _,
         rows: _,
     } = site;
     let Workplace {
-        floor,
-        clerks,
+        shared,
+        shared_consumers,
         at_once: _,
         lmtp: _,
         mark: _,
@@ -205,8 +210,8 @@ pub(crate) fn close_or_spend<B: Naming, H: Hall, R: Wait, L: Line>(
         sessions: _,
         presences: _,
     } = workplace;
-    let staff = Staff {
-        clerks,
+    let consumer_set = ConsumerSet {
+        shared_consumers,
         rooms,
         stands,
     };
@@ -219,7 +224,7 @@ pub(crate) fn close_or_spend<B: Naming, H: Hall, R: Wait, L: Line>(
     } = over;
     if none_started {
         served.destroy_empty();
-        let fault = spend(floor, staff, posts, rest, consumed, baskets);
+        let fault = spend(shared, consumer_set, posts, rest, consumed, baskets);
         return Err(if all_started {
             fault
         } else {
@@ -227,7 +232,7 @@ pub(crate) fn close_or_spend<B: Naming, H: Hall, R: Wait, L: Line>(
         });
     }
     posts.destroy_empty();
-    let dismissed = dismiss_all(rt, &gate, &floor, staff, consumed);
-    let finished = close_all(rt, floor, served, rest, dismissed, baskets);
+    let dismissed = dismiss_all(rt, &gate, &shared, consumer_set, consumed);
+    let finished = close_all(rt, shared, served, rest, dismissed, baskets);
     told(all_started, is_told, finished)
 }

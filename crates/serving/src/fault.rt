@@ -25,7 +25,7 @@ pub enum ServeFault {
     /// Memory was refused before the first thread ran.
     #[error("NoMemory")]
     NoMemory,
-    /// A worker or a berth heard a verdict that it didn't await, a clerk met a copy that was nobody's, or a queue could not be closed.
+    /// A worker or a client slot heard a verdict that it didn't await, a shared consumer met a copy that was nobody's, or a queue could not be closed.
     #[error("Torn")]
     Torn,
 }

@@ -4,13 +4,13 @@
 use crate::sessions::name_of_user;
 use crate::site::Site;
 use crate::visiting::Sign;
-use clerks::Hall;
 use envelope::Directory;
 use house_history::Naming;
 use locked_mailbox::LockedMailbox;
 use server_report::{
     Connection, Counts, MailboxFigures, MailboxRow, Names, Presence, Session, Snapshot,
 };
+use shared_consumers::LaneGroup;
 use std::alloc::{AllocError, Global};
 use std::sync::{Mutex, Wait};
 
@@ -59,7 +59,7 @@ fn connection_at(names: Names<'_>, presences: &[Presence], seat: usize) -> Optio
 }
 
 // The connections that the workers have at hand, in the order of the workers.
-fn connections_of<B: Naming, H: Hall>(
+fn connections_of<B: Naming, H: LaneGroup>(
     alloc: Global,
     site: &Site<B, H>,
 ) -> Result<Vec<Connection>, AllocError> {
@@ -74,41 +74,46 @@ fn connections_of<B: Naming, H: Hall>(
     Ok(open)
 }
 
-// The session that this berth of a user has at hand, if there is one.
-fn session_of<'s>(names: Names<'s>, user: &'s [u8], berth: u8, sign: &Sign) -> Option<Session<'s>> {
+// The session that this client slot of a user has at hand, if there is one.
+fn session_of<'s>(
+    names: Names<'s>,
+    user: &'s [u8],
+    client_slot: u8,
+    sign: &Sign,
+) -> Option<Session<'s>> {
     let presence = sign.presence();
     let serial = presence.serial()?;
     Some(Session {
         user,
-        number: names.session_number(berth, serial),
+        number: names.session_number(client_slot, serial),
         state: presence.state(sign.is_idling()),
     })
 }
 
-// The session that the berth of this number has at hand, if there is one.
-fn session_at<'s, B: Naming, H: Hall>(
+// The session that the client slot of this number has at hand, if there is one.
+fn session_at<'s, B: Naming, H: LaneGroup>(
     names: Names<'s>,
     site: &'s Site<B, H>,
-    berth: usize,
+    client_slot: usize,
 ) -> Option<Session<'s>> {
-    let Ok(number) = u8::try_from(berth) else {
+    let Ok(number) = u8::try_from(client_slot) else {
         return None;
     };
-    let guest = site.guests.get(berth)?;
-    let sign = site.signs.get(berth)?;
+    let guest = site.guests.get(client_slot)?;
+    let sign = site.signs.get(client_slot)?;
     let user = name_of_user(names.directory, guest.user);
     session_of(names, user, number, sign)
 }
 
-// The sessions that the berths have at hand, in the order of the berths.
-fn sessions_of<'s, B: Naming, H: Hall>(
+// The sessions that the client slots have at hand, in the order of the client slots.
+fn sessions_of<'s, B: Naming, H: LaneGroup>(
     alloc: Global,
     site: &'s Site<B, H>,
 ) -> Result<Vec<Session<'s>>, AllocError> {
     let names = site.workplace.names();
     let mut open = Vec::new(alloc);
-    for berth in 0..site.guests.len() {
-        if let Some(session) = session_at(names, site, berth) {
+    for client_slot in 0..site.guests.len() {
+        if let Some(session) = session_at(names, site, client_slot) {
             open.push(session)?;
         }
     }
@@ -150,16 +155,21 @@ fn rows_of<'s, B: Naming, R: Wait>(
 /// What this server is doing now. Its parts are of different moments, as each is looked at.
 ///
 /// Errors: `AllocError` where memory is refused.
-pub(crate) fn gather<'s, B: Naming, H: Hall, R: Wait>(
+pub(crate) fn gather<'s, B: Naming, H: LaneGroup, R: Wait>(
     rt: &R,
     site: &'s Site<B, H>,
 ) -> Result<Gathered<'s>, AllocError> {
-    let floor = &site.workplace.floor;
-    let alloc = floor.alloc;
+    let shared = &site.workplace.shared;
+    let alloc = shared.alloc;
     Ok(Gathered {
         counts: site.workplace.log.counts(rt),
         connections: connections_of(alloc, site)?,
         sessions: sessions_of(alloc, site)?,
-        mailboxes: rows_of(rt, alloc, &floor.office.directory, &floor.depot.mailboxes)?,
+        mailboxes: rows_of(
+            rt,
+            alloc,
+            &shared.intake.directory,
+            &shared.delivery.mailboxes,
+        )?,
     })
 }

@@ -4,7 +4,7 @@
 #![tactic(auto)]
 
 mod announcing;
-mod berths;
+mod client_slots;
 mod closing;
 mod equipment;
 mod fault;

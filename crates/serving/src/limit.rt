@@ -6,7 +6,7 @@ ghost use Rattle.std.specs.Io.KnownBytes.{Appends};
 ghost use Rattle.serving.specs.inner.Visiting.{turned_away};
 
 use line_io::{SendFault, Sink, send};
-use serving_workers::Door;
+use serving_workers::Acceptor;
 use std::alloc::{AllocError, Global};
 use std::sync::{Mutex, Wait};
 
@@ -41,15 +41,15 @@ impl ClientLimit {
 
     /// One more is served, as soon as one of the others has left: for two seconds that is waited for, and not where the house stops. Says
     /// whether it is served; then `release` is called once it has gone.
-    pub(crate) fn wait_for_turn<R: Wait>(&self, rt: &R, door: &Door<'_>) -> bool {
+    pub(crate) fn wait_for_turn<R: Wait>(&self, rt: &R, acceptor: &Acceptor<'_>) -> bool {
         for _ in 0..PAUSES {
             if self.admit(rt) {
                 return true;
             }
-            if door.is_shut() {
+            if acceptor.is_shut() {
                 return false;
             }
-            door.pause.wait();
+            acceptor.pause.wait();
         }
         self.admit(rt)
     }

@@ -1,6 +1,6 @@
 //! Where the page of a server is asked for. Who answers there stands in `telling`.
 
-use workers_sync::{Grip, Listening};
+use workers_sync::{Listening, ShutdownHandle};
 
 /// Where the page is asked for.
 #[derive(Drop)]
@@ -8,7 +8,7 @@ pub(crate) struct Page {
     /// Whoever asks comes in here.
     pub(crate) listening: Listening,
     /// For the connection that is at hand.
-    pub(crate) grip: Grip,
+    pub(crate) shutdown_handle: ShutdownHandle,
 }
 
 impl Page {
@@ -16,7 +16,7 @@ impl Page {
     pub(crate) fn new(listening: Listening) -> Page {
         Page {
             listening,
-            grip: Grip::new(),
+            shutdown_handle: ShutdownHandle::new(),
         }
     }
 }

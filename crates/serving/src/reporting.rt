@@ -6,9 +6,9 @@ ghost use Rattle.serving.specs.inner.Faults.{IsOfSocket};
 
 use crate::fault::{ServeFault, device_or_memory};
 use crate::site::Site;
-use clerks::Hall;
 use house_history::Naming;
 use server_report::{Keeps, Log, Scribe};
+use shared_consumers::LaneGroup;
 use std::alloc::Global;
 use std::io::Write;
 use std::net::Net;
@@ -79,7 +79,7 @@ pub(crate) fn start_writing<
     's,
     E,
     B: Naming + Send + Sync,
-    H: Hall + Send,
+    H: LaneGroup + Send,
     R: Threads + Wait + Sync,
     F: Write + Drop + Send + 's,
 >(scope: &thread::Scope<'s, E>, rt: &'s R, site: &'s Site<B, H>, writing: Writing<F>) -> bool {

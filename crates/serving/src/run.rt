@@ -1,4 +1,4 @@
-//! The threads of a server: workers first, then one for each berth of a session; it is waited for the end, all are stopped and joined, and
+//! The threads of a server: workers first, then one for each client slot of a session; it is waited for the end, all are stopped and joined, and
 //! the house is closed. What the threads do stands in `serving_workers` and `sessions`, the house's end in `closing`.
 
 ghost use Rattle.std.specs.Prelude.{ℕ, ◌≡◌, ◌≢◌, ◌≤◌, ◌<◌, ◌+◌, All, Err, Ok, OnOk, Some, IfOk, [], false, true, length, map, take, vec_len, vec_capacity};
@@ -7,10 +7,10 @@ ghost use Rattle.std.specs.List.{list_all};
 ghost use Rattle.settings.specs.declared.config.ConfigFault.{ConfigFault};
 ghost use Rattle.std.specs.Mem.{manually_drop_value};
 ghost use Rattle.std.specs.Thread.{IsSend, IsSync};
-ghost use Rattle.house_floor.specs.Crew.{AllAt, IsCrew, IsHouse, IsPost};
-ghost use Rattle.house_floor.specs.Opening.{AreBaskets};
-ghost use Rattle.clerks.specs.Keeping.{parts_of};
-ghost use Rattle.serving_workers.specs.Leaving.{IsHired, IsOutfit, IsServed, has_thread, serves_mail};
+ghost use Rattle.house_shared.specs.Crew.{AllAt, IsCrew, IsHouse, IsPost};
+ghost use Rattle.house_shared.specs.Opening.{AreBaskets};
+ghost use Rattle.shared_consumers.specs.Keeping.{parts_of};
+ghost use Rattle.serving_workers.specs.Leaving.{IsSpawned, IsOutfit, IsServed, has_thread, serves_mail};
 ghost use Rattle.serving.specs.inner.Dealing.{IsDealt};
 ghost use Rattle.serving.specs.inner.Ending.{CameTo, FirstTakeMail};
 
@@ -20,31 +20,31 @@ use crate::equipment::{Equipment, Rooms, make_rooms};
 use crate::fault::ServeFault;
 use crate::limit::ClientLimit;
 use crate::reporting::{Writing, start_writing};
-use crate::sessions::{Ear, Furnishings, start_berths};
+use crate::sessions::{Ear, Furnishings, start_client_slots};
 use crate::site::Site;
 use crate::sockets::Sockets;
 use crate::stopping::{await_end, bytes_held, longest_lane, stop_all};
 use crate::telling::start_telling;
 use crate::watch::Lookout;
-use clerks::{Hall, Staff, Unhindered, hire_all};
-use house_floor::{Baskets, Crew, Floor, Guest, Post};
 use house_history::Naming;
+use house_shared::{Baskets, Crew, Guest, HouseShared, Post};
 use line_io::Sink;
 use server_report::{Held, Log};
 use serving_workers::{
-    Begun, Finished, Hired, Line, Lines, Mark, Outfit, Rest, Served, Workplace, join_producers,
+    Begun, Finished, Line, Lines, Mark, Outfit, Rest, Served, Spawned, Workplace, join_producers,
     packed, start_workers,
 };
+use shared_consumers::{ConsumerSet, LaneGroup, Unhindered, make_all};
 use std::io::{Read, Write};
 use std::mem::ManuallyDrop;
 use std::sync::Wait;
 use std::thread;
 use std::thread::Threads;
-use workers_sync::Sleeper;
+use workers_sync::SessionParker;
 
 // The threads of the producers once all stand, and whoever said so.
 struct Begin<'s, 'o, B: Naming, L: Line, W: Sink> {
-    hired: Vec<Hired<'s, B, L>>,
+    spawned: Vec<Spawned<'s, B, L>>,
     // Whether each thread could be made.
     all_started: bool,
     // Whether all was said of the listeners.
@@ -61,7 +61,7 @@ struct Left<'o, B: Naming, L, W: Sink> {
 // What is dealt to the threads, and room for what the producers leave.
 struct Dealt<B: Naming, L> {
     posts: Vec<Post<B>>,
-    // What the berths' threads take in with, and the watch's.
+    // What the client slots' threads take in with, and the watch's.
     ears: Vec<Ear>,
     lookout: Lookout,
     equipment: Equipment<L>,
@@ -74,7 +74,7 @@ fn start_all<
     's,
     E,
     B: Naming + Send + Sync,
-    H: Hall + Send,
+    H: LaneGroup + Send,
     R: Threads + Wait + Sync,
     L: Line + Send + 's,
 >(
@@ -84,40 +84,42 @@ fn start_all<
     posts: Vec<Post<B>>,
     outfits: Vec<Outfit<L>>,
     furnishings: Furnishings,
-    hired: Vec<Hired<'s, B, L>>,
-) -> (Vec<Hired<'s, B, L>>, bool)
-    requires lanes { H.lanes ≡ Some site.now.workplace.floor.office.lanes.items }
-    requires depot { H.depot ≡ Some (parts_of site.now.workplace.floor.depot) }
-    requires house { IsHouse site.now.workplace.floor
-        (length site.now.workplace.floor.depot.channels.items) }
-    requires grips { length site.now.grips.mail.items + length site.now.guests.items
-        ≡ length site.now.workplace.floor.depot.channels.items }
-    requires posts { AllAt (IsPost site.now.workplace.floor) 0 posts.items
-        × (vec_len posts ≡ length site.now.workplace.floor.depot.channels.items) }
+    spawned: Vec<Spawned<'s, B, L>>,
+) -> (Vec<Spawned<'s, B, L>>, bool)
+    requires lanes { H.lanes ≡ Some site.now.workplace.shared.intake.lanes.items }
+    requires delivery { H.delivery ≡ Some (parts_of site.now.workplace.shared.delivery) }
+    requires house { IsHouse site.now.workplace.shared
+        (length site.now.workplace.shared.delivery.channels.items) }
+    requires shutdown_handles { length site.now.shutdown_handles.mail.items + length
+        site.now.guests.items
+        ≡ length site.now.workplace.shared.delivery.channels.items }
+    requires posts { AllAt (IsPost site.now.workplace.shared) 0 posts.items
+        × (vec_len posts ≡ length site.now.workplace.shared.delivery.channels.items) }
     requires outfits { All (λ o. IsOutfit L.told o) outfits.items
-        × (vec_len outfits ≡ length site.now.grips.mail.items) }
-    requires client_grips { length site.now.grips.clients.items ≡ length site.now.guests.items }
+        × (vec_len outfits ≡ length site.now.shutdown_handles.mail.items) }
+    requires client_shutdown_handles { length site.now.shutdown_handles.clients.items
+        ≡ length site.now.guests.items }
     requires ears { vec_len furnishings.ears ≡ length site.now.guests.items }
     requires buffers { vec_len furnishings.buffers ≡ length site.now.guests.items }
-    requires room { (hired.items ≡ [])
-        × (length site.now.workplace.floor.depot.channels.items ≤ vec_capacity hired) }
+    requires room { (spawned.items ≡ [])
+        × (length site.now.workplace.shared.delivery.channels.items ≤ vec_capacity spawned) }
     requires imap { All (λ v. v.user < vec_len site.now.imap) site.now.guests.items }
-    ensures hired { AllAt (IsHired L.told site.now.workplace.floor) 0 result.0.items }
-    ensures mail { FirstTakeMail (length site.now.grips.mail.items)
+    ensures spawned { AllAt (IsSpawned L.told site.now.workplace.shared) 0 result.0.items }
+    ensures mail { FirstTakeMail (length site.now.shutdown_handles.mail.items)
         (map serves_mail result.0.items) }
-    ensures count { vec_len result.0 ≡ length site.now.workplace.floor.depot.channels.items }
+    ensures count { vec_len result.0 ≡ length site.now.workplace.shared.delivery.channels.items }
     ensures all { result.1 ≡ true → list_all has_thread result.0.items ≡ true }
 {
-    let Begun { hired, posts } = start_workers::<E, B, H, R, L>(
+    let Begun { spawned, posts } = start_workers::<E, B, H, R, L>(
         scope,
         rt,
         &site.workplace,
-        &site.grips.mail,
+        &site.shutdown_handles.mail,
         posts,
         outfits,
-        hired,
+        spawned,
     );
-    start_berths::<E, B, H, R, L>(scope, rt, site, furnishings, posts, hired)
+    start_client_slots::<E, B, H, R, L>(scope, rt, site, furnishings, posts, spawned)
 }
 
 // Starts all threads, and writes the lines that tell of the listeners. Nobody is accepted before that: all threads wait for the start,
@@ -128,7 +130,7 @@ fn start_and_tell<
     'o,
     E,
     B: Naming + Send + Sync,
-    H: Hall + Send,
+    H: LaneGroup + Send,
     R: Threads + Wait + Sync,
     L: Line + Send + 's,
     W: Sink,
@@ -139,32 +141,35 @@ fn start_and_tell<
     posts: Vec<Post<B>>,
     outfits: Vec<Outfit<L>>,
     furnishings: Furnishings,
-    hired: Vec<Hired<'s, B, L>>,
+    spawned: Vec<Spawned<'s, B, L>>,
     lines: &[u8],
     announcer: Announcer<'o, W>,
 ) -> Begin<'s, 'o, B, L, W>
-    requires lanes { H.lanes ≡ Some site.now.workplace.floor.office.lanes.items }
-    requires depot { H.depot ≡ Some (parts_of site.now.workplace.floor.depot) }
-    requires house { IsHouse site.now.workplace.floor
-        (length site.now.workplace.floor.depot.channels.items) }
-    requires grips { length site.now.grips.mail.items + length site.now.guests.items
-        ≡ length site.now.workplace.floor.depot.channels.items }
-    requires posts { AllAt (IsPost site.now.workplace.floor) 0 posts.items
-        × (vec_len posts ≡ length site.now.workplace.floor.depot.channels.items) }
+    requires lanes { H.lanes ≡ Some site.now.workplace.shared.intake.lanes.items }
+    requires delivery { H.delivery ≡ Some (parts_of site.now.workplace.shared.delivery) }
+    requires house { IsHouse site.now.workplace.shared
+        (length site.now.workplace.shared.delivery.channels.items) }
+    requires shutdown_handles { length site.now.shutdown_handles.mail.items + length
+        site.now.guests.items
+        ≡ length site.now.workplace.shared.delivery.channels.items }
+    requires posts { AllAt (IsPost site.now.workplace.shared) 0 posts.items
+        × (vec_len posts ≡ length site.now.workplace.shared.delivery.channels.items) }
     requires outfits { All (λ o. IsOutfit L.told o) outfits.items
-        × (vec_len outfits ≡ length site.now.grips.mail.items) }
-    requires client_grips { length site.now.grips.clients.items ≡ length site.now.guests.items }
+        × (vec_len outfits ≡ length site.now.shutdown_handles.mail.items) }
+    requires client_shutdown_handles { length site.now.shutdown_handles.clients.items
+        ≡ length site.now.guests.items }
     requires ears { vec_len furnishings.ears ≡ length site.now.guests.items }
     requires buffers { vec_len furnishings.buffers ≡ length site.now.guests.items }
-    requires room { (hired.items ≡ [])
-        × (length site.now.workplace.floor.depot.channels.items ≤ vec_capacity hired) }
+    requires room { (spawned.items ≡ [])
+        × (length site.now.workplace.shared.delivery.channels.items ≤ vec_capacity spawned) }
     requires imap { All (λ v. v.user < vec_len site.now.imap) site.now.guests.items }
     requires live { W.failed announcer.output.now ≡ false }
-    ensures hired { AllAt (IsHired L.told site.now.workplace.floor) 0 result.hired.items }
-    ensures mail { FirstTakeMail (length site.now.grips.mail.items)
-        (map serves_mail result.hired.items) }
-    ensures count { vec_len result.hired ≡ length site.now.workplace.floor.depot.channels.items }
-    ensures there { result.all_started ≡ true → list_all has_thread result.hired.items ≡ true }
+    ensures spawned { AllAt (IsSpawned L.told site.now.workplace.shared) 0 result.spawned.items }
+    ensures mail { FirstTakeMail (length site.now.shutdown_handles.mail.items)
+        (map serves_mail result.spawned.items) }
+    ensures count { vec_len result.spawned
+        ≡ length site.now.workplace.shared.delivery.channels.items }
+    ensures there { result.all_started ≡ true → list_all has_thread result.spawned.items ≡ true }
     ensures same { result.announcer.output.ghost_name ≡ announcer.entry.output.ghost_name }
     ensures unsaid { result.all_started ≡ false
         → result.announcer.output.now ≡ announcer.entry.output.now }
@@ -175,18 +180,18 @@ fn start_and_tell<
         lines.now }
 {
     let _not_yet = site.workplace.mark.start.lock(rt);
-    let (hired, all_started) = start_all::<E, B, H, R, L>(
+    let (spawned, all_started) = start_all::<E, B, H, R, L>(
         scope,
         rt,
         site,
         posts,
         outfits,
         furnishings,
-        hired,
+        spawned,
     );
     if !all_started {
         return Begin {
-            hired,
+            spawned,
             all_started,
             is_told: false,
             announcer,
@@ -194,7 +199,7 @@ fn start_and_tell<
     }
     if !start_telling::<E, B, H, R>(scope, rt, site) {
         return Begin {
-            hired,
+            spawned,
             all_started: false,
             is_told: false,
             announcer,
@@ -205,7 +210,7 @@ fn start_and_tell<
         site.workplace.mark.set();
     }
     Begin {
-        hired,
+        spawned,
         all_started,
         is_told,
         announcer,
@@ -232,35 +237,44 @@ fn untried<B: Naming, L>(
 }
 
 // The log ends: whoever writes it tells what was counted, and what the server held.
-fn end_log<B: Naming, H: Hall, R: Wait>(rt: &R, site: &Site<B, H>) {
+fn end_log<B: Naming, H: LaneGroup, R: Wait>(rt: &R, site: &Site<B, H>) {
     let workplace = &site.workplace;
     if workplace.log.is_on() {
         let held = Held {
-            bytes: bytes_held(rt, &workplace.floor.depot.mailboxes),
-            longest_lane: longest_lane(rt, &workplace.clerks),
+            bytes: bytes_held(rt, &workplace.shared.delivery.mailboxes),
+            longest_lane: longest_lane(rt, &workplace.shared_consumers),
         };
         workplace.log.end(rt, held);
     }
 }
 
 // The end is awaited, if it was said that the house serves; all threads are stopped, and the producers are joined.
-fn stop_and_join<'s, 'o, B: Naming, H: Hall, R: Threads + Wait, L: Line, I: Read + Drop, W: Sink>(
+fn stop_and_join<
+    's,
+    'o,
+    B: Naming,
+    H: LaneGroup,
+    R: Threads + Wait,
+    L: Line,
+    I: Read + Drop,
+    W: Sink,
+>(
     rt: &R,
     site: &'s Site<B, H>,
     begin: Begin<'s, 'o, B, L, W>,
     served: Vec<Served<B, L>>,
     stop: I,
 ) -> Left<'o, B, L, W>
-    requires hired { AllAt (IsHired L.told site.now.workplace.floor) 0 begin.hired.items
-        × (vec_len begin.hired ≡ length site.now.workplace.floor.depot.channels.items) }
-    requires mail { FirstTakeMail (length site.now.grips.mail.items)
-        (map serves_mail begin.hired.items) }
+    requires spawned { AllAt (IsSpawned L.told site.now.workplace.shared) 0 begin.spawned.items
+        × (vec_len begin.spawned ≡ length site.now.workplace.shared.delivery.channels.items) }
+    requires mail { FirstTakeMail (length site.now.shutdown_handles.mail.items)
+        (map serves_mail begin.spawned.items) }
     requires room { (served.items ≡ [])
-        × (length site.now.workplace.floor.depot.channels.items ≤ vec_capacity served) }
-    ensures served { AllAt (IsServed L.told site.now.workplace.floor) 0 result.over.served.items ×
-        (vec_len result.over.served ≡ length site.now.workplace.floor.depot.channels.items)
+        × (length site.now.workplace.shared.delivery.channels.items ≤ vec_capacity served) }
+    ensures served { AllAt (IsServed L.told site.now.workplace.shared) 0 result.over.served.items ×
+        (vec_len result.over.served ≡ length site.now.workplace.shared.delivery.channels.items)
         × (result.over.posts.items ≡ []) }
-    ensures mail { FirstTakeMail (length site.now.grips.mail.items) (map (λ s.
+    ensures mail { FirstTakeMail (length site.now.shutdown_handles.mail.items) (map (λ s.
         s.mail) result.over.served.items) }
     ensures some { result.over.none_started ≡ false }
     ensures all { (result.over.all_started ≡ begin.entry.all_started)
@@ -269,7 +283,7 @@ fn stop_and_join<'s, 'o, B: Naming, H: Hall, R: Threads + Wait, L: Line, I: Read
     ensures written { result.announcer.output.now ≡ begin.entry.announcer.output.now }
 {
     let Begin {
-        hired,
+        spawned,
         all_started,
         is_told,
         announcer,
@@ -279,8 +293,8 @@ fn stop_and_join<'s, 'o, B: Naming, H: Hall, R: Threads + Wait, L: Line, I: Read
     }
     stop_all(rt, site);
     let over = Over {
-        served: join_producers(rt, &site.workplace.floor, hired, served),
-        posts: Vec::new(site.workplace.floor.alloc),
+        served: join_producers(rt, &site.workplace.shared, spawned, served),
+        posts: Vec::new(site.workplace.shared.alloc),
         all_started,
         none_started: false,
         is_told,
@@ -296,7 +310,7 @@ fn in_scope<
     'o,
     E,
     B: Naming + Send + Sync,
-    H: Hall + Send,
+    H: LaneGroup + Send,
     R: Threads + Wait + Sync,
     L: Line + Send + 's,
     I: Read + Drop,
@@ -312,27 +326,30 @@ fn in_scope<
     lines: &[u8],
     announcer: Announcer<'o, W>,
 ) -> Left<'o, B, L, W>
-    requires lanes { H.lanes ≡ Some site.now.workplace.floor.office.lanes.items }
-    requires depot { H.depot ≡ Some (parts_of site.now.workplace.floor.depot) }
-    requires house { IsHouse site.now.workplace.floor
-        (length site.now.workplace.floor.depot.channels.items) }
-    requires grips { length site.now.grips.mail.items + length site.now.guests.items
-        ≡ length site.now.workplace.floor.depot.channels.items }
-    requires client_grips { length site.now.grips.clients.items ≡ length site.now.guests.items }
+    requires lanes { H.lanes ≡ Some site.now.workplace.shared.intake.lanes.items }
+    requires delivery { H.delivery ≡ Some (parts_of site.now.workplace.shared.delivery) }
+    requires house { IsHouse site.now.workplace.shared
+        (length site.now.workplace.shared.delivery.channels.items) }
+    requires shutdown_handles { length site.now.shutdown_handles.mail.items + length
+        site.now.guests.items
+        ≡ length site.now.workplace.shared.delivery.channels.items }
+    requires client_shutdown_handles { length site.now.shutdown_handles.clients.items
+        ≡ length site.now.guests.items }
     requires imap { All (λ v. v.user < vec_len site.now.imap) site.now.guests.items }
-    requires dealt { IsDealt L.told site.now.workplace.floor (length site.now.grips.mail.items)
+    requires dealt { IsDealt L.told site.now.workplace.shared
+        (length site.now.shutdown_handles.mail.items)
         (length site.now.guests.items) (manually_drop_value dealt) }
     requires live { W.failed announcer.output.now ≡ false }
     ensures served { result.over.none_started ≡ false
-        → AllAt (IsServed L.told site.now.workplace.floor) 0 result.over.served.items ×
-        (vec_len result.over.served ≡ length site.now.workplace.floor.depot.channels.items)
+        → AllAt (IsServed L.told site.now.workplace.shared) 0 result.over.served.items ×
+        (vec_len result.over.served ≡ length site.now.workplace.shared.delivery.channels.items)
         × (result.over.posts.items ≡ []) }
     ensures mail { result.over.none_started ≡ false
-        → FirstTakeMail (length site.now.grips.mail.items) (map (λ s.
+        → FirstTakeMail (length site.now.shutdown_handles.mail.items) (map (λ s.
         s.mail) result.over.served.items) }
     ensures none_started { result.over.none_started ≡ true
-        → AllAt (IsPost site.now.workplace.floor) 0 result.over.posts.items ×
-        (vec_len result.over.posts ≡ length site.now.workplace.floor.depot.channels.items)
+        → AllAt (IsPost site.now.workplace.shared) 0 result.over.posts.items ×
+        (vec_len result.over.posts ≡ length site.now.workplace.shared.delivery.channels.items)
         × (result.over.served.items ≡ []) }
     ensures same { result.announcer.output.ghost_name ≡ announcer.entry.output.ghost_name }
     ensures untried { result.over.none_started ≡ true
@@ -353,10 +370,10 @@ fn in_scope<
         served,
     } = ManuallyDrop::into_inner(dealt);
     let (alloc, producers) = (
-        site.workplace.floor.alloc,
-        site.workplace.floor.depot.channels.len(),
+        site.workplace.shared.alloc,
+        site.workplace.shared.delivery.channels.len(),
     );
-    let Ok(hired) = Vec::with_capacity(alloc, producers) else {
+    let Ok(spawned) = Vec::with_capacity(alloc, producers) else {
         let over = untried(served, posts, true);
         return Left { over, announcer };
     };
@@ -380,7 +397,7 @@ fn in_scope<
         posts,
         outfits,
         furnishings,
-        hired,
+        spawned,
         lines,
         announcer,
     );
@@ -388,13 +405,14 @@ fn in_scope<
 }
 
 // What is dealt to the threads, for a closure to hold.
-fn parcel_of<B: Naming, H: Hall, L: Line>(
+fn parcel_of<B: Naming, H: LaneGroup, L: Line>(
     site: &Site<B, H>,
     dealt: Dealt<B, L>,
 ) -> ManuallyDrop<Dealt<B, L>>
-    requires { IsDealt L.told site.now.workplace.floor (length site.now.grips.mail.items)
+    requires { IsDealt L.told site.now.workplace.shared
+        (length site.now.shutdown_handles.mail.items)
         (length site.now.guests.items) dealt }
-    ensures { IsDealt L.told site.now.workplace.floor (length site.now.grips.mail.items)
+    ensures { IsDealt L.told site.now.workplace.shared (length site.now.shutdown_handles.mail.items)
         (length site.now.guests.items) (manually_drop_value result) }
 {
     let _ = site;
@@ -404,7 +422,7 @@ fn parcel_of<B: Naming, H: Hall, L: Line>(
 // The scope of all threads, in which it is said that they stand.
 fn serve_in_threads<
     B: Naming + Send + Sync,
-    H: Hall + Send,
+    H: LaneGroup + Send,
     R: Threads + Wait + Sync,
     L: Line + Send,
     I: Read + Drop,
@@ -419,26 +437,30 @@ fn serve_in_threads<
     lines: &[u8],
     output: &mut W,
 ) -> Over<B, L>
-    requires lanes { H.lanes ≡ Some site.now.workplace.floor.office.lanes.items }
-    requires depot { H.depot ≡ Some (parts_of site.now.workplace.floor.depot) }
-    requires house { IsHouse site.now.workplace.floor
-        (length site.now.workplace.floor.depot.channels.items) }
-    requires grips { length site.now.grips.mail.items + length site.now.guests.items
-        ≡ length site.now.workplace.floor.depot.channels.items }
-    requires client_grips { length site.now.grips.clients.items ≡ length site.now.guests.items }
+    requires lanes { H.lanes ≡ Some site.now.workplace.shared.intake.lanes.items }
+    requires delivery { H.delivery ≡ Some (parts_of site.now.workplace.shared.delivery) }
+    requires house { IsHouse site.now.workplace.shared
+        (length site.now.workplace.shared.delivery.channels.items) }
+    requires shutdown_handles { length site.now.shutdown_handles.mail.items + length
+        site.now.guests.items
+        ≡ length site.now.workplace.shared.delivery.channels.items }
+    requires client_shutdown_handles { length site.now.shutdown_handles.clients.items
+        ≡ length site.now.guests.items }
     requires imap { All (λ v. v.user < vec_len site.now.imap) site.now.guests.items }
-    requires dealt { IsDealt L.told site.now.workplace.floor (length site.now.grips.mail.items)
+    requires dealt { IsDealt L.told site.now.workplace.shared
+        (length site.now.shutdown_handles.mail.items)
         (length site.now.guests.items) dealt }
     requires live { W.failed output.old ≡ false }
     ensures served { result.none_started ≡ false
-        → AllAt (IsServed L.told site.now.workplace.floor) 0 result.served.items ×
-        (vec_len result.served ≡ length site.now.workplace.floor.depot.channels.items)
+        → AllAt (IsServed L.told site.now.workplace.shared) 0 result.served.items ×
+        (vec_len result.served ≡ length site.now.workplace.shared.delivery.channels.items)
         × (result.posts.items ≡ []) }
     ensures mail { result.none_started ≡ false
-        → FirstTakeMail (length site.now.grips.mail.items) (map (λ s. s.mail) result.served.items) }
+        → FirstTakeMail (length site.now.shutdown_handles.mail.items)
+        (map (λ s. s.mail) result.served.items) }
     ensures none_started { result.none_started ≡ true
-        → AllAt (IsPost site.now.workplace.floor) 0 result.posts.items ×
-        (vec_len result.posts ≡ length site.now.workplace.floor.depot.channels.items)
+        → AllAt (IsPost site.now.workplace.shared) 0 result.posts.items ×
+        (vec_len result.posts ≡ length site.now.workplace.shared.delivery.channels.items)
         × (result.served.items ≡ []) }
     ensures untried { result.none_started ≡ true → output.new ≡ output.old }
     ensures unsaid { result.all_started ≡ false → output.new ≡ output.old }
@@ -453,31 +475,34 @@ fn serve_in_threads<
         rt,
         |scope| -> Left<'_, B, L, W>
             requires sends { IsSend L.row × IsSend L.Input.row × IsSend L.Output.row }
-            requires hall { IsSend B.row × IsSync B.row × IsSync R.row × (H.lanes
-                ≡ Some site.now.workplace.floor.office.lanes.items)
-                × (H.depot ≡ Some (parts_of site.now.workplace.floor.depot)) }
-            requires house { IsHouse site.now.workplace.floor
-                (length site.now.workplace.floor.depot.channels.items) }
-            requires grips { length site.now.grips.mail.items + length site.now.guests.items
-                ≡ length site.now.workplace.floor.depot.channels.items }
-            requires client_grips { length site.now.grips.clients.items
+            requires lane_group { IsSend B.row × IsSync B.row × IsSync R.row × (H.lanes
+                ≡ Some site.now.workplace.shared.intake.lanes.items)
+                × (H.delivery ≡ Some (parts_of site.now.workplace.shared.delivery)) }
+            requires house { IsHouse site.now.workplace.shared
+                (length site.now.workplace.shared.delivery.channels.items) }
+            requires shutdown_handles { length site.now.shutdown_handles.mail.items + length site.now.guests.items
+                ≡ length site.now.workplace.shared.delivery.channels.items }
+            requires client_shutdown_handles { length site.now.shutdown_handles.clients.items
                 ≡ length site.now.guests.items }
             requires imap { All (λ v.
                 v.user < vec_len site.now.imap) site.now.guests.items }
-            requires dealt { IsDealt L.told site.now.workplace.floor
-                (length site.now.grips.mail.items) (length site.now.guests.items)
+            requires dealt { IsDealt L.told site.now.workplace.shared
+                (length site.now.shutdown_handles.mail.items) (length site.now.guests.items)
                 (manually_drop_value dealt) }
             requires live { W.failed announcer.output.now ≡ false }
             ensures served { result.over.none_started ≡ false
-                → AllAt (IsServed L.told site.entry.now.workplace.floor) 0 result.over.served.items ×
-                (vec_len result.over.served ≡ length site.entry.now.workplace.floor.depot.channels.items)
+                → AllAt (IsServed L.told site.entry.now.workplace.shared) 0 result.over.served.items
+                ×
+                (vec_len result.over.served
+                ≡ length site.entry.now.workplace.shared.delivery.channels.items)
                 × (result.over.posts.items ≡ []) }
             ensures mail { result.over.none_started ≡ false
-                → FirstTakeMail (length site.entry.now.grips.mail.items) (map (λ s.
+                → FirstTakeMail (length site.entry.now.shutdown_handles.mail.items) (map (λ s.
                 s.mail) result.over.served.items) }
             ensures none_started { result.over.none_started ≡ true
-                → AllAt (IsPost site.entry.now.workplace.floor) 0 result.over.posts.items ×
-                (vec_len result.over.posts ≡ length site.entry.now.workplace.floor.depot.channels.items)
+                → AllAt (IsPost site.entry.now.workplace.shared) 0 result.over.posts.items ×
+                (vec_len result.over.posts
+                ≡ length site.entry.now.workplace.shared.delivery.channels.items)
                 × (result.over.served.items ≡ []) }
             ensures same { result.announcer.output.ghost_name ≡ announcer.entry.output.ghost_name }
             ensures untried { result.over.none_started ≡ true
@@ -501,15 +526,15 @@ pub(crate) struct Manning<F, D> {
     pub(crate) workers: usize,
     /// So many copies of a message each of them puts at once.
     pub(crate) at_once: usize,
-    /// The berths of sessions, the other producers.
+    /// The client slots of sessions, the other producers.
     pub(crate) guests: Vec<Guest>,
     /// Sessions have the compatible profile: their clients log in.
     pub(crate) compatible: bool,
     /// How many clients of each user are served at a time, in the compatible profile.
     pub(crate) limits: Vec<ClientLimit>,
-    /// For each berth its own end of its bell.
-    pub(crate) bells: Vec<Sleeper>,
-    /// How many berths each user has.
+    /// For each client slot its own end of its bell.
+    pub(crate) bells: Vec<SessionParker>,
+    /// How many client slots each user has.
     pub(crate) sessions: u8,
     /// Who gives each worker its line.
     pub(crate) mail: D,
@@ -527,7 +552,7 @@ pub(crate) struct Manning<F, D> {
 /// didn't await, or a queue could not be closed. All of the house is spent then too.
 pub(crate) fn run_house_in<
     B: Naming + Send + Sync,
-    H: Hall + Send,
+    H: LaneGroup + Send,
     R: Threads + Wait + Sync,
     L: Line + Send,
     D: Lines<L> + Drop,
@@ -536,7 +561,7 @@ pub(crate) fn run_house_in<
     F: Write + Drop + Send,
 >(
     rt: &R,
-    floor: Floor<B>,
+    shared: HouseShared<B>,
     manning: Manning<F, D>,
     crew: Crew<B>,
     baskets: Baskets<B>,
@@ -545,21 +570,21 @@ pub(crate) fn run_house_in<
     lines: Vec<u8>,
     output: &mut W,
 ) -> Result<Finished<B, L>, ServeFault>
-    requires lanes { H.lanes ≡ Some floor.office.lanes.items }
-    requires depot { H.depot ≡ Some (parts_of floor.depot) }
-    requires house { IsHouse floor (length floor.depot.channels.items) }
-    requires some { (0 < length floor.depot.channels.items)
-        × (0 < length floor.office.lanes.items) }
+    requires lanes { H.lanes ≡ Some shared.intake.lanes.items }
+    requires delivery { H.delivery ≡ Some (parts_of shared.delivery) }
+    requires house { IsHouse shared (length shared.delivery.channels.items) }
+    requires some { (0 < length shared.delivery.channels.items)
+        × (0 < length shared.intake.lanes.items) }
     requires producers { manning.workers + vec_len manning.guests
-        ≡ length floor.depot.channels.items }
+        ≡ length shared.delivery.channels.items }
     requires guests { vec_len manning.bells ≡ vec_len manning.guests }
     requires imap { All (λ v. v.user < vec_len sockets.imap) manning.guests.items }
-    requires crew { IsCrew floor (length floor.depot.channels.items) crew }
-    requires baskets { AreBaskets (length floor.depot.channels.items)
-        (length floor.office.lanes.items) baskets }
+    requires crew { IsCrew shared (length shared.delivery.channels.items) crew }
+    requires baskets { AreBaskets (length shared.delivery.channels.items)
+        (length shared.intake.lanes.items) baskets }
     requires live { W.failed output.old ≡ false }
     ensures setting { (fault : ConfigFault) → result ≢ Err (ServeFault.Config fault) }
-    ensures whole { IfOk result (CameTo floor manning.workers) }
+    ensures whole { IfOk result (CameTo shared manning.workers) }
     ensures untried { result ≡ Err ServeFault.NoMemory → output.new ≡ output.old }
     ensures unsaid { result ≡ Err ServeFault.Spawn → output.new ≡ output.old }
     ensures told { (n : ℕ) × Appends (W.taken output.old) (W.taken output.new)
@@ -593,30 +618,30 @@ pub(crate) fn run_house_in<
         page,
         lookout,
     } = sockets;
-    let Ok(rooms) = make_rooms::<B, H, L, D>(&floor, mail, &lmtp, workers, bells, &lookout) else {
-        return Err(give_up(floor, worked, consumed, stands, posts, baskets));
+    let Ok(rooms) = make_rooms::<B, H, L, D>(&shared, mail, &lmtp, workers, bells, &lookout) else {
+        return Err(give_up(shared, worked, consumed, stands, posts, baskets));
     };
     let Rooms {
-        grips,
+        shutdown_handles,
         watch,
         rows,
         ears,
         equipment,
         served,
-        staff,
+        consumer_set,
         signs,
         presences,
         unlocked,
         lines: room,
     } = rooms;
-    let Staff {
-        clerks,
+    let ConsumerSet {
+        shared_consumers,
         rooms,
         stands,
-    } = hire_all(&floor, stands, staff);
+    } = make_all(&shared, stands, consumer_set);
     let workplace = Workplace {
-        floor,
-        clerks,
+        shared,
+        shared_consumers,
         at_once,
         lmtp,
         mark: Mark::new(),
@@ -633,7 +658,7 @@ pub(crate) fn run_house_in<
         compatible,
         limits,
         imap,
-        grips,
+        shutdown_handles,
         signs,
         page,
         watch,

@@ -9,24 +9,24 @@ ghost use Rattle.settings.specs.declared.config.ConfigFault.{ConfigFault};
 ghost use Rattle.serving.specs.Announcing.{HasAnnounced, HasBegun, IsAnnouncement, users_of};
 ghost use Rattle.serving.specs.Left.{HasLeft};
 ghost use Rattle.serving.specs.inner.Faults.{IsOfSettings, IsOfSocket};
-ghost use Rattle.house_floor.specs.Users.{user_numbered};
+ghost use Rattle.house_shared.specs.Users.{user_numbered};
 
 use crate::announcing::announce;
-use crate::berths::{berths_for, berths_of_user, count_users};
+use crate::client_slots::{client_slots_for, client_slots_of_user, count_users};
 use crate::fault::ServeFault;
 use crate::limit::{ClientLimit, limits_for};
 use crate::reporting::{Records, Reporting, Writing, records_for};
 use crate::run::{Manning, run_house_in};
 use crate::sockets::{Open, Sockets, open_sockets};
-use clerks::copies_at_once;
 use envelope::Directory;
-use house_floor::{Guest, MOST_PRODUCERS, Opened, Sizes, open};
 use house_history::Naming;
+use house_shared::{Guest, MOST_PRODUCERS, Opened, Sizes, open};
 use line_io::Sink;
 use mailbox::{History, Limits};
 use server_report::Log;
 use serving_workers::{Finished, Line, Lines, SocketLine, SocketLines};
 use settings::{Config, ConfigFault, directory_of};
+use shared_consumers::copies_at_once;
 use std::alloc::Global;
 use std::io::{Read, Write};
 use std::marker::Brand;
@@ -44,21 +44,21 @@ pub enum Uidvalidity {
     Default,
 }
 
-// How large the parts of a house of these settings are, which has so many berths.
-fn sizes_of(config: &Config, berths: usize) -> Sizes<'_>
-    requires few { config.now.workers + berths ≤ 255 }
+// How large the parts of a house of these settings are, which has so many client slots.
+fn sizes_of(config: &Config, client_slots: usize) -> Sizes<'_>
+    requires few { config.now.workers + client_slots ≤ 255 }
     ensures host { result.host.now ≡ config.now.host.items }
     ensures max_message { result.max_message ≡ config.now.max_message }
     ensures depth { result.depth ≡ config.now.depth }
     ensures ring { result.limits.ring ≡ config.now.ring }
-    ensures producers { result.producers ≡ config.now.workers + berths }
+    ensures producers { result.producers ≡ config.now.workers + client_slots }
     ensures history { result.history ≡ History.Unkept }
 {
     Sizes {
         host: &config.host,
         max_message: config.max_message,
         memory: config.memory,
-        producers: (usize::from(config.workers) + berths) as u8,
+        producers: (usize::from(config.workers) + client_slots) as u8,
         depth: config.depth,
         uidvalidity: config.uidvalidity,
         first_uid: config.first_uid,
@@ -75,7 +75,7 @@ fn sizes_of(config: &Config, berths: usize) -> Sizes<'_>
     }
 }
 
-// Whom a server is for: the directory of its users, the berths of their sessions, and how many of these are served at a time.
+// Whom a server is for: the directory of its users, the client slots of their sessions, and how many of these are served at a time.
 #[derive(Drop)]
 struct Layout {
     directory: Directory,
@@ -97,7 +97,7 @@ fn lay_out(alloc: Global, config: &Config) -> Result<Layout, ServeFault>
     ensures fault { IfErr result IsOfSettings }
 {
     let directory = directory_of(alloc, config)?;
-    let guests = berths_for(alloc, &directory, berths_of_user(config))?;
+    let guests = client_slots_for(alloc, &directory, client_slots_of_user(config))?;
     if MOST_PRODUCERS < usize::from(config.workers) + guests.len() {
         return Err(ServeFault::Config(ConfigFault::TooMany));
     }
@@ -207,10 +207,10 @@ fn serve_in<
     let Listeners { sockets, lines } = listeners;
     let sizes = sizes_of(config, guests.len());
     let Opened {
-        floor,
+        shared,
         crew,
         baskets,
-        sleepers,
+        session_parkers,
     } = open::<B>(alloc, history, directory, sizes, guests.as_slice())?;
     let workers = usize::from(config.workers);
     let at_once = copies_at_once(config.depth, workers, guests.len());
@@ -220,14 +220,14 @@ fn serve_in<
         guests,
         compatible: config.compatible,
         limits,
-        bells: sleepers,
-        sessions: berths_of_user(config),
+        bells: session_parkers,
+        sessions: client_slots_of_user(config),
         mail,
         log,
         writing,
     };
     run_house_in::<B, Brand, R, L, D, I, W, F>(
-        rt, floor, manning, crew, baskets, sockets, stop, lines, output,
+        rt, shared, manning, crew, baskets, sockets, stop, lines, output,
     )
 }
 
@@ -395,9 +395,9 @@ fn serve_named<
 /// lines that wait is lost, and counted.
 ///
 /// Errors, the first that holds: `Config`, of the first fault of the settings in the order of `House::new`, then `TooMany` where workers
-/// and berths together are more than 255; `Device` where a listener,
-/// or a socket for the log, can't be made; `Spawn` where a thread can't be made; `Device` where the lines can't be written; `Torn` where a worker, a berth
-/// or a clerk met what it didn't await, or a queue could not be closed. `NoMemory` where memory, or the thread that writes the log, is refused before the first of the others runs: that
+/// and client slots together are more than 255; `Device` where a listener,
+/// or a socket for the log, can't be made; `Spawn` where a thread can't be made; `Device` where the lines can't be written; `Torn` where a worker, a client slot
+/// or a shared consumer met what it didn't await, or a queue could not be closed. `NoMemory` where memory, or the thread that writes the log, is refused before the first of the others runs: that
 /// comes in place of whatever would have come later, `Config` too. But for `Torn` nobody was served, and but for the second `Device` nothing
 /// was written.
 pub fn serve<

@@ -2,12 +2,12 @@
 //! What a thread does then is its own matter.
 
 use crate::site::Site;
-use clerks::{Clerk, Hall};
 use house_history::Naming;
 use locked_mailbox::LockedMailbox;
+use shared_consumers::{LaneGroup, SharedConsumer};
 use std::io::{ErrorKind, Read};
 use std::sync::{Mutex, Wait};
-use workers_sync::{Grip, SessionBell};
+use workers_sync::{SessionBell, ShutdownHandle};
 
 /// So many pauses, of a tenth of a second each, all connections together have for their last words. What is done before and behind them
 /// is to fit into six seconds with them.
@@ -40,7 +40,7 @@ fn wake_all(rows: &[Vec<SessionBell>]) {
 }
 
 // Nothing is accepted any more.
-fn shut_listeners<B: Naming, H: Hall>(site: &Site<B, H>) {
+fn shut_listeners<B: Naming, H: LaneGroup>(site: &Site<B, H>) {
     site.workplace.lmtp.shut();
     for listening in &site.imap {
         listening.shut();
@@ -51,51 +51,53 @@ fn shut_listeners<B: Naming, H: Hall>(site: &Site<B, H>) {
 }
 
 // No thread hears its peer any more.
-fn hush_each<R: Wait>(rt: &R, grips: &[Grip]) {
-    for grip in grips {
-        grip.hush(rt);
+fn shut_read_each<R: Wait>(rt: &R, shutdown_handles: &[ShutdownHandle]) {
+    for shutdown_handle in shutdown_handles {
+        shutdown_handle.shut_read(rt);
     }
 }
 
-fn hush_all<B: Naming, H: Hall, R: Wait>(rt: &R, site: &Site<B, H>) {
-    hush_each(rt, &site.grips.mail);
-    hush_each(rt, &site.grips.clients);
+fn shut_read_all<B: Naming, H: LaneGroup, R: Wait>(rt: &R, site: &Site<B, H>) {
+    shut_read_each(rt, &site.shutdown_handles.mail);
+    shut_read_each(rt, &site.shutdown_handles.clients);
     if let Some(page) = &site.page {
-        page.grip.hush(rt);
+        page.shutdown_handle.shut_read(rt);
     }
 }
 
-fn cut_each<R: Wait>(rt: &R, grips: &[Grip]) {
-    for grip in grips {
-        grip.cut(rt);
+fn cut_each<R: Wait>(rt: &R, shutdown_handles: &[ShutdownHandle]) {
+    for shutdown_handle in shutdown_handles {
+        shutdown_handle.cut(rt);
     }
 }
 
-fn cut_all<B: Naming, H: Hall, R: Wait>(rt: &R, site: &Site<B, H>) {
-    cut_each(rt, &site.grips.mail);
-    cut_each(rt, &site.grips.clients);
+fn cut_all<B: Naming, H: LaneGroup, R: Wait>(rt: &R, site: &Site<B, H>) {
+    cut_each(rt, &site.shutdown_handles.mail);
+    cut_each(rt, &site.shutdown_handles.clients);
     if let Some(page) = &site.page {
-        page.grip.cut(rt);
+        page.shutdown_handle.cut(rt);
     }
 }
 
-fn are_empty<R: Wait>(rt: &R, grips: &[Grip]) -> bool {
-    grips.iter().all(|grip| grip.is_empty(rt))
+fn are_empty<R: Wait>(rt: &R, shutdown_handles: &[ShutdownHandle]) -> bool {
+    shutdown_handles
+        .iter()
+        .all(|shutdown_handle| shutdown_handle.is_empty(rt))
 }
 
 // Whether nobody is at the page.
-fn is_unread<B: Naming, H: Hall, R: Wait>(rt: &R, site: &Site<B, H>) -> bool {
+fn is_unread<B: Naming, H: LaneGroup, R: Wait>(rt: &R, site: &Site<B, H>) -> bool {
     match &site.page {
-        Some(page) => page.grip.is_empty(rt),
+        Some(page) => page.shutdown_handle.is_empty(rt),
         None => true,
     }
 }
 
 // Waits until no connection is at hand, or the grace is over.
-fn give_grace<B: Naming, H: Hall, R: Wait>(rt: &R, site: &Site<B, H>) {
+fn give_grace<B: Naming, H: LaneGroup, R: Wait>(rt: &R, site: &Site<B, H>) {
     for _ in 0..GRACE {
-        if are_empty(rt, &site.grips.mail)
-            && are_empty(rt, &site.grips.clients)
+        if are_empty(rt, &site.shutdown_handles.mail)
+            && are_empty(rt, &site.shutdown_handles.clients)
             && is_unread(rt, site)
         {
             return;
@@ -106,29 +108,32 @@ fn give_grace<B: Naming, H: Hall, R: Wait>(rt: &R, site: &Site<B, H>) {
 
 /// Stops the house: it is marked, nothing is accepted any more, no thread hears its peer any more, each that waits for a bell is woken; and what is
 /// at hand some five seconds later is cut.
-pub(crate) fn stop_all<B: Naming, H: Hall, R: Wait>(rt: &R, site: &Site<B, H>) {
+pub(crate) fn stop_all<B: Naming, H: LaneGroup, R: Wait>(rt: &R, site: &Site<B, H>) {
     site.workplace.mark.set();
     shut_listeners(site);
-    hush_all(rt, site);
-    wake_all(&site.workplace.floor.depot.sessions);
+    shut_read_all(rt, site);
+    wake_all(&site.workplace.shared.delivery.sessions);
     site.watch.stop();
     give_grace(rt, site);
     cut_all(rt, site);
 }
 
-// The most that a clerk took in a row, as it is found under its lock.
-fn longest_of<B: Naming, H: Hall, R: Wait>(rt: &R, clerk: &Mutex<Clerk<B, H>>) -> u64 {
-    clerk.lock(rt).longest()
+// The most that a shared consumer took in a row, as it is found under its lock.
+fn longest_of<B: Naming, H: LaneGroup, R: Wait>(
+    rt: &R,
+    shared_consumer: &Mutex<SharedConsumer<B, H>>,
+) -> u64 {
+    shared_consumer.lock(rt).longest()
 }
 
-/// The most that one of these clerks took of its lane in a row.
-pub(crate) fn longest_lane<B: Naming, H: Hall, R: Wait>(
+/// The most that one of these shared consumers took of its lane in a row.
+pub(crate) fn longest_lane<B: Naming, H: LaneGroup, R: Wait>(
     rt: &R,
-    clerks: &[Mutex<Clerk<B, H>>],
+    shared_consumers: &[Mutex<SharedConsumer<B, H>>],
 ) -> u64 {
     let mut longest = 0u64;
-    for clerk in clerks {
-        longest = longest.max(longest_of(rt, clerk));
+    for shared_consumer in shared_consumers {
+        longest = longest.max(longest_of(rt, shared_consumer));
     }
     longest
 }

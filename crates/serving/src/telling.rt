@@ -6,11 +6,11 @@ ghost use Rattle.std.specs.Prelude.{◌≡◌, ◌<◌, IfOk, false, length};
 use crate::gathering::{Gathered, gather};
 use crate::page::Page;
 use crate::site::Site;
-use clerks::Hall;
 use house_history::Naming;
 use line_io::{Sink, Watched};
 use server_report::{Answer, HEAD_ROOM, Reply, hear, tell};
-use serving_workers::{Door, SocketLine};
+use serving_workers::{Acceptor, SocketLine};
+use shared_consumers::LaneGroup;
 use std::alloc::{AllocError, Global};
 use std::net::TcpStream;
 use std::sync::Wait;
@@ -50,19 +50,19 @@ fn wanting(has_body: bool) -> Reply {
 }
 
 // What an answer tells of: what the server is doing, where it is asked for that, and else nothing.
-fn gather_for<'s, B: Naming, H: Hall, R: Wait>(
+fn gather_for<'s, B: Naming, H: LaneGroup, R: Wait>(
     rt: &R,
     site: &'s Site<B, H>,
     answer: Answer,
 ) -> Result<Gathered<'s>, AllocError> {
     match answer {
         Answer::Page | Answer::Metrics => gather(rt, site),
-        _ => Ok(Gathered::nothing(site.workplace.floor.alloc)),
+        _ => Ok(Gathered::nothing(site.workplace.shared.alloc)),
     }
 }
 
 // Answers a request. Where memory is refused that is told in place of it.
-fn reply_with<B: Naming, H: Hall, R: Wait, O: Sink>(
+fn reply_with<B: Naming, H: LaneGroup, R: Wait, O: Sink>(
     rt: &R,
     site: &Site<B, H>,
     reply: Reply,
@@ -70,7 +70,7 @@ fn reply_with<B: Naming, H: Hall, R: Wait, O: Sink>(
 )
     requires { O.failed output.old ≡ false }
 {
-    let alloc = site.workplace.floor.alloc;
+    let alloc = site.workplace.shared.alloc;
     let Ok(gathered) = gather_for(rt, site, reply.answer) else {
         let nothing = Gathered::nothing(alloc);
         let _ = tell(alloc, wanting(reply.has_body), &nothing.snapshot(), output);
@@ -81,9 +81,9 @@ fn reply_with<B: Naming, H: Hall, R: Wait, O: Sink>(
 }
 
 // Hears a peer's request, and answers it.
-fn converse<B: Naming, H: Hall, R: Wait>(rt: &R, site: &Site<B, H>, stream: &TcpStream) {
+fn converse<B: Naming, H: LaneGroup, R: Wait>(rt: &R, site: &Site<B, H>, stream: &TcpStream) {
     let mut output = Watched::new(Timely::new(stream));
-    let Ok(mut room) = room_of(site.workplace.floor.alloc, HEAD_ROOM) else {
+    let Ok(mut room) = room_of(site.workplace.shared.alloc, HEAD_ROOM) else {
         reply_with(rt, site, wanting(true), &mut output);
         return;
     };
@@ -96,26 +96,26 @@ fn converse<B: Naming, H: Hall, R: Wait>(rt: &R, site: &Site<B, H>, stream: &Tcp
 
 // The connection that was accepted is at hand while it is served. Whoever stops the house sets its mark first and then looks for what is at
 // hand, so the mark is looked at behind that.
-fn attend<B: Naming, H: Hall, R: Wait>(
+fn attend<B: Naming, H: LaneGroup, R: Wait>(
     rt: &R,
     site: &Site<B, H>,
     page: &Page,
-    door: &Door<'_>,
+    acceptor: &Acceptor<'_>,
     line: &SocketLine<&Listening>,
     stream: &TcpStream,
 ) {
-    if page.grip.hold(rt, stream) && !door.is_shut() && prepare(stream).is_ok() {
+    if page.shutdown_handle.hold(rt, stream) && !acceptor.is_shut() && prepare(stream).is_ok() {
         converse(rt, site, stream);
         let mut dropped = [0u8; LAST_ROOM];
-        door.part(line, stream, &mut dropped);
+        acceptor.part(line, stream, &mut dropped);
     }
-    page.grip.clear(rt);
+    page.shutdown_handle.clear(rt);
 }
 
 // Tells one peer after another, the first once all threads stand, until the house stops.
-fn tell_each<'s, B: Naming, H: Hall, R: Wait>(rt: &R, site: &'s Site<B, H>, page: &'s Page) {
-    let door = Door {
-        grip: &page.grip,
+fn tell_each<'s, B: Naming, H: LaneGroup, R: Wait>(rt: &R, site: &'s Site<B, H>, page: &'s Page) {
+    let acceptor = Acceptor {
+        shutdown_handle: &page.shutdown_handle,
         mark: &site.workplace.mark,
         pause: &site.workplace.pause,
         log: &site.workplace.log,
@@ -123,12 +123,12 @@ fn tell_each<'s, B: Naming, H: Hall, R: Wait>(rt: &R, site: &'s Site<B, H>, page
         presence: None,
     };
     let mut line = SocketLine::new(&page.listening, Patience::Limited);
-    door.mark.await_start(rt);
+    acceptor.mark.await_start(rt);
     for _ in rt.forever() {
-        let Some(call) = door.next(rt, &mut line) else {
+        let Some(call) = acceptor.next(rt, &mut line) else {
             return;
         };
-        attend(rt, site, page, &door, &line, &call.input);
+        attend(rt, site, page, &acceptor, &line, &call.input);
     }
     unreachable!()
 }
@@ -139,7 +139,7 @@ pub(crate) fn start_telling<
     's,
     E,
     B: Naming + Send + Sync,
-    H: Hall + Send,
+    H: LaneGroup + Send,
     R: Threads + Wait + Sync,
 >(scope: &thread::Scope<'s, E>, rt: &'s R, site: &'s Site<B, H>) -> bool {
     let Some(page) = &site.page else {

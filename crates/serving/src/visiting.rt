@@ -13,7 +13,7 @@ use std::io::Read;
 use std::net::TcpStream;
 use std::sync::atomic::{AtomicBool, Ordering};
 use std::sync::{Arc, Wait};
-use workers_sync::Sleeper;
+use workers_sync::SessionParker;
 
 /// What is said last to a client that missed too many changes (RFC 9051, 7.1.5).
 const LAPSED: &[u8] = b"* BYE Too many changes were missed\r\n";
@@ -45,19 +45,19 @@ fn ends_line(begun: Begun, said: &[u8]) -> bool {
     }
 }
 
-/// What a berth shows of its client's session.
+/// What a client slot shows of its client's session.
 #[derive(Drop)]
 pub(crate) struct Sign {
-    // Whether it idles: the mark of the berth's bell.
+    // Whether it idles: the mark of the client slot's bell.
     idles: Arc<AtomicBool>,
     // Whether it was told that it has missed too many changes.
     has_lapsed: AtomicBool,
-    // Which client the berth has at hand.
+    // Which client the client slot has at hand.
     presence: Presence,
 }
 
 impl Sign {
-    /// Which client the berth has at hand.
+    /// Which client the client slot has at hand.
     pub(crate) fn presence(&self) -> &Presence {
         &self.presence
     }
@@ -73,8 +73,8 @@ impl Sign {
     }
 }
 
-// The sign of a berth that has this bell.
-fn sign_of(bell: &Sleeper) -> Result<Sign, AllocError> {
+// The sign of a client slot that has this bell.
+fn sign_of(bell: &SessionParker) -> Result<Sign, AllocError> {
     Ok(Sign {
         idles: bell.idling()?,
         has_lapsed: AtomicBool::new(false),
@@ -82,8 +82,8 @@ fn sign_of(bell: &Sleeper) -> Result<Sign, AllocError> {
     })
 }
 
-/// A sign for each berth, which have these bells. An error where memory is refused.
-pub(crate) fn signs_of(alloc: Global, bells: &[Sleeper]) -> Result<Vec<Sign>, AllocError> {
+/// A sign for each client slot, which have these bells. An error where memory is refused.
+pub(crate) fn signs_of(alloc: Global, bells: &[SessionParker]) -> Result<Vec<Sign>, AllocError> {
     let mut signs = Vec::with_capacity(alloc, bells.len())?;
     for bell in bells {
         signs.push(sign_of(bell)?)?;
@@ -143,7 +143,7 @@ pub(crate) struct Visitor<'s> {
     pub(crate) log: &'s Log,
     pub(crate) alloc: Global,
     pub(crate) caller: Caller<'s>,
-    /// The sign of its berth.
+    /// The sign of its client slot.
     pub(crate) sign: Option<&'s Sign>,
 }
 
@@ -153,7 +153,7 @@ impl<'s> Visitor<'s> {
         self.log.tell(rt, self.alloc, self.caller, what);
     }
 
-    /// It comes: no session of its berth has lapsed yet.
+    /// It comes: no session of its client slot has lapsed yet.
     pub(crate) fn open<R: Wait>(self, rt: &R) {
         if let Some(sign) = self.sign {
             sign.has_lapsed.store(false, Ordering::SeqCst);
@@ -185,9 +185,9 @@ pub(crate) struct Incoming<'s, 't, R: Wait> {
     stream: &'t TcpStream,
     visitor: Visitor<'s>,
     watch: &'s Watch,
-    // The berth's number, its end of its bell, and how many waits it has had.
-    berth: u8,
-    bell: &'t Sleeper,
+    // The client slot's number, its end of its bell, and how many waits it has had.
+    client_slot: u8,
+    bell: &'t SessionParker,
     waits: &'t mut u64,
     // Whether the watch looks at what comes since the last read.
     is_looked_at: bool,
@@ -201,8 +201,8 @@ impl<'s, 't, R: Wait> Incoming<'s, 't, R> {
         stream: &'t TcpStream,
         visitor: Visitor<'s>,
         watch: &'s Watch,
-        berth: u8,
-        bell: &'t Sleeper,
+        client_slot: u8,
+        bell: &'t SessionParker,
         waits: &'t mut u64,
     ) -> Incoming<'s, 't, R> {
         Incoming {
@@ -210,7 +210,7 @@ impl<'s, 't, R: Wait> Incoming<'s, 't, R> {
             stream,
             visitor,
             watch,
-            berth,
+            client_slot,
             bell,
             waits,
             is_looked_at: false,
@@ -249,13 +249,17 @@ impl<'s, 't, R: Wait> Wakes for Incoming<'s, 't, R> {
         if !self.is_looked_at {
             *self.waits = self.waits.wrapping_add(1);
             let wait = *self.waits;
-            if self.watch.look_at(self.berth, wait, self.stream).is_err() {
+            if self
+                .watch
+                .look_at(self.client_slot, wait, self.stream)
+                .is_err()
+            {
                 return Woken::Peer;
             }
             self.is_looked_at = true;
         }
         self.bell.sleep(self.rt);
-        if !self.watch.has_ended(self.berth, *self.waits) {
+        if !self.watch.has_ended(self.client_slot, *self.waits) {
             return Woken::Bell;
         }
         self.watch.let_go(self.stream);

@@ -28,8 +28,8 @@ use Rattle.lane_work.specs.declared.worker.Fate.TheVariants.{Whole, NotBegun, No
 use Rattle.lane_work.specs.declared.worker.Worked.{Worked}
 use Rattle.lane_work.specs.LanePermits.{AreEndedHands}
 use Rattle.lane_work.specs.ChannelPermits.{AreReceivers}
-use Rattle.house_floor.specs.Crew.{AllAt}
-use Rattle.house_floor.specs.declared.floor.Floor.{Floor}
+use Rattle.house_shared.specs.Crew.{AllAt}
+use Rattle.house_shared.specs.declared.shared.HouseShared.{HouseShared}
 use Rattle.reckoning.proofs.Laying.{laid_items}
 use Rattle.reckoning.proofs.Parts.{from_here, past_all, some_at}
 use Rattle.reckoning.proofs.Histories.{IsBackedAt}
@@ -115,26 +115,26 @@ both true b e = (refl, e)
 both false b e = cc
 
 -- each heard nothing but ends, so the history has what it put and heard
-pub backed_each : {B : Type 0} (floor : Floor B) (n : ℕ) (ws : List (Worked B)) → AllAt (HasHeard floor) n ws → list_all (λ w. is_whole w.fate) ws ≡ true → AllAt IsBackedAt n ws
-backed_each floor n [] all whole = tt
-backed_each floor n (w ∷ ws) all whole =
+pub backed_each : {B : Type 0} (shared : HouseShared B) (n : ℕ) (ws : List (Worked B)) → AllAt (HasHeard shared) n ws → list_all (λ w. is_whole w.fate) ws ≡ true → AllAt IsBackedAt n ws
+backed_each shared n [] all whole = tt
+backed_each shared n (w ∷ ws) all whole =
     let b = both (is_whole w.fate) (list_all (λ v. is_whole v.fate) ws) whole in
-    (all.0.backed b.0, backed_each floor (suc n) ws all.1 b.1)
+    (all.0.backed b.0, backed_each shared (suc n) ws all.1 b.1)
 
-module _ {B : Type 0} (floor : Floor B) where
-  pub ended_of : (n : ℕ) (ws : List (Worked B)) → AllAt (HasHeard floor) n ws → AreEndedHands floor.office.lanes.items n (map (λ w. w.ended.items) ws)
+module _ {B : Type 0} (shared : HouseShared B) where
+  pub ended_of : (n : ℕ) (ws : List (Worked B)) → AllAt (HasHeard shared) n ws → AreEndedHands shared.intake.lanes.items n (map (λ w. w.ended.items) ws)
   ended_of n [] all = tt
   ended_of n (w ∷ ws) all = (all.0.ended, ended_of (suc n) ws all.1)
 
-  pub receivers_of : (n : ℕ) (ws : List (Worked B)) → AllAt (HasHeard floor) n ws → n + length ws ≡ length floor.depot.channels.items → AreReceivers (drop n floor.depot.channels.items) (map (λ w. w.receiver) ws)
-  receivers_of n [] all count = subst (λ cs. AreReceivers cs []) (sym (past_all floor.depot.channels.items n (omega (arith, count)))) tt
+  pub receivers_of : (n : ℕ) (ws : List (Worked B)) → AllAt (HasHeard shared) n ws → n + length ws ≡ length shared.delivery.channels.items → AreReceivers (drop n shared.delivery.channels.items) (map (λ w. w.receiver) ws)
+  receivers_of n [] all count = subst (λ cs. AreReceivers cs []) (sym (past_all shared.delivery.channels.items n (omega (arith, count)))) tt
   receivers_of n (w ∷ ws) all count =
-      let channel = some_at floor.depot.channels.items n (omega (arith, count)) in
-      subst (λ cs. AreReceivers cs (w.receiver ∷ map (λ v. v.receiver) ws)) (sym (from_here floor.depot.channels.items n channel.0 channel.1))
+      let channel = some_at shared.delivery.channels.items n (omega (arith, count)) in
+      subst (λ cs. AreReceivers cs (w.receiver ∷ map (λ v. v.receiver) ws)) (sym (from_here shared.delivery.channels.items n channel.0 channel.1))
       (all.0.receiver channel.0 channel.1, receivers_of (suc n) ws all.1 (omega (arith, count)))
 
-  pub lengths_of : (n : ℕ) (ws : List (Worked B)) → AllAt (HasHeard floor) n ws → All (λ (w : Worked B). vec_len w.ended ≡ length floor.office.lanes.items) ws
-  lengths_of n [] all = All-nil (λ (w : Worked B). vec_len w.ended ≡ length floor.office.lanes.items)
+  pub lengths_of : (n : ℕ) (ws : List (Worked B)) → AllAt (HasHeard shared) n ws → All (λ (w : Worked B). vec_len w.ended ≡ length shared.intake.lanes.items) ws
+  lengths_of n [] all = All-nil (λ (w : Worked B). vec_len w.ended ≡ length shared.intake.lanes.items)
   lengths_of n (w ∷ ws) all =
-      let count = ended_length floor.office.lanes.items n w.ended.items all.0.ended in
-      All-cons (λ (v : Worked B). vec_len v.ended ≡ length floor.office.lanes.items) w ws (omega (arith, count, w.ended.ok.0)) (lengths_of (suc n) ws all.1)
+      let count = ended_length shared.intake.lanes.items n w.ended.items all.0.ended in
+      All-cons (λ (v : Worked B). vec_len v.ended ≡ length shared.intake.lanes.items) w ws (omega (arith, count, w.ended.ok.0)) (lengths_of (suc n) ws all.1)

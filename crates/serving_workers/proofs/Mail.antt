@@ -17,7 +17,7 @@ use Rattle.lane_work.specs.declared.outcome.Ending.{Ending}
 use Rattle.lane_work.specs.declared.outcome.TalkFault.{TalkFault}
 use Rattle.lane_work.specs.declared.outcome.TalkFault.TheVariants.{Torn}
 use Rattle.lane_work.specs.declared.desk.LanePermit.{LanePermit}
-use Rattle.lane_work.specs.declared.desk.Office.{Office}
+use Rattle.lane_work.specs.declared.desk.Intake.{Intake}
 use Rattle.lane_work.proofs.ServedLaws.{books_begin}
 use Rattle.serving_workers.specs.Leaving.{AreServed, AreWritten, HasServedMail, all_written, cut_short, never_greeted, next, none, passed, with_last_words}
 use Rattle.serving_workers.specs.Lines.{Closed, IsFresh, IsUnwritten, Spoken, Told, Took}
@@ -65,10 +65,10 @@ module _ {house : Premises} {seat n : ℕ} (before since after : Told) (stream o
       }
 
 -- before the first
-pub mail_begins : {B : Type 0} (office : Office B) (seat : ℕ) (line : Told) (receiver : ReceiverPermit Noted) (permits : List (LanePermit Job)) → All IsNew permits → IsFresh line
-    → AreServed (premises_of office) seat line 0 (received receiver) (map put_by permits)
-mail_begins office seat line receiver permits fresh none_came =
-    let begun = books_begin office.directory (rooms_of office.lanes.items) seat [] (received receiver) permits refl fresh in
+pub mail_begins : {B : Type 0} (intake : Intake B) (seat : ℕ) (line : Told) (receiver : ReceiverPermit Noted) (permits : List (LanePermit Job)) → All IsNew permits → IsFresh line
+    → AreServed (premises_of intake) seat line 0 (received receiver) (map put_by permits)
+mail_begins intake seat line receiver permits fresh none_came =
+    let begun = books_begin intake.directory (rooms_of intake.lanes.items) seat [] (received receiver) permits refl fresh in
     record { judged = []; spoken = []; over = none_over line none_came.came none_came.said; conversed = none; books = record { noted = tt; lanes = begun.lanes } }
 
 -- and where its permits have ended

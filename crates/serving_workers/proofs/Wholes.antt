@@ -11,14 +11,14 @@ use Rattle.shard_queue.specs.declared.queue.ShardQueue.{ShardQueue}
 use Rattle.lane_work.specs.declared.consumer.Consumed.{Consumed}
 use Rattle.lane_work.specs.declared.worker.Worked.{Worked}
 use Rattle.lane_work.specs.ChannelPermits.{AreReceivers}
-use Rattle.clerks.specs.declared.staff.Dismissed.{Dismissed}
-use Rattle.house_floor.specs.declared.floor.Floor.{Floor}
+use Rattle.shared_consumers.specs.declared.consumer_set.Dismissed.{Dismissed}
+use Rattle.house_shared.specs.declared.shared.HouseShared.{HouseShared}
 use Rattle.lane_work.proofs.ChannelCloseLaws.{histories_taken}
 use Rattle.reckoning.specs.Closing.{AreChannelsClosedWith, AreClosedWith}
 use Rattle.house_history.specs.declared.event.Event.{Event}
 use Rattle.house_history.specs.Legal.{Legal}
 use Rattle.locked_mailbox.specs.Locking.{LockedMailbox}
-use Rattle.house_floor.specs.Crew.{AllAt}
+use Rattle.house_shared.specs.Crew.{AllAt}
 use Rattle.shard_queue.specs.Reply.{reply_history}
 use Rattle.shard_queue.specs.declared.queue.Ended.{Ended}
 use Rattle.reckoning.specs.Histories.{AreBacked}
@@ -41,18 +41,18 @@ pub both_of : {A : Type 0} {P Q R : A → Type 0} (o : Option A) → IfSome o P 
 both_of None p q r S all = tt
 both_of (Some x) p q r S all = all x p q r
 
-pub whole_of : {B L : Type 0} (told : L → Told) (floor : Floor B) (served : List (Served B L)) (d : Dismissed B) (ws : List (Worked B)) (lanes : Vec (ShardQueue Job) Global)
+pub whole_of : {B L : Type 0} (told : L → Told) (shared : HouseShared B) (served : List (Served B L)) (d : Dismissed B) (ws : List (Worked B)) (lanes : Vec (ShardQueue Job) Global)
     (channels : Vec (ReplyChannel Noted) Global) (lines : List (Option L)) (unlocked mailboxes : Vec LockedMailbox Global) (finished : Finished)
     → d.in_order ≡ true → list_any (λ s. s.torn) served ≡ false → list_any (λ c. c.torn) d.consumed.items ≡ false
-    → lanes ≡ floor.office.lanes → channels ≡ floor.depot.channels → map (λ w. w.ended.items) ws ≡ map (λ s. s.ended.items) served
+    → lanes ≡ shared.intake.lanes → channels ≡ shared.delivery.channels → map (λ w. w.ended.items) ws ≡ map (λ s. s.ended.items) served
     → GoOn (map (λ s. received s.receiver) served) (map (λ w. received w.receiver) ws)
     → AreClosedWith lanes.items (map (λ w. w.ended.items) ws) (map (λ c. c.permit) d.consumed.items) finished.lanes.items
     → AreChannelsClosedWith channels.items (map (λ c. c.senders.items) d.consumed.items) (map (λ w. w.receiver) ws) finished.channels.items
-    → AreReceivers floor.depot.channels.items (map (λ w. w.receiver) ws) → (front : List Event) → Legal front
+    → AreReceivers shared.delivery.channels.items (map (λ w. w.receiver) ws) → (front : List Event) → Legal front
     → AreBacked front 0 (map (λ w. w.ended.items) ws) (map (λ w. received w.receiver) ws)
-    → AllAt (IsRecorded front) 0 unlocked.items → mailboxes.items ≡ unlocked.items → vec_len mailboxes ≡ length floor.depot.mailboxes.items → lines ≡ map (λ s. s.line) served
-    → (finished.mailboxes ≡ mailboxes) × (finished.front ≡ front) × (finished.lines ≡ map (told_of told) lines) → WasClosed told floor served d finished
-whole_of told floor served d ws lanes channels lines unlocked mailboxes finished order producers clerks of_lanes of_channels ended grew closed shut own front legal backed recorded same count lined rest =
+    → AllAt (IsRecorded front) 0 unlocked.items → mailboxes.items ≡ unlocked.items → vec_len mailboxes ≡ length shared.delivery.mailboxes.items → lines ≡ map (λ s. s.line) served
+    → (finished.mailboxes ≡ mailboxes) × (finished.front ≡ front) × (finished.lines ≡ map (told_of told) lines) → WasClosed told shared served d finished
+whole_of told shared served d ws lanes channels lines unlocked mailboxes finished order producers shared_consumers of_lanes of_channels ended grew closed shut own front legal backed recorded same count lined rest =
     let permits = map (λ (c : Consumed _). c.permit) d.consumed.items in
     let senders = map (λ (c : Consumed _). c.senders.items) d.consumed.items in
     let receivers = map (λ (w : Worked _). w.receiver) ws in
@@ -60,8 +60,8 @@ whole_of told floor served d ws lanes channels lines unlocked mailboxes finished
     record {
       in_order = order;
       producers = producers;
-      clerks = clerks;
-      lanes = subst (λ hs. AreClosedWith floor.office.lanes.items hs permits finished.lanes.items) ended
+      shared_consumers = shared_consumers;
+      lanes = subst (λ hs. AreClosedWith shared.intake.lanes.items hs permits finished.lanes.items) ended
           (subst (λ (v : Vec (ShardQueue Job) Global). AreClosedWith v.items (map (λ (w : Worked _). w.ended.items) ws) permits finished.lanes.items) of_lanes closed);
       channels = (receivers, own, subst (λ (v : Vec (ReplyChannel Noted) Global). AreChannelsClosedWith v.items senders receivers finished.channels.items) of_channels shut);
       heard = subst (GoOn (map (λ (s : Served _ _). received s.receiver) served)) (sym (histories_taken shut.2 ∙ got_twice ws)) grew;

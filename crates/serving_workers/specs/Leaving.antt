@@ -20,12 +20,12 @@ use Rattle.lane_work.specs.Permits.{AreEnded}
 use Rattle.lane_work.specs.Speaking.{premises_of}
 use Rattle.lane_work.specs.Streaming.{last_words}
 use Rattle.lane_work.specs.Talk.{HasTaken, Judged}
-use Rattle.house_floor.specs.declared.floor.Floor.{Floor}
+use Rattle.house_shared.specs.declared.shared.HouseShared.{HouseShared}
 use Rattle.serving_workers.specs.Lines.{IsFresh, Spoken, Told, WereOver}
 use Rattle.serving_workers.specs.declared.accepting.Outfit.{Outfit}
 use Rattle.serving_workers.specs.declared.accepting.Served.{Served}
-use Rattle.serving_workers.specs.declared.threads.Hired.{Hired}
-use Rattle.serving_workers.specs.declared.threads.Hired.TheVariants.{There, Here}
+use Rattle.serving_workers.specs.declared.threads.Spawned.{Spawned}
+use Rattle.serving_workers.specs.declared.threads.Spawned.TheVariants.{There, Here}
 
 -- ---- mail
 
@@ -67,10 +67,10 @@ module _ (house : Premises) (seat : ℕ) (line : Told) where
     pub served : AreServed house seat line connections heard sent
     pub ended : HaveEnded seat sent words
 
--- ---- clients of a berth
+-- ---- clients of a client slot
 
--- So many clients of the berth with this seat, one after another, each with the next serial from 0 on: of each these messages were carried, in their
--- order, or none. These are the copies of all, with the verdicts on them.
+-- So many clients of the client slot with this seat, one after another, each with the next serial from 0 on: of each these messages were carried, in
+-- their order, or none. These are the copies of all, with the verdicts on them.
 pub data HaveAppended (seat : ℕ) : (clients : ℕ) → List (Job × Verdict) → Type 0 where
   nobody : HaveAppended seat 0 []
   another : {n : ℕ} {copies : List (Job × Verdict)} (carried : List Carried) → HaveAppended seat n copies
@@ -83,7 +83,7 @@ module _ (house : Premises) (seat clients : ℕ) where
       (copies : List (Job × Verdict)) × HaveAppended seat clients copies
       × AreBooksOf house.directory house.rooms seat copies (λ told. Unit {0}) heard sent
 
--- Of a berth that wasn't torn: what it said on each lane is what its clients appended, and then its end.
+-- Of a client slot that wasn't torn: what it said on each lane is what its clients appended, and then its end.
 pub record HasServedClients (house : Premises) (seat : ℕ) (heard : List (Entry Noted)) (words : List (List (Entry Job))) : Type 0 where
   pub clients : ℕ
   pub sent : List (List (Entry Job))
@@ -95,12 +95,12 @@ pub record HasServedClients (house : Premises) (seat : ℕ) (heard : List (Entry
 -- What producer n leaves: its ended permits on all lanes, and its end of its own channel. A worker's words are its connections' own, which came in at
 -- its line, and those of another its clients'. The history that the house shares has what it put and heard, and nothing else of its seat, however it
 -- came to its end. `told`: what a line tells
-pub record IsServed {B L : Type 0} (told : L → Told) (floor : Floor B) (n : ℕ) (s : Served B L) : Type 0 where
-  pub ended : AreEnded floor.office.lanes.items n s.ended.items
-  pub receiver : (channel : ReplyChannel Noted) → slice_get floor.depot.channels.items n ≡ Some channel → IsReceiver channel s.receiver
+pub record IsServed {B L : Type 0} (told : L → Told) (shared : HouseShared B) (n : ℕ) (s : Served B L) : Type 0 where
+  pub ended : AreEnded shared.intake.lanes.items n s.ended.items
+  pub receiver : (channel : ReplyChannel Noted) → slice_get shared.delivery.channels.items n ≡ Some channel → IsReceiver channel s.receiver
   pub mail : s.mail ≡ true → s.torn ≡ false
-      → (line : L) × (s.line ≡ Some line) × HasServedMail (premises_of floor.office) n (told line) (received s.receiver) (map said s.ended.items)
-  pub clients : s.mail ≡ false → s.torn ≡ false → HasServedClients (premises_of floor.office) n (received s.receiver) (map said s.ended.items)
+      → (line : L) × (s.line ≡ Some line) × HasServedMail (premises_of shared.intake) n (told line) (received s.receiver) (map said s.ended.items)
+  pub clients : s.mail ≡ false → s.torn ≡ false → HasServedClients (premises_of shared.intake) n (received s.receiver) (map said s.ended.items)
   pub backed : IsBackedBy n s.dispatch (received s.receiver) (map said s.ended.items)
 
 -- it has room to read into, and nobody came in at its line yet
@@ -109,15 +109,15 @@ pub record IsOutfit {L : Type 0} (told : L → Told) (o : Outfit L) : Type 0 whe
   pub fresh : IsFresh (told o.line)
 
 -- its thread will leave that, or it is there
-abbrev pub IsHired : {B L I O : Type 0} → (L → Told) → Floor B → ℕ → Hired B L I O → Type 0
-IsHired told floor n (There h) = (h.promise.floor.now ≡ floor) × (h.promise.number ≡ n)
-IsHired told floor n (Here s) = IsServed told floor n (manually_drop_value s)
+abbrev pub IsSpawned : {B L I O : Type 0} → (L → Told) → HouseShared B → ℕ → Spawned B L I O → Type 0
+IsSpawned told shared n (There h) = (h.promise.shared.now ≡ shared) × (h.promise.number ≡ n)
+IsSpawned told shared n (Here s) = IsServed told shared n (manually_drop_value s)
 
 -- it is a worker, or was one
-abbrev pub serves_mail : {B L I O : Type 0} → Hired B L I O → Bool
+abbrev pub serves_mail : {B L I O : Type 0} → Spawned B L I O → Bool
 serves_mail (There h) = h.promise.mail
 serves_mail (Here s) = (manually_drop_value s).mail
 
-abbrev pub has_thread : {B L I O : Type 0} → Hired B L I O → Bool
+abbrev pub has_thread : {B L I O : Type 0} → Spawned B L I O → Bool
 has_thread (There h) = true
 has_thread (Here s) = false

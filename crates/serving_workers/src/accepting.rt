@@ -10,18 +10,18 @@ ghost use Rattle.lane_work.specs.Speaking.{premises_of};
 ghost use Rattle.serving_workers.specs.Leaving.{AreServed, HasServedMail};
 ghost use Rattle.serving_workers.specs.Lines.{Closed, IsFresh, IsUnwritten, Told, Took};
 
-use crate::door::Door;
+use crate::acceptor::Acceptor;
 use crate::line::{Call, Line};
 use house_history::{Answer, Letter, Naming};
 use lane_work::{
-    Buffers, Context, Desk, Dispatch, Ending, Producer, Summons, TalkFault, converse, end_all,
+    Buffers, Context, Desk, Dispatch, Ending, Notifier, Producer, TalkFault, converse, end_all,
 };
 use line_io::Sink;
 use server_report::{Happened, LogBook};
 use shard_queue::{Ended, ReceiverPermit};
 use std::io::Read;
 use std::sync::Wait;
-use workers_sync::{Gate, Pace};
+use workers_sync::{Gate, SyncPoint};
 
 /// What a producer of a server leaves: a worker, or whoever else has a post.
 pub struct Served<B: Naming, L> {
@@ -70,25 +70,25 @@ fn how_it_ended(ending: Result<Ending, TalkFault>) -> Happened {
 }
 
 // One connection, from its greeting to its end, and whether a verdict came that the worker didn't await.
-fn serve_one<B: Naming, R: Wait, G: Gate, S: Summons, I: Read, O: Sink>(
+fn serve_one<B: Naming, R: Wait, G: Gate, S: Notifier, I: Read, O: Sink>(
     context: &Context<'_, B, R, S>,
     producer: &mut Producer<'_, B, G, LogBook<'_, R>>,
     serial: u64,
-    door: &Door<'_>,
+    acceptor: &Acceptor<'_>,
     call: &mut Call<I, O>,
     buffers: &mut Buffers,
 ) -> bool
-    requires permits { AreInForce context.now.office.now.directory
-        context.now.office.now.lanes.items producer.old.desk.number
+    requires permits { AreInForce context.now.intake.now.directory
+        context.now.intake.now.lanes.items producer.old.desk.number
         producer.old.desk.permits.items }
     requires receiver { IsReceiver context.now.channel.now producer.old.desk.receiver }
-    requires lanes { context.now.office.now.directory.shards
-        ≡ length context.now.office.now.lanes.items }
-    requires host { length context.now.office.now.host.items < 256 }
+    requires lanes { context.now.intake.now.directory.shards
+        ≡ length context.now.intake.now.lanes.items }
+    requires host { length context.now.intake.now.host.items < 256 }
     requires room { 0 < length buffers.old.input.items }
     requires live { O.failed call.old.output ≡ false }
-    ensures permits { AreInForce context.now.office.now.directory
-        context.now.office.now.lanes.items producer.old.desk.number
+    ensures permits { AreInForce context.now.intake.now.directory
+        context.now.intake.now.lanes.items producer.old.desk.number
         producer.new.desk.permits.items }
     ensures receiver { IsReceiver context.now.channel.now producer.new.desk.receiver }
     ensures number { producer.new.desk.number ≡ producer.old.desk.number }
@@ -99,9 +99,9 @@ fn serve_one<B: Naming, R: Wait, G: Gate, S: Summons, I: Read, O: Sink>(
         → Took before since (I.remaining call.old.input)
         → IsUnwritten since (O.taken call.old.output)
         → Closed since after (O.taken call.new.output) (O.failed call.new.output)
-        → AreServed (premises_of context.now.office.now) producer.old.desk.number before serial
+        → AreServed (premises_of context.now.intake.now) producer.old.desk.number before serial
         (received producer.old.desk.receiver) (map put_by producer.old.desk.permits.items)
-        → AreServed (premises_of context.now.office.now) producer.old.desk.number after (serial
+        → AreServed (premises_of context.now.intake.now) producer.old.desk.number after (serial
         + 1) (received producer.new.desk.receiver) (map put_by producer.new.desk.permits.items) }
     ensures backed { KeepsBacked producer.old.desk producer.new.desk }
 {
@@ -115,7 +115,7 @@ fn serve_one<B: Naming, R: Wait, G: Gate, S: Summons, I: Read, O: Sink>(
         serial,
         &mut call.input,
         &mut call.output,
-        &door.mark.stop,
+        &acceptor.mark.stop,
         buffers,
     );
     let how = how_it_ended(ending);
@@ -125,26 +125,26 @@ fn serve_one<B: Naming, R: Wait, G: Gate, S: Summons, I: Read, O: Sink>(
 
 // The connection that was accepted is at hand while it is served. Whoever stops the house sets its mark first and then looks for what is
 // at hand, so a thread has to look at the mark behind that.
-fn attend<B: Naming, R: Wait, G: Gate, S: Summons, L: Line>(
+fn attend<B: Naming, R: Wait, G: Gate, S: Notifier, L: Line>(
     context: &Context<'_, B, R, S>,
     producer: &mut Producer<'_, B, G, LogBook<'_, R>>,
     serial: u64,
-    door: &Door<'_>,
+    acceptor: &Acceptor<'_>,
     line: &L,
     call: &mut Call<L::Input, L::Output>,
     buffers: &mut Buffers,
 ) -> bool
-    requires permits { AreInForce context.now.office.now.directory
-        context.now.office.now.lanes.items producer.old.desk.number
+    requires permits { AreInForce context.now.intake.now.directory
+        context.now.intake.now.lanes.items producer.old.desk.number
         producer.old.desk.permits.items }
     requires receiver { IsReceiver context.now.channel.now producer.old.desk.receiver }
-    requires lanes { context.now.office.now.directory.shards
-        ≡ length context.now.office.now.lanes.items }
-    requires host { length context.now.office.now.host.items < 256 }
+    requires lanes { context.now.intake.now.directory.shards
+        ≡ length context.now.intake.now.lanes.items }
+    requires host { length context.now.intake.now.host.items < 256 }
     requires room { 0 < length buffers.old.input.items }
     requires live { L.Output.failed call.old.output ≡ false }
-    ensures permits { AreInForce context.now.office.now.directory
-        context.now.office.now.lanes.items producer.old.desk.number
+    ensures permits { AreInForce context.now.intake.now.directory
+        context.now.intake.now.lanes.items producer.old.desk.number
         producer.new.desk.permits.items }
     ensures receiver { IsReceiver context.now.channel.now producer.new.desk.receiver }
     ensures number { producer.new.desk.number ≡ producer.old.desk.number }
@@ -154,46 +154,46 @@ fn attend<B: Naming, R: Wait, G: Gate, S: Summons, L: Line>(
         → IsUnwritten since (L.Output.taken call.old.output)
         → Closed since after (L.Output.taken call.new.output)
         (L.Output.failed call.new.output)
-        → AreServed (premises_of context.now.office.now) producer.old.desk.number before serial
+        → AreServed (premises_of context.now.intake.now) producer.old.desk.number before serial
         (received producer.old.desk.receiver) (map put_by producer.old.desk.permits.items)
-        → AreServed (premises_of context.now.office.now) producer.old.desk.number after (serial
+        → AreServed (premises_of context.now.intake.now) producer.old.desk.number after (serial
         + 1) (received producer.new.desk.receiver) (map put_by producer.new.desk.permits.items) }
     ensures backed { KeepsBacked producer.old.desk producer.new.desk }
 {
-    if !line.hold(context.rt, door.grip, &call.input) {
+    if !line.hold(context.rt, acceptor.shutdown_handle, &call.input) {
         return false;
     }
-    if door.is_shut() {
-        door.grip.clear(context.rt);
+    if acceptor.is_shut() {
+        acceptor.shutdown_handle.clear(context.rt);
         return false;
     }
-    door.show(serial);
-    let torn = serve_one(context, producer, serial, door, call, buffers);
-    door.part(line, &call.input, buffers.input.as_mut_slice());
-    door.hide();
-    door.grip.clear(context.rt);
+    acceptor.show(serial);
+    let torn = serve_one(context, producer, serial, acceptor, call, buffers);
+    acceptor.part(line, &call.input, buffers.input.as_mut_slice());
+    acceptor.hide();
+    acceptor.shutdown_handle.clear(context.rt);
     torn
 }
 
 // The same of the next connection that comes in at the line; and then it is over. None once the house stops.
-fn attend_next<B: Naming, R: Wait, G: Gate, S: Summons, L: Line>(
+fn attend_next<B: Naming, R: Wait, G: Gate, S: Notifier, L: Line>(
     context: &Context<'_, B, R, S>,
     producer: &mut Producer<'_, B, G, LogBook<'_, R>>,
     serial: u64,
-    door: &Door<'_>,
+    acceptor: &Acceptor<'_>,
     line: &mut L,
     buffers: &mut Buffers,
 ) -> Option<bool>
-    requires permits { AreInForce context.now.office.now.directory
-        context.now.office.now.lanes.items producer.old.desk.number
+    requires permits { AreInForce context.now.intake.now.directory
+        context.now.intake.now.lanes.items producer.old.desk.number
         producer.old.desk.permits.items }
     requires receiver { IsReceiver context.now.channel.now producer.old.desk.receiver }
-    requires lanes { context.now.office.now.directory.shards
-        ≡ length context.now.office.now.lanes.items }
-    requires host { length context.now.office.now.host.items < 256 }
+    requires lanes { context.now.intake.now.directory.shards
+        ≡ length context.now.intake.now.lanes.items }
+    requires host { length context.now.intake.now.host.items < 256 }
     requires room { 0 < length buffers.old.input.items }
-    ensures permits { AreInForce context.now.office.now.directory
-        context.now.office.now.lanes.items producer.old.desk.number
+    ensures permits { AreInForce context.now.intake.now.directory
+        context.now.intake.now.lanes.items producer.old.desk.number
         producer.new.desk.permits.items }
     ensures receiver { IsReceiver context.now.channel.now producer.new.desk.receiver }
     ensures number { producer.new.desk.number ≡ producer.old.desk.number }
@@ -201,16 +201,18 @@ fn attend_next<B: Naming, R: Wait, G: Gate, S: Summons, L: Line>(
     ensures none { result ≡ None → (producer.new ≡ producer.old)
         × (L.told line.new ≡ L.told line.old) }
     ensures mail { result ≡ Some false
-        → AreServed (premises_of context.now.office.now) producer.old.desk.number
+        → AreServed (premises_of context.now.intake.now) producer.old.desk.number
         (L.told line.old) serial (received producer.old.desk.receiver)
         (map put_by producer.old.desk.permits.items)
-        → AreServed (premises_of context.now.office.now) producer.old.desk.number
+        → AreServed (premises_of context.now.intake.now) producer.old.desk.number
         (L.told line.new) (serial + 1) (received producer.new.desk.receiver)
         (map put_by producer.new.desk.permits.items) }
     ensures backed { KeepsBacked producer.old.desk producer.new.desk }
 {
-    let mut call = door.next(context.rt, line)?;
-    let torn = attend(context, producer, serial, door, line, &mut call, buffers);
+    let mut call = acceptor.next(context.rt, line)?;
+    let torn = attend(
+        context, producer, serial, acceptor, line, &mut call, buffers,
+    );
     let Call { input: _, output } = call;
     line.close(output);
     Some(torn)
@@ -218,39 +220,39 @@ fn attend_next<B: Naming, R: Wait, G: Gate, S: Summons, L: Line>(
 
 // Serves one connection after another until the house stops, the first once all threads stand, each with the next serial, and answers whether a verdict came that it
 // didn't await: then it serves nobody any more.
-fn serve_all<B: Naming, R: Wait, G: Gate, S: Summons, L: Line>(
+fn serve_all<B: Naming, R: Wait, G: Gate, S: Notifier, L: Line>(
     context: &Context<'_, B, R, S>,
     producer: &mut Producer<'_, B, G, LogBook<'_, R>>,
-    door: &Door<'_>,
+    acceptor: &Acceptor<'_>,
     line: &mut L,
     buffers: &mut Buffers,
 ) -> bool
-    requires permits { AreInForce context.now.office.now.directory
-        context.now.office.now.lanes.items producer.old.desk.number
+    requires permits { AreInForce context.now.intake.now.directory
+        context.now.intake.now.lanes.items producer.old.desk.number
         producer.old.desk.permits.items }
     requires receiver { IsReceiver context.now.channel.now producer.old.desk.receiver }
-    requires lanes { context.now.office.now.directory.shards
-        ≡ length context.now.office.now.lanes.items }
-    requires host { length context.now.office.now.host.items < 256 }
+    requires lanes { context.now.intake.now.directory.shards
+        ≡ length context.now.intake.now.lanes.items }
+    requires host { length context.now.intake.now.host.items < 256 }
     requires room { 0 < length buffers.old.input.items }
-    ensures permits { AreInForce context.now.office.now.directory
-        context.now.office.now.lanes.items producer.old.desk.number
+    ensures permits { AreInForce context.now.intake.now.directory
+        context.now.intake.now.lanes.items producer.old.desk.number
         producer.new.desk.permits.items }
     ensures receiver { IsReceiver context.now.channel.now producer.new.desk.receiver }
     ensures number { producer.new.desk.number ≡ producer.old.desk.number }
     ensures mail { result ≡ false
-        → AreServed (premises_of context.now.office.now) producer.old.desk.number
+        → AreServed (premises_of context.now.intake.now) producer.old.desk.number
         (L.told line.old) 0 (received producer.old.desk.receiver)
         (map put_by producer.old.desk.permits.items)
         → (connections : ℕ)
-        × AreServed (premises_of context.now.office.now) producer.old.desk.number
+        × AreServed (premises_of context.now.intake.now) producer.old.desk.number
         (L.told line.new) connections (received producer.new.desk.receiver)
         (map put_by producer.new.desk.permits.items) }
     ensures backed { KeepsBacked producer.old.desk producer.new.desk }
 {
-    door.mark.await_start(context.rt);
+    acceptor.mark.await_start(context.rt);
     for serial in 0..u64::MAX {
-        let Some(torn) = attend_next(context, producer, serial, door, line, buffers) else {
+        let Some(torn) = attend_next(context, producer, serial, acceptor, line, buffers) else {
             return false;
         };
         if torn {
@@ -262,34 +264,34 @@ fn serve_all<B: Naming, R: Wait, G: Gate, S: Summons, L: Line>(
 
 /// A worker's whole life in a server: once all threads stand, one connection after another until the house stops, each with the worker's
 /// number for its seat and with the next serial from 0 on; then its end on each lane, from shard 0 on. What it leaves has heard no end of
-/// its channel: those come when all workers have ended. What becomes of the copies, and of the connections, is told to the door's log.
+/// its channel: those come when all workers have ended. What becomes of the copies, and of the connections, is told to the acceptor's log.
 ///
 /// `room`, which is empty, has room for what is left of each permit.
-pub(crate) fn serve_until_stopped<B: Naming, R: Wait, G: Gate, S: Summons, L: Line>(
+pub(crate) fn serve_until_stopped<B: Naming, R: Wait, G: Gate, S: Notifier, L: Line>(
     context: &Context<'_, B, R, S>,
-    pace: Pace<'_, G>,
+    sync_point: SyncPoint<'_, G>,
     desk: Desk<B>,
     room: Vec<Ended<Letter<B>>>,
-    door: &Door<'_>,
+    acceptor: &Acceptor<'_>,
     outfit: Outfit<L>,
 ) -> Served<B, L>
-    requires permits { AreInForce context.now.office.now.directory
-        context.now.office.now.lanes.items desk.number
+    requires permits { AreInForce context.now.intake.now.directory
+        context.now.intake.now.lanes.items desk.number
         desk.permits.items }
     requires receiver { IsReceiver context.now.channel.now desk.receiver }
-    requires lanes { context.now.office.now.directory.shards
-        ≡ length context.now.office.now.lanes.items }
-    requires host { length context.now.office.now.host.items < 256 }
-    requires room { (room.items ≡ []) × (length context.now.office.now.lanes.items
+    requires lanes { context.now.intake.now.directory.shards
+        ≡ length context.now.intake.now.lanes.items }
+    requires host { length context.now.intake.now.host.items < 256 }
+    requires room { (room.items ≡ []) × (length context.now.intake.now.lanes.items
         ≤ vec_capacity room) }
     requires input { 0 < length outfit.buffers.input.items }
     requires fresh { IsFresh (L.told outfit.line) }
-    ensures ended { AreEnded context.now.office.now.lanes.items desk.number result.ended.items }
+    ensures ended { AreEnded context.now.intake.now.lanes.items desk.number result.ended.items }
     ensures receiver { IsReceiver context.now.channel.now result.receiver }
     ensures mail { result.mail ≡ true }
     ensures served { All IsNew desk.permits.items → result.torn ≡ false
         → (line : L) × (result.line ≡ Some line)
-        × HasServedMail (premises_of context.now.office.now) desk.number (L.told line) (received
+        × HasServedMail (premises_of context.now.intake.now) desk.number (L.told line) (received
         result.receiver) (map said result.ended.items) }
     ensures backed { All IsNew desk.permits.items → received desk.receiver ≡ []
         → desk.dispatch.sent ≡ []
@@ -301,11 +303,15 @@ pub(crate) fn serve_until_stopped<B: Naming, R: Wait, G: Gate, S: Summons, L: Li
         mut line,
         mut buffers,
     } = outfit;
-    let book = LogBook::new(context.rt, context.alloc, door.log, door.names);
-    let mut producer = Producer { pace, desk, book };
-    let torn = serve_all(context, &mut producer, door, &mut line, &mut buffers);
+    let book = LogBook::new(context.rt, context.alloc, acceptor.log, acceptor.names);
+    let mut producer = Producer {
+        sync_point,
+        desk,
+        book,
+    };
+    let torn = serve_all(context, &mut producer, acceptor, &mut line, &mut buffers);
     let Producer {
-        mut pace,
+        mut sync_point,
         desk,
         book: _,
     } = producer;
@@ -318,9 +324,9 @@ pub(crate) fn serve_until_stopped<B: Naming, R: Wait, G: Gate, S: Summons, L: Li
     } = desk;
     let ended = end_all(
         context.rt,
-        &mut pace,
-        context.office,
-        context.summons,
+        &mut sync_point,
+        context.intake,
+        context.notifier,
         number,
         permits,
         room,

@@ -1,4 +1,4 @@
-//! The house that the producers of a server leave: the shards' ends are heard, and each queue is closed with what all producers and clerks
+//! The house that the producers of a server leave: the shards' ends are heard, and each queue is closed with what all producers and shared consumers
 //! left. No thread runs any more.
 
 ghost use Rattle.std.specs.Prelude.{◌≡◌, ◌<◌, ◌≤◌, [], All, IfSome, Some, false, length, map, true, vec_len, vec_capacity};
@@ -7,8 +7,8 @@ ghost use Rattle.shard_queue.specs.Reply.{received};
 ghost use Rattle.shard_queue.specs.Shared.{IsStartOf};
 ghost use Rattle.lane_work.specs.LanePermits.{AreConsumers};
 ghost use Rattle.lane_work.specs.ChannelPermits.{AreSenderEndedHands};
-ghost use Rattle.house_floor.specs.Crew.{AllAt, IsHouse};
-ghost use Rattle.house_floor.specs.Opening.{AreBaskets};
+ghost use Rattle.house_shared.specs.Crew.{AllAt, IsHouse};
+ghost use Rattle.house_shared.specs.Opening.{AreBaskets};
 ghost use Rattle.serving_workers.specs.Closing.{GoOn, WasClosed};
 ghost use Rattle.serving_workers.specs.Leaving.{IsServed};
 ghost use Rattle.serving_workers.specs.Finished.{told_of};
@@ -16,19 +16,19 @@ ghost use Rattle.serving_workers.specs.inner.Leaving.{HasHeard, is_whole};
 
 use crate::accepting::Served;
 use crate::line::Line;
-use clerks::{Dismissed, Unhindered};
 use delivery_token::WorkerLog;
-use house_floor::{Baskets, Floor, Ran, Started};
 use house_history::{Answer, Front, Letter, Naming};
+use house_shared::{Baskets, HouseShared, Ran, Started};
 use lane_work::{Consumed, Fate, Worked, hear_ends};
 use locked_mailbox::LockedMailbox;
 use reckoning::{
     Closes, Remains, abandon, are_recorded, close_queues, learn_all, remains_of, unlock_into,
 };
 use shard_queue::{Closed, ReplyClosed};
+use shared_consumers::{Dismissed, Unhindered};
 use std::marker::Model;
 use std::sync::Wait;
-use workers_sync::{Actor, Pace};
+use workers_sync::{Actor, SyncPoint};
 
 /// What a house came to in which nothing went amiss.
 #[derive(Drop)]
@@ -71,17 +71,17 @@ struct HeardOut<B: Naming, L> {
     line: Option<L>,
 }
 
-// A producer hears the end of each shard, which each clerk has sent it. Of its replies and verdicts nothing was kept. Its fate says whether
+// A producer hears the end of each shard, which each shared consumer has sent it. Of its replies and verdicts nothing was kept. Its fate says whether
 // it heard these ends alone.
 fn hear_out<B: Naming, R: Wait, L: Line>(
     rt: &R,
-    floor: &Floor<B>,
+    shared: &HouseShared<B>,
     number: u8,
     served: Served<B, L>,
 ) -> HeardOut<B, L>
-    requires there { number < length floor.now.depot.channels.items }
-    requires served { IsServed L.told floor.now number served }
-    ensures heard { HasHeard floor.now number result.worked }
+    requires there { number < length shared.now.delivery.channels.items }
+    requires served { IsServed L.told shared.now number served }
+    ensures heard { HasHeard shared.now number result.worked }
     ensures ended { result.worked.ended ≡ served.ended }
     ensures grew { IsStartOf (received served.receiver) (received result.worked.receiver) }
     ensures line { result.line ≡ served.line }
@@ -96,15 +96,15 @@ fn hear_out<B: Naming, R: Wait, L: Line>(
         line,
     } = served;
     let gate = Unhindered;
-    let mut pace = Pace::new(&gate, Actor::Worker(number));
-    let channel = &floor.depot.channels[usize::from(number)];
-    let shards = floor.office.lanes.len();
-    let quiet = hear_ends(rt, &mut pace, channel, &mut receiver, ends, shards);
+    let mut sync_point = SyncPoint::new(&gate, Actor::Worker(number));
+    let channel = &shared.delivery.channels[usize::from(number)];
+    let shards = shared.intake.lanes.len();
+    let quiet = hear_ends(rt, &mut sync_point, channel, &mut receiver, ends, shards);
     let worked = Worked {
         ended,
         receiver,
-        replies: Vec::new(floor.alloc),
-        log: WorkerLog::new(floor.alloc, number),
+        replies: Vec::new(shared.alloc),
+        log: WorkerLog::new(shared.alloc, number),
         dispatch,
         fate: fate_of(quiet),
     };
@@ -114,17 +114,17 @@ fn hear_out<B: Naming, R: Wait, L: Line>(
 // The same of all producers. `worked` and `lines`, which are empty, have room for all.
 fn hear_all_out<B: Naming, R: Wait, L: Line>(
     rt: &R,
-    floor: &Floor<B>,
+    shared: &HouseShared<B>,
     served: Vec<Served<B, L>>,
     mut worked: Vec<Worked<B>>,
     lines: &mut Vec<Option<L>>,
 ) -> Vec<Worked<B>>
-    requires house { IsHouse floor.now (vec_len served) }
-    requires served { AllAt (IsServed L.told floor.now) 0 served.items }
+    requires house { IsHouse shared.now (vec_len served) }
+    requires served { AllAt (IsServed L.told shared.now) 0 served.items }
     requires room { (worked.items ≡ []) × (vec_len served ≤ vec_capacity worked) }
     requires lines { (lines.old.items ≡ []) × (vec_len served ≤ vec_capacity lines.old) }
     ensures lines { lines.new.items ≡ map (λ s. s.line) served.items }
-    ensures worked { AllAt (HasHeard floor.now) 0 result.items }
+    ensures worked { AllAt (HasHeard shared.now) 0 result.items }
     ensures count { vec_len result ≡ vec_len served }
     ensures ended { map (λ w. w.ended.items) result.items ≡ map (λ s. s.ended.items) served.items }
     ensures grew { GoOn (map (λ s. received s.receiver) served.items) (map (λ w.
@@ -136,7 +136,7 @@ fn hear_all_out<B: Naming, R: Wait, L: Line>(
         let HeardOut {
             worked: heard,
             line,
-        } = hear_out(rt, floor, number as u8, one);
+        } = hear_out(rt, shared, number as u8, one);
         worked.push_reserved(heard);
         lines.push_reserved(line);
     }
@@ -151,8 +151,8 @@ fn is_producer_torn<B: Naming, L: Line>(served: &[Served<B, L>]) -> bool
     served.iter().any(|one| one.torn)
 }
 
-// Whether a clerk met a copy that was nobody's.
-fn is_clerk_torn<B: Naming>(consumed: &[Consumed<B>]) -> bool
+// Whether a shared consumer met a copy that was nobody's.
+fn is_shared_consumer_torn<B: Naming>(consumed: &[Consumed<B>]) -> bool
     ensures { result ≡ list_any (λ c. c.torn) consumed.now }
 {
     consumed.iter().any(|one| one.torn)
@@ -172,24 +172,24 @@ fn are_quiet<B: Naming>(worked: &[Worked<B>]) -> bool
     worked.iter().all(|one| is_quiet(one))
 }
 
-// Spends a house of which a clerk stood at another's position, so that no lane and no channel can be closed.
+// Spends a house of which a shared consumer stood at another's position, so that no lane and no channel can be closed.
 fn spend_house<B: Naming>(
-    floor: Floor<B>,
+    shared: HouseShared<B>,
     worked: Vec<Worked<B>>,
     consumed: Vec<Consumed<B>>,
     baskets: Baskets<B>,
 )
-    requires some { (0 < length floor.depot.channels.items)
-        × (0 < length floor.office.lanes.items) }
-    requires each { (vec_len worked ≡ length floor.depot.channels.items)
-        × (vec_len consumed ≡ length floor.office.lanes.items) }
-    requires ended { All (λ w. vec_len w.ended ≡ length floor.office.lanes.items) worked.items }
+    requires some { (0 < length shared.delivery.channels.items)
+        × (0 < length shared.intake.lanes.items) }
+    requires each { (vec_len worked ≡ length shared.delivery.channels.items)
+        × (vec_len consumed ≡ length shared.intake.lanes.items) }
+    requires ended { All (λ w. vec_len w.ended ≡ length shared.intake.lanes.items) worked.items }
     requires senders { All (λ c. vec_len c.senders
-        ≡ length floor.depot.channels.items) consumed.items }
-    requires baskets { AreBaskets (length floor.depot.channels.items)
-        (length floor.office.lanes.items) baskets }
+        ≡ length shared.delivery.channels.items) consumed.items }
+    requires baskets { AreBaskets (length shared.delivery.channels.items)
+        (length shared.intake.lanes.items) baskets }
 {
-    let alloc = floor.alloc;
+    let alloc = shared.alloc;
     let ran = Ran {
         worked,
         consumed,
@@ -197,7 +197,7 @@ fn spend_house<B: Naming>(
         posts: Vec::new(alloc),
         started: Started::All,
     };
-    abandon(alloc, floor, ran, baskets);
+    abandon(alloc, shared, ran, baskets);
 }
 
 /// Room for what is handed out of a house: for as many as there are of each, and empty.
@@ -211,11 +211,16 @@ pub struct Rest<B: Naming, L> {
 }
 
 // Whether nothing was amiss.
-fn is_well(is_producer_torn: bool, is_clerk_torn: bool, quiet: bool, recorded: bool) -> bool
-    ensures { result ≡ true → (is_producer_torn ≡ false) × (is_clerk_torn ≡ false)
+fn is_well(
+    is_producer_torn: bool,
+    is_shared_consumer_torn: bool,
+    quiet: bool,
+    recorded: bool,
+) -> bool
+    ensures { result ≡ true → (is_producer_torn ≡ false) × (is_shared_consumer_torn ≡ false)
         × (quiet ≡ true) × (recorded ≡ true) }
 {
-    !is_producer_torn && !is_clerk_torn && quiet && recorded
+    !is_producer_torn && !is_shared_consumer_torn && quiet && recorded
 }
 
 // What is handed out, where nothing was amiss and each queue could be closed.
@@ -245,8 +250,8 @@ fn finish<B: Naming, L: Line>(
     })
 }
 
-/// Closes the house that the producers and the clerks have left: each producer hears the end of each shard, and each queue is closed with what
-/// is left of all permits. What was taken of each queue is handed out where all went well: each clerk stood in its place, nobody met what he
+/// Closes the house that the producers and the shared consumers have left: each producer hears the end of each shard, and each queue is closed with what
+/// is left of all permits. What was taken of each queue is handed out where all went well: each shared consumer stood in its place, nobody met what he
 /// didn't await, behind each lock lay the mailbox of that number, and each queue could be closed; and with it the mailboxes, the lines, and how
 /// the house's history begins, which has what each producer put and heard and what happened in each mailbox. Where it didn't, all of the house
 /// is spent all the same.
@@ -254,57 +259,58 @@ fn finish<B: Naming, L: Line>(
 /// `rest` has room for all that is handed out.
 pub fn close_all<B: Naming, R: Wait, L: Line>(
     rt: &R,
-    floor: Floor<B>,
+    shared: HouseShared<B>,
     served: Vec<Served<B, L>>,
     rest: Rest<B, L>,
     dismissed: Dismissed<B>,
     baskets: Baskets<B>,
 ) -> Option<Finished<B, L>>
-    requires house { IsHouse floor (vec_len served) }
-    requires some { (0 < vec_len served) × (0 < length floor.office.lanes.items) }
-    requires served { AllAt (IsServed L.told floor) 0 served.items }
+    requires house { IsHouse shared (vec_len served) }
+    requires some { (0 < vec_len served) × (0 < length shared.intake.lanes.items) }
+    requires served { AllAt (IsServed L.told shared) 0 served.items }
     requires worked { (rest.worked.items ≡ []) × (vec_len served ≤ vec_capacity rest.worked) }
     requires unlocked { (rest.unlocked.items ≡ [])
-        × (vec_len floor.depot.mailboxes ≤ vec_capacity rest.unlocked) }
+        × (vec_len shared.delivery.mailboxes ≤ vec_capacity rest.unlocked) }
     requires lines { (rest.lines.items ≡ []) × (vec_len served ≤ vec_capacity rest.lines) }
-    requires consumed { vec_len dismissed.consumed ≡ length floor.office.lanes.items }
+    requires consumed { vec_len dismissed.consumed ≡ length shared.intake.lanes.items }
     requires permits { dismissed.in_order ≡ true
-        → AreConsumers floor.office.lanes.items (map (λ c. c.permit) dismissed.consumed.items) }
-    requires hands { dismissed.in_order ≡ true → AreSenderEndedHands floor.depot.channels.items 0
+        → AreConsumers shared.intake.lanes.items (map (λ c. c.permit) dismissed.consumed.items) }
+    requires hands { dismissed.in_order ≡ true
+        → AreSenderEndedHands shared.delivery.channels.items 0
         (map (λ c. c.senders.items) dismissed.consumed.items) }
     requires senders { All (λ c. vec_len c.senders
-        ≡ length floor.depot.channels.items) dismissed.consumed.items }
-    requires baskets { AreBaskets (vec_len served) (length floor.office.lanes.items) baskets }
-    ensures { IfSome result (WasClosed L.told floor served.items dismissed) }
+        ≡ length shared.delivery.channels.items) dismissed.consumed.items }
+    requires baskets { AreBaskets (vec_len served) (length shared.intake.lanes.items) baskets }
+    ensures { IfSome result (WasClosed L.told shared served.items dismissed) }
 {
-    let alloc = floor.alloc;
+    let alloc = shared.alloc;
     let is_producer_torn = is_producer_torn(&served);
     let Rest {
         worked,
         unlocked,
         mut lines,
     } = rest;
-    let mut worked = hear_all_out(rt, &floor, served, worked, &mut lines);
+    let mut worked = hear_all_out(rt, &shared, served, worked, &mut lines);
     let Dismissed { consumed, in_order } = dismissed;
     if !in_order {
-        spend_house(floor, worked, consumed, baskets);
+        spend_house(shared, worked, consumed, baskets);
         return None;
     }
-    let is_clerk_torn = is_clerk_torn(&consumed);
+    let is_shared_consumer_torn = is_shared_consumer_torn(&consumed);
     let quiet = are_quiet(&worked);
-    let mut front = floor.depot.front.again();
+    let mut front = shared.delivery.front.again();
     let Remains {
         directory: _,
         lanes,
         channels,
         mailboxes,
-    } = remains_of(floor);
+    } = remains_of(shared);
     let mut mailboxes = unlock_into(mailboxes, unlocked, &mut front);
     learn_all(&mut worked, &mut front);
     let recorded = are_recorded(&mut mailboxes, &front);
     let closings = close_queues(alloc, lanes, channels, worked, consumed, baskets);
     finish(
-        is_well(is_producer_torn, is_clerk_torn, quiet, recorded),
+        is_well(is_producer_torn, is_shared_consumer_torn, quiet, recorded),
         closings.lanes,
         closings.channels,
         mailboxes,

@@ -9,7 +9,7 @@ use std::io;
 use std::io::Read;
 use std::net::TcpStream;
 use std::sync::{Arc, Wait};
-use workers_sync::{Grip, Listening, Patience, Timely, farewell, prepare};
+use workers_sync::{Listening, Patience, ShutdownHandle, Timely, farewell, prepare};
 
 /// A connection that came: what its peer says is read here, and what it is told is written there.
 #[derive(Drop)]
@@ -50,7 +50,7 @@ pub trait Line: Drop {
 
     /// The connection is at hand from now on, for whoever stops the worker. Answers whether it could be taken hold of: where it couldn't nobody
     /// could stop it, so it isn't to be served.
-    fn hold<R: Wait>(&self, rt: &R, grip: &Grip, input: &Self::Input) -> bool;
+    fn hold<R: Wait>(&self, rt: &R, shutdown_handle: &ShutdownHandle, input: &Self::Input) -> bool;
 
     /// Lets the peer read what was said last; what it still sends is dropped.
     fn part(&self, input: &Self::Input, buffer: &mut [u8]);
@@ -136,8 +136,8 @@ impl<T: Listens + Drop> Line for SocketLine<T> {
         Some(Call { input, output })
     }
 
-    fn hold<R: Wait>(&self, rt: &R, grip: &Grip, input: &TcpStream) -> bool {
-        grip.hold(rt, input)
+    fn hold<R: Wait>(&self, rt: &R, shutdown_handle: &ShutdownHandle, input: &TcpStream) -> bool {
+        shutdown_handle.hold(rt, input)
     }
 
     fn part(&self, input: &TcpStream, buffer: &mut [u8]) {

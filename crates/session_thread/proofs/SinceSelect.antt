@@ -166,7 +166,7 @@ found_row old new uid mark row shown (here, there, (found, left, (reads, text), 
     learns old new shown is k.goes_on (told_at (λ (e : Entry). HasItsText new.history e.mailbox row) old.entered here there (subst (λ (m : ℕ). HasItsText new.history m row) n text)) was
 
 entered : (old new : LockedStore) (m : ℕ) (opening : Opening) (shown : List Change) → Holds old (Enter m) (Entered opening) new → Step old shown (Entered opening) new
-entered old new m opening shown (nowhere, door, (handle, (found, left, (number, enters), k), is), fits) =
+entered old new m opening shown (nowhere, acceptor, (handle, (found, left, (number, enters), k), is), fits) =
     let here : Entry = record { mailbox = m; start = handle.at; handle = handle } in
     let there : new.entered ≡ Some here = ap (λ (p : LockedStore). p.entered) is in
     let stands : Stands found.mailbox (changes_in m new.history) = subst (λ (x : ℕ). Stands found.mailbox (changes_in x new.history)) number

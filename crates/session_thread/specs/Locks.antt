@@ -92,7 +92,7 @@ pub data TurnsAway (selection : LockedStore) (spent wants : Mailbox → CursorHa
 -- Why a session doesn't enter: it is in a mailbox or there is none of this number, and no lock was taken; or the one that was found didn't let it in,
 -- or has another number, and was left as it was.
 pub data StaysOut (selection : LockedStore) (mailbox : ℕ) (fault : MailFault) : Type 0 where
-  no_door : (selection.entered ≡ None → ⊥) ⊎ (selection.mailboxes ≤ mailbox) → fault ≡ Stranger → StaysOut selection mailbox fault
+  no_acceptor : (selection.entered ≡ None → ⊥) ⊎ (selection.mailboxes ≤ mailbox) → fault ≡ Stranger → StaysOut selection mailbox fault
   not_let_in : (found left : Mailbox) → selection.entered ≡ None → mailbox < selection.mailboxes → found.number ≡ mailbox → IsKept found
       → left ≡ found → EntersNot fault found
       → StaysOut selection mailbox fault

@@ -47,7 +47,8 @@ fn wait_for<B: Naming, R: Wait, G: Gate, O: Outlet>(
     ensures err { OnErr result ((d : Dialogue) → StandsFor connection.old d
         → (next : Dialogue) × StandsFor connection.new next
         × ((had : ℕ) × (had < turns)
-        × Turns count (moment d store.old (O.said out.old)) had (moment next store.new (O.said out.new))
+        × Turns count (moment d store.old (O.said out.old)) had
+        (moment next store.new (O.said out.new))
         × (IsOver count (moment next store.new (O.said out.new)) → ⊥))
         × IsShortInTurn (O.room out.new) (moment next store.new (O.said out.new))) }
     ensures lot { O.lot out.new ≡ O.lot out.old }

@@ -1,4 +1,4 @@
-//! One hold of a mailbox's lock for each call: through the door of `locked_mailbox` one thing is done to the mailbox that is found, and the
+//! One hold of a mailbox's lock for each call: through the acceptor of `locked_mailbox` one thing is done to the mailbox that is found, and the
 //! house's history is told of it. Which lock, and for whose handle, is told above.
 
 ghost use Rattle.std.specs.Prelude.{◌≡◌, ◌≢◌, ◌+◌, ◌≤◌, ◌⊎◌, ℕ, List, [], None, Some, Ok, Err, IfErr, IfOk, option_map, vec_len};

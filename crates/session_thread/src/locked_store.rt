@@ -19,7 +19,7 @@ use mailbox::{MailFault, Opening, Row, Status};
 use std::alloc::Global;
 use std::marker::Model;
 use std::sync::{Mutex, Wait};
-use workers_sync::{Actor, Courier, Gate, Lost, Pace, SessionBell, ring_each};
+use workers_sync::{Actor, Courier, Gate, Lost, SessionBell, SyncPoint, ring_each};
 
 // Whether a read logged that the message was seen.
 fn has_marked(row: &Result<Option<Row>, MailFault>) -> bool {
@@ -78,7 +78,7 @@ struct Entry {
 #[derive(Drop)]
 pub struct LockedStore<'a, B: Naming, R: Wait, G: Gate> {
     rt: &'a R,
-    pace: Pace<'a, G>,
+    sync_point: SyncPoint<'a, G>,
     mailboxes: &'a [Mutex<LockedMailbox<B>>],
     // How the house's history begins, as far as the session knows it.
     front: Front<B>,
@@ -122,7 +122,7 @@ impl<'a, B: Naming, R: Wait, G: Gate> LockedStore<'a, B, R, G> {
     {
         LockedStore {
             rt,
-            pace: Pace::new(gate, Actor::Session(session)),
+            sync_point: SyncPoint::new(gate, Actor::Session(session)),
             mailboxes,
             front,
             bells,
@@ -131,7 +131,7 @@ impl<'a, B: Naming, R: Wait, G: Gate> LockedStore<'a, B, R, G> {
     }
 
     /// Gives the message that the session submitted to a courier, who makes its events at the session's
-    /// pace. No lock is held meanwhile.
+    /// sync point. No lock is held meanwhile.
     pub(crate) fn carry<C: Courier>(
         &mut self,
         courier: &mut C,
@@ -148,7 +148,7 @@ impl<'a, B: Naming, R: Wait, G: Gate> LockedStore<'a, B, R, G> {
         ensures same { self.new ≡ self.old }
     {
         courier.carry(
-            &mut self.pace,
+            &mut self.sync_point,
             append.message,
             append.mailbox,
             &append.text,
@@ -156,17 +156,17 @@ impl<'a, B: Naming, R: Wait, G: Gate> LockedStore<'a, B, R, G> {
         )
     }
 
-    /// The session's pace, for events that are no hold of a mailbox.
-    pub fn into_pace(self) -> Pace<'a, G> {
+    /// The session's sync point, for events that are no hold of a mailbox.
+    pub fn into_sync_point(self) -> SyncPoint<'a, G> {
         let LockedStore {
             rt: _,
-            pace,
+            sync_point,
             mailboxes: _,
             front: _,
             bells: _,
             entered: _,
         } = self;
-        pace
+        sync_point
     }
 
     // Whether the session is in a mailbox.
@@ -197,7 +197,7 @@ impl<'a, B: Naming, R: Wait, G: Gate> Store for LockedStore<'a, B, R, G> {
         if usize::from(mailbox) >= self.mailboxes.len() {
             return Err(MailFault::Stranger);
         }
-        self.pace.pass();
+        self.sync_point.pass();
         let lock = &self.mailboxes[usize::from(mailbox)];
         let mut front = self.front.again();
         let (handle, opening) = locked::enter(self.rt, lock, &mut front, mailbox)?;
@@ -228,7 +228,7 @@ impl<'a, B: Naming, R: Wait, G: Gate> Store for LockedStore<'a, B, R, G> {
         let Some(here) = &self.entered else {
             return Err(MailFault::Stranger);
         };
-        self.pace.pass();
+        self.sync_point.pass();
         let lock = &mailboxes[usize::from(here.mailbox)];
         let mut front = self.front.again();
         let row = locked::read(self.rt, lock, &mut front, &here.handle, uid, mark_seen);
@@ -243,7 +243,7 @@ impl<'a, B: Naming, R: Wait, G: Gate> Store for LockedStore<'a, B, R, G> {
         if usize::from(mailbox) >= self.mailboxes.len() {
             return Err(MailFault::Stranger);
         }
-        self.pace.pass();
+        self.sync_point.pass();
         let lock = &self.mailboxes[usize::from(mailbox)];
         let mut front = self.front.again();
         let status = locked::count(self.rt, lock, &mut front, mailbox);
@@ -256,7 +256,7 @@ impl<'a, B: Naming, R: Wait, G: Gate> Store for LockedStore<'a, B, R, G> {
         let Some(here) = &self.entered else {
             return Err(MailFault::Stranger);
         };
-        self.pace.pass();
+        self.sync_point.pass();
         let lock = &mailboxes[usize::from(here.mailbox)];
         let mut front = self.front.again();
         let flags = locked::alter(self.rt, lock, &mut front, &here.handle, uid, op);
@@ -278,7 +278,7 @@ impl<'a, B: Naming, R: Wait, G: Gate> Store for LockedStore<'a, B, R, G> {
         let Some(here) = self.entered.take() else {
             return Err(MailFault::Stranger);
         };
-        self.pace.pass();
+        self.sync_point.pass();
         let lock = &self.mailboxes[usize::from(here.mailbox)];
         let mut front = self.front.again();
         let (gone, handle) = locked::expunge(
@@ -306,7 +306,7 @@ impl<'a, B: Naming, R: Wait, G: Gate> Store for LockedStore<'a, B, R, G> {
         let Some(here) = self.entered.take() else {
             return Err(MailFault::Stranger);
         };
-        self.pace.pass();
+        self.sync_point.pass();
         let lock = &self.mailboxes[usize::from(here.mailbox)];
         let mut front = self.front.again();
         let (fed, handle) = locked::feed(self.rt, lock, &mut front, here.handle, limit, spare, out);
@@ -323,7 +323,7 @@ impl<'a, B: Naming, R: Wait, G: Gate> Store for LockedStore<'a, B, R, G> {
         let Some(here) = self.entered.take() else {
             return Err(MailFault::Stranger);
         };
-        self.pace.pass();
+        self.sync_point.pass();
         let lock = &self.mailboxes[usize::from(here.mailbox)];
         let mut front = self.front.again();
         match locked::leave(self.rt, lock, &mut front, here.handle, remove) {
@@ -349,7 +349,7 @@ impl<'a, B: Naming, R: Wait, G: Gate> Store for LockedStore<'a, B, R, G> {
         if usize::from(mailbox) >= self.mailboxes.len() {
             return Err(MailFault::Stranger);
         }
-        self.pace.pass();
+        self.sync_point.pass();
         let lock = &self.mailboxes[usize::from(mailbox)];
         let mut front = self.front.again();
         let done = locked::discard(self.rt, lock, &mut front, mailbox, uids);

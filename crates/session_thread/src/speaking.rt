@@ -84,7 +84,8 @@ fn hear_verdicts<B: Naming, R: Wait, G: Gate, C: Courier, O: Outlet>(
         → C.carried courier.new (done ++ carried)))
         × ((d : Dialogue) → StandsFor connection.old d
         → (next : Dialogue) × StandsFor connection.new next
-        × HearsOn carried (moment d store.old (O.said out.old)) (moment next store.new (O.said out.new))) }
+        × HearsOn carried (moment d store.old (O.said out.old))
+        (moment next store.new (O.said out.new))) }
     ensures lot { O.lot out.new ≡ O.lot out.old }
 {
     while awaits_verdict(connection) {

@@ -30,7 +30,8 @@ pub fn idle_turn<B: Naming, R: Wait, G: Gate, O: Outlet>(
     // Without an error it had one turn, which showed as many changes as are answered.
     ensures ok { IfOk result (λ count. (d : Dialogue) → StandsFor connection.old d
         → (next : Dialogue) × StandsFor connection.new next
-        × HasShown count (moment d store.old (O.said out.old)) (moment next store.new (O.said out.new))) }
+        × HasShown count (moment d store.old (O.said out.old))
+        (moment next store.new (O.said out.new))) }
 
     // After an error it stands as before, and was short of room in `out`, or its mailbox refused it memory.
     ensures err { OnErr result ((d : Dialogue) → StandsFor connection.old d

@@ -1,11 +1,11 @@
 //! The bell of a session. A ring that comes before anybody sleeps is kept, and each ring ends one sleep: whoever sleeps finds what was marked
-//! before the ring that woke it. A sleeper that wasn't woken would sleep for good.
+//! before the ring that woke it. A parker that wasn't woken would sleep for good.
 
 use std::alloc::AllocError;
 use std::sync::atomic::{AtomicBool, Ordering};
 use std::thread;
 use std::time::Duration;
-use workers_sync::{Sleeper, ring_each};
+use workers_sync::{SessionParker, ring_each};
 
 // How long nothing is marked: a sleep that nothing has ended lasts longer.
 fn a_while() -> Duration {
@@ -15,9 +15,9 @@ fn a_while() -> Duration {
 #[test]
 fn a_session_that_idles_is_woken(rt: HostRuntime) -> Result<(), AllocError> {
     let alloc = rt.alloc();
-    let sleeper = Sleeper::new(alloc)?;
-    let bell = sleeper.bell()?;
-    sleeper.idling()?.store(true, Ordering::SeqCst);
+    let session_parker = SessionParker::new(alloc)?;
+    let bell = session_parker.bell()?;
+    session_parker.idling()?.store(true, Ordering::SeqCst);
     bell.ring();
     let mark = AtomicBool::new(false);
     let (runtime, marked) = (&rt, &mark);
@@ -25,8 +25,8 @@ fn a_session_that_idles_is_woken(rt: HostRuntime) -> Result<(), AllocError> {
         &rt,
         move || {
             // The first ring was kept, and is heard once: what ends the second sleep is the second ring.
-            sleeper.sleep(runtime);
-            sleeper.sleep(runtime);
+            session_parker.sleep(runtime);
+            session_parker.sleep(runtime);
             marked.load(Ordering::SeqCst)
         },
         || {
@@ -42,15 +42,15 @@ fn a_session_that_idles_is_woken(rt: HostRuntime) -> Result<(), AllocError> {
 #[test]
 fn whoever_wakes_all_wakes_who_does_not_idle(rt: HostRuntime) -> Result<(), AllocError> {
     let alloc = rt.alloc();
-    let sleeper = Sleeper::new(alloc)?;
+    let session_parker = SessionParker::new(alloc)?;
     let mut bells = Vec::new(alloc);
-    bells.push(sleeper.bell()?)?;
+    bells.push(session_parker.bell()?)?;
     let mark = AtomicBool::new(false);
     let (runtime, marked) = (&rt, &mark);
     let (found, ()) = thread::join(
         &rt,
         move || {
-            sleeper.sleep(runtime);
+            session_parker.sleep(runtime);
             marked.load(Ordering::SeqCst)
         },
         || {

@@ -1,7 +1,7 @@
 //! An actor asks once for each pass, by its own number, and counts from 0.
 
 use std::sync::atomic::{AtomicU64, Ordering};
-use workers_sync::{Actor, Gate, Pace};
+use workers_sync::{Actor, Gate, SyncPoint};
 
 // Keeps how often it was asked, and by whom and with what number it was asked last.
 #[derive(Drop)]
@@ -28,12 +28,12 @@ fn each_pass_is_asked_for_once(rt: HostRuntime) {
         last: AtomicU64::new(9),
         worker: AtomicU64::new(9),
     };
-    let mut pace = Pace::new(&ledger, Actor::Worker(3));
+    let mut sync_point = SyncPoint::new(&ledger, Actor::Worker(3));
     assert_eq!(rt; ledger.asked.load(Ordering::SeqCst), 0);
-    pace.pass();
+    sync_point.pass();
     assert_eq!(rt; ledger.last.load(Ordering::SeqCst), 0);
-    pace.pass();
-    pace.pass();
+    sync_point.pass();
+    sync_point.pass();
     assert_eq!(rt; ledger.asked.load(Ordering::SeqCst), 3);
     assert_eq!(rt; ledger.last.load(Ordering::SeqCst), 2);
     assert_eq!(rt; ledger.worker.load(Ordering::SeqCst), 3);

@@ -6,7 +6,7 @@ use std::net::TcpStream;
 use std::sync::atomic::{AtomicBool, Ordering};
 use std::time::Duration;
 use std::{io, thread};
-use workers_sync::{Grip, Listening, Patience, Pause, Timely, farewell, prepare};
+use workers_sync::{Listening, Patience, Pause, ShutdownHandle, Timely, farewell, prepare};
 
 /// More bytes than the system keeps for a peer that takes none.
 const MUCH: usize = 32 << 20;
@@ -44,19 +44,19 @@ fn a_hushed_thread_finds_the_end_and_is_heard_still(rt: HostRuntime) -> io::Resu
     let listening = Listening::bind(&rt, 0)?;
     let mut client = TcpStream::connect(&rt, ("127.0.0.1", listening.port()))?;
     let stream = listening.accept()?;
-    let grip = Grip::new();
-    assert!(rt; grip.is_empty(&rt));
-    assert!(rt; grip.hold(&rt, &stream));
-    assert!(rt; !grip.is_empty(&rt));
-    grip.hush(&rt);
+    let shutdown_handle = ShutdownHandle::new();
+    assert!(rt; shutdown_handle.is_empty(&rt));
+    assert!(rt; shutdown_handle.hold(&rt, &stream));
+    assert!(rt; !shutdown_handle.is_empty(&rt));
+    shutdown_handle.shut_read(&rt);
     let mut nothing = [0u8; 8];
     let mut server = &stream;
     assert_eq!(rt; server.read(&mut nothing)?, 0);
     server.write_all(b"bye")?;
     let mut told = [0u8; 8];
     assert_eq!(rt; client.read(&mut told)?, 3);
-    grip.clear(&rt);
-    assert!(rt; grip.is_empty(&rt));
+    shutdown_handle.clear(&rt);
+    assert!(rt; shutdown_handle.is_empty(&rt));
     Ok(())
 }
 
@@ -65,9 +65,9 @@ fn a_cut_connection_is_at_its_end(rt: HostRuntime) -> io::Result<()> {
     let listening = Listening::bind(&rt, 0)?;
     let mut client = TcpStream::connect(&rt, ("127.0.0.1", listening.port()))?;
     let stream = listening.accept()?;
-    let grip = Grip::new();
-    assert!(rt; grip.hold(&rt, &stream));
-    grip.cut(&rt);
+    let shutdown_handle = ShutdownHandle::new();
+    assert!(rt; shutdown_handle.hold(&rt, &stream));
+    shutdown_handle.cut(&rt);
     let mut told = [0u8; 8];
     assert_eq!(rt; client.read(&mut told)?, 0);
     let mut server = &stream;

@@ -9,7 +9,7 @@ use std::collections::VecDeque;
 use std::io::Write;
 use std::sync::atomic::{AtomicUsize, Ordering};
 use std::sync::{Arc, Wait};
-use workers_sync::{Grip, Listening};
+use workers_sync::{Listening, ShutdownHandle};
 
 /// What a peer was told, kept in memory.
 #[derive(Drop)]
@@ -115,7 +115,12 @@ impl Line for ListLine {
         Some(Call { input, output })
     }
 
-    fn hold<R: Wait>(&self, _rt: &R, _grip: &Grip, _input: &VecDeque<u8>) -> bool {
+    fn hold<R: Wait>(
+        &self,
+        _rt: &R,
+        _shutdown_handle: &ShutdownHandle,
+        _input: &VecDeque<u8>,
+    ) -> bool {
         true
     }
 

@@ -222,7 +222,7 @@ fn is_joined(alloc: Global, whole: &[u8], parts: &[&[u8]]) -> Result<bool, Alloc
 fn each_peer_is_told_what_stands(rt: HostRuntime) -> Result<(), Stopped> {
     let alloc = rt.alloc();
     let seen = serve_lists(&rt, alloc, &[&[TO_ALICE, TO_ALICE], &[TO_BOB, CUT_SHORT]])?;
-    // Two workers, and a berth for each user's sessions, which has no line.
+    // Two workers, and a client slot for each user's sessions, which has no line.
     let [first, second, others @ ..] = seen.told.as_slice() else {
         panic!(rt; "{}", seen.told.len());
     };

@@ -12,7 +12,7 @@ use change_ring::NO_FLAGS;
 use delivery_token::{Text, Verdict};
 use house_history::{Naming, Opened};
 use imap_session::{Admission, After, Folder, Profile};
-use imap_stream::{Berth, Parting, Visit, VisitFault, Wakes, Woken};
+use imap_stream::{ClientSlot, Parting, Visit, VisitFault, Wakes, Woken};
 use line_io::Watched;
 use mailbox::Limits;
 use std::alloc::{AllocError, Global};
@@ -208,11 +208,11 @@ pub(crate) fn attend_one<'x, B: Naming, R: Wait, I: Read + Wakes, C: Courier>(
         return None;
     };
     let idles = AtomicBool::new(false);
-    let berth = Berth {
+    let client_slot = ClientSlot {
         idles: &idles,
         stop,
     };
-    Some(berth.attend(rt, alloc, &mut visit, courier, input, &mut buffer))
+    Some(client_slot.attend(rt, alloc, &mut visit, courier, input, &mut buffer))
 }
 
 // How it ended that the client was served; None where it couldn't be greeted.

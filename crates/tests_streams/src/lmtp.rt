@@ -12,7 +12,7 @@ use budget::Budget;
 use envelope::Directory;
 use house_history::{Answer, Letter, Naming, Opened};
 use lane_work::{
-    Buffers, Context, Desk, Dispatch, Ending, LanePermit, Office, Producer, Summons, TalkFault,
+    Buffers, Context, Desk, Dispatch, Ending, Intake, LanePermit, Notifier, Producer, TalkFault,
     Unkept, converse,
 };
 use line_io::Sink;
@@ -26,7 +26,7 @@ use std::io::{Error, ErrorKind, Read, Result as IoResult};
 use std::marker::Brand;
 use std::sync::atomic::{AtomicBool, Ordering};
 use std::sync::{Mutex, Wait};
-use workers_sync::{Actor, Gate, Pace};
+use workers_sync::{Actor, Gate, SyncPoint};
 
 // No read and no copy has this number.
 const NEVER: usize = 1000;
@@ -60,8 +60,8 @@ const WHOLE: &[u8] =
 const TWO: &[u8] =
     b"LHLO c.example\r\nMAIL FROM:<s@a.example>\r\nRCPT TO:<alice@example.org>\r\nRCPT TO:<bob@example.org>\r\nDATA\r\nhi\r\n.\r\nMAIL FROM:<>\r\nRCPT TO:<bob@example.org>\r\nDATA\r\n..\r\n.\r\nQUIT\r\n";
 
-// A shard's consumer that serves where it is summoned: each copy is stored.
-struct Clerk<'a, B: Naming> {
+// A shard's consumer that serves where it is notified: each copy is stored.
+struct SharedConsumer<'a, B: Naming> {
     shelf: &'a Shelf<B>,
     lane: &'a ShardQueue<Letter<B>>,
     channel: &'a ReplyChannel<Answer<B>>,
@@ -71,7 +71,7 @@ struct Clerk<'a, B: Naming> {
     ghost answers: { IsSender channel.now sender },
 }
 
-impl<'a, B: Naming> Clerk<'a, B> {
+impl<'a, B: Naming> SharedConsumer<'a, B> {
     // Delivers a copy, and tells its producer.
     fn answer<R: Wait>(&mut self, rt: &R, letter: Letter<B>) {
         if let Some(answer) = self.shelf.judge(rt, letter) {
@@ -90,19 +90,19 @@ impl<'a, B: Naming> Clerk<'a, B> {
     }
 }
 
-// The clerk behind its lock, who may set the mark of the house's end as it is summoned.
+// The shared consumer behind its lock, who may set the mark of the house's end as it is notified.
 struct Counter<'a, B: Naming> {
-    clerk: Mutex<Clerk<'a, B>>,
+    shared_consumer: Mutex<SharedConsumer<'a, B>>,
     stop: &'a AtomicBool,
     stops: bool,
 }
 
-impl<'a, B: Naming> Summons for Counter<'a, B> {
-    fn summon<R: Wait>(&self, rt: &R, _shard: usize) {
+impl<'a, B: Naming> Notifier for Counter<'a, B> {
+    fn notify<R: Wait>(&self, rt: &R, _shard: usize) {
         if self.stops {
             self.stop.store(true, Ordering::SeqCst);
         }
-        let mut held = self.clerk.lock(rt);
+        let mut held = self.shared_consumer.lock(rt);
         held.serve(rt);
     }
 }
@@ -373,20 +373,20 @@ fn has_front(bytes: &[u8], replies: &[&[u8]], room: usize) -> bool {
 }
 
 // Plays the connection of a case, and answers whether it came as it was to come.
-fn talk<B: Naming, R: Wait, S: Summons>(
+fn talk<B: Naming, R: Wait, S: Notifier>(
     context: &Context<'_, B, R, S>,
     producer: &mut Producer<'_, B, Open, Unkept>,
     stop: &AtomicBool,
     case: &Case,
 ) -> Result<bool, AllocError>
-    requires permits { AreInForce context.now.office.now.directory
-        context.now.office.now.lanes.items producer.old.desk.number
+    requires permits { AreInForce context.now.intake.now.directory
+        context.now.intake.now.lanes.items producer.old.desk.number
         producer.old.desk.permits.items }
     requires receiver { IsReceiver context.now.channel.now producer.old.desk.receiver }
-    requires lanes { context.now.office.now.directory.shards
-        ≡ length context.now.office.now.lanes.items }
-    requires host { length context.now.office.now.host.items < 256 }
-    ensures { length producer.new.desk.permits.items ≡ length context.now.office.now.lanes.items }
+    requires lanes { context.now.intake.now.directory.shards
+        ≡ length context.now.intake.now.lanes.items }
+    requires host { length context.now.intake.now.host.items < 256 }
+    ensures { length producer.new.desk.permits.items ≡ length context.now.intake.now.lanes.items }
 {
     let mut input = Pieces {
         pieces: case.pieces,
@@ -419,11 +419,11 @@ fn talk<B: Naming, R: Wait, S: Summons>(
     Ok(came == case.want && has_front(output.bytes.as_slice(), case.replies, case.room))
 }
 
-// The same with a clerk who serves the lane.
-fn with_clerk<'x, B: Naming, R: Wait>(
+// The same with a shared consumer who serves the lane.
+fn with_shared_consumer<'x, B: Naming, R: Wait>(
     rt: &'x R,
     alloc: Global,
-    office: &'x Office<B>,
+    intake: &'x Intake<B>,
     lane: &'x ShardQueue<Letter<B>>,
     channel: &'x ReplyChannel<Answer<B>>,
     producer: &mut Producer<'_, B, Open, Unkept>,
@@ -436,19 +436,19 @@ fn with_clerk<'x, B: Naming, R: Wait>(
     SenderPermit<Answer<B>>,
     Result<bool, AllocError>,
 )
-    requires permits { AreInForce office.now.directory office.now.lanes.items
+    requires permits { AreInForce intake.now.directory intake.now.lanes.items
         producer.old.desk.number
         producer.old.desk.permits.items }
     requires receiver { IsReceiver channel.now producer.old.desk.receiver }
-    requires lanes { office.now.directory.shards ≡ length office.now.lanes.items }
-    requires host { length office.now.host.items < 256 }
+    requires lanes { intake.now.directory.shards ≡ length intake.now.lanes.items }
+    requires host { length intake.now.host.items < 256 }
     requires takes { IsConsumer lane.now permit }
     requires answers { IsSender channel.now sender }
-    ensures { length producer.new.desk.permits.items ≡ length office.now.lanes.items }
+    ensures { length producer.new.desk.permits.items ≡ length intake.now.lanes.items }
 {
     let stop = AtomicBool::new(false);
     let counter = Counter {
-        clerk: Mutex::new(Clerk {
+        shared_consumer: Mutex::new(SharedConsumer {
             shelf,
             lane,
             channel,
@@ -461,23 +461,23 @@ fn with_clerk<'x, B: Naming, R: Wait>(
     let context = Context {
         rt,
         alloc,
-        office,
-        summons: &counter,
+        intake,
+        notifier: &counter,
         channel,
     };
     let told = talk(&context, producer, &stop, case);
     let Counter {
-        clerk,
+        shared_consumer,
         stop: _,
         stops: _,
     } = counter;
-    let Clerk {
+    let SharedConsumer {
         shelf: _,
         lane: _,
         channel: _,
         permit,
         sender,
-    } = clerk.into_inner();
+    } = shared_consumer.into_inner();
     (permit, sender, told)
 }
 
@@ -496,26 +496,26 @@ struct Back<B: Naming> {
 
 // What is left goes.
 fn spend<B: Naming>(
-    office: Office<B>,
+    intake: Intake<B>,
     desk: Desk<B>,
     channel: ReplyChannel<Answer<B>>,
     permit: ConsumerPermit<Letter<B>>,
     back: Back<B>,
     alloc: Global,
 )
-    requires lanes { vec_len office.lanes ≡ 1 }
+    requires lanes { vec_len intake.lanes ≡ 1 }
     requires permits { vec_len desk.permits ≡ 1 }
     requires room { (vec_len back.live < vec_capacity back.live)
         × (vec_len back.ended < vec_capacity back.ended) }
 {
-    let Office {
+    let Intake {
         directory: _,
         host: _,
         max_message: _,
         budget: _,
         mut lanes,
         closings: _,
-    } = office;
+    } = intake;
     let Desk {
         number: _,
         permits,
@@ -594,7 +594,7 @@ fn play_in<B: Naming, R: Wait>(
     } = permits;
     lanes.push_reserved(lane);
     hand.push_reserved(LanePermit::Live(producer));
-    let office = Office {
+    let intake = Intake {
         directory,
         host,
         max_message: 100,
@@ -604,16 +604,16 @@ fn play_in<B: Naming, R: Wait>(
     };
     let gate = Open;
     let mut own = Producer {
-        pace: Pace::new(&gate, Actor::Worker(0)),
+        sync_point: SyncPoint::new(&gate, Actor::Worker(0)),
         desk: desk_of(hand, receiver, dispatch),
         book: Unkept,
     };
-    let served = &office.lanes[0];
-    let (permit, sender, told) = with_clerk(
-        rt, alloc, &office, served, &channel, &mut own, permit, sender, shelf, case,
+    let served = &intake.lanes[0];
+    let (permit, sender, told) = with_shared_consumer(
+        rt, alloc, &intake, served, &channel, &mut own, permit, sender, shelf, case,
     );
     let Producer {
-        pace: _,
+        sync_point: _,
         desk,
         book: _,
     } = own;
@@ -623,7 +623,7 @@ fn play_in<B: Naming, R: Wait>(
         ended,
         senders,
     };
-    spend(office, desk, channel, permit, back, alloc);
+    spend(intake, desk, channel, permit, back, alloc);
     told
 }
 

@@ -20,7 +20,7 @@ use std::mem;
 use std::sync::Wait;
 use std::sync::atomic::{AtomicBool, AtomicU64, Ordering};
 use std::thread::{self, Threads, join};
-use workers_sync::{Actor, Gate, Lost, SessionBell, Sleeper, ring_each};
+use workers_sync::{Actor, Gate, Lost, SessionBell, SessionParker, ring_each};
 
 const SMALL: Limits = Limits {
     messages: 8,
@@ -178,7 +178,7 @@ fn session<B: Naming, R: Wait>(
 }
 
 // The bells of a user whose one session idles.
-fn bells_of(alloc: Global, bell: &Sleeper) -> Result<Vec<SessionBell>, AllocError> {
+fn bells_of(alloc: Global, bell: &SessionParker) -> Result<Vec<SessionBell>, AllocError> {
     bell.idling()?.store(true, Ordering::SeqCst);
     let mut bells = Vec::new(alloc);
     bells.push(bell.bell()?)?;
@@ -214,7 +214,7 @@ fn run_both<B: Naming + Send + Sync, R: Threads + Wait + Sync>(
 {
     let house = two_mailboxes::<B>(alloc, history)?;
     let text = text(alloc)?;
-    let bell = Sleeper::new(alloc)?;
+    let bell = SessionParker::new(alloc)?;
     let bells = bells_of(alloc, &bell)?;
     Ok(run_in(rt, alloc, order, &house, text, &bells, steps))
 }
@@ -304,7 +304,7 @@ fn sleep_and_look<B: Naming, R: Wait>(
     house: &TestHouse<B>,
     order: &Order,
     bells: &[SessionBell],
-    bell: Sleeper,
+    bell: SessionParker,
 ) -> Option<Vec<u8>> {
     let mut said = Vec::new(alloc);
     let mut store = store_of(rt, order, 0, house, bells);
@@ -326,7 +326,7 @@ fn ring_in<B: Naming + Send + Sync, R: Threads + Wait + Sync>(
     house: &TestHouse<B>,
     text: Text,
     bells: &[SessionBell],
-    bell: Sleeper,
+    bell: SessionParker,
 ) -> Option<Vec<u8>> {
     let order = Order::new(Actor::Session(0));
     let held = &order;
@@ -347,7 +347,7 @@ fn ring_once<B: Naming + Send + Sync, R: Threads + Wait + Sync>(
 {
     let house = two_mailboxes::<B>(alloc, history)?;
     let text = text(alloc)?;
-    let bell = Sleeper::new(alloc)?;
+    let bell = SessionParker::new(alloc)?;
     let bells = bells_of(alloc, &bell)?;
     Ok(ring_in(rt, alloc, &house, text, &bells, bell))
 }
@@ -597,7 +597,7 @@ fn wakes_each_time<B: Naming, R: Wait>(
     alloc: Global,
     house: &TestHouse<B>,
     bells: &[SessionBell],
-    bell: &Sleeper,
+    bell: &SessionParker,
 ) -> bool {
     let tally = Tally::new();
     let mut out = Vec::new(alloc);
@@ -623,7 +623,7 @@ fn rings_each_time<B: Naming, R: Wait>(
     requires { history ≡ B.book }
 {
     let house = with_a_message::<B, R>(rt, alloc, history)?;
-    let bell = Sleeper::new(alloc)?;
+    let bell = SessionParker::new(alloc)?;
     let bells = bells_of(alloc, &bell)?;
     Ok(wakes_each_time(rt, alloc, &house, &bells, &bell))
 }

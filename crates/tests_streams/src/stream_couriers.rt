@@ -15,7 +15,7 @@ use std::alloc::{AllocError, Global};
 use std::marker::Brand;
 use std::sync::atomic::AtomicBool;
 use std::sync::{Mutex, Wait};
-use workers_sync::{Courier, Gate, Lost, Pace};
+use workers_sync::{Courier, Gate, Lost, SyncPoint};
 
 // The most bytes of a message.
 const MOST: u32 = 64;
@@ -54,14 +54,14 @@ impl<B: Naming, R: Wait> Courier for TestCourier<'_, B, R> {
 
     fn carry<G: Gate>(
         &mut self,
-        pace: &mut Pace<'_, G>,
+        sync_point: &mut SyncPoint<'_, G>,
         _message: u32,
         mailbox: u8,
         text: &Text,
         flags: Flags,
     ) -> Result<Verdict, Lost> {
         self.asked = self.asked.saturating_add(1);
-        pace.pass();
+        sync_point.pass();
         if let Some(why) = self.loses {
             return Err(why);
         }
@@ -185,7 +185,7 @@ fn a_visit_answers_verdicts(rt: HostRuntime) -> Result<(), AllocError> {
 }
 
 // Attends a client that sends these bytes, which are read in pieces of 16: how many messages it gave to its
-// courier; none where the berth wasn't free.
+// courier; none where the client slot wasn't free.
 fn attend<'x, B: Naming, R: Wait>(
     rt: &'x R,
     alloc: Global,
@@ -229,7 +229,7 @@ fn is_attended<B: Naming, R: Wait>(
 }
 
 #[test]
-fn a_berth_attends_a_client_that_appends(rt: HostRuntime) -> Result<(), AllocError> {
+fn a_client_slot_attends_a_client_that_appends(rt: HostRuntime) -> Result<(), AllocError> {
     let bytes =
         b"a1 APPEND INBOX {5+}\r\nhello\r\na2 APPEND INBOX {3}\r\nabc\r\na3 LOGOUT\r\na4 NOOP\r\n";
     let told = b"a1 OK [APPENDUID 7 1] APPEND completed\r\n\

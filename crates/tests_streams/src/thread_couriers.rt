@@ -15,7 +15,7 @@ use settings::Step;
 use std::alloc::{AllocError, Global};
 use std::marker::Brand;
 use std::sync::Wait;
-use workers_sync::{Courier, Gate, Lost, Pace};
+use workers_sync::{Courier, Gate, Lost, SyncPoint};
 
 // What a test's courier does with each message.
 #[derive(Clone, Copy)]
@@ -71,7 +71,7 @@ impl<B: Naming, R: Wait> Courier for TestCourier<'_, B, R> {
 
     fn carry<G: Gate>(
         &mut self,
-        pace: &mut Pace<'_, G>,
+        sync_point: &mut SyncPoint<'_, G>,
         message: u32,
         mailbox: u8,
         text: &Text,
@@ -79,7 +79,7 @@ impl<B: Naming, R: Wait> Courier for TestCourier<'_, B, R> {
     ) -> Result<Verdict, Lost> {
         self.are_in_order = self.are_in_order && message == self.asked;
         self.asked = self.asked.saturating_add(1);
-        pace.pass();
+        sync_point.pass();
         match self.way {
             Way::Delivers => self.deliver(mailbox, text, flags),
             Way::Refuses => Ok(Verdict::Refused(Refusal::Full)),

@@ -12,15 +12,15 @@ use Rattle.lane_work.specs.Rooms.{AreRooms}
 use Rattle.lane_work.specs.LanePermits.{EndedRows}
 use Rattle.lane_work.proofs.RowLaws.{none_ended}
 use Rattle.lane_work.specs.declared.consumer.Consumed.{Consumed}
-use Rattle.house_floor.specs.Crew.{AllAt, IsPost}
-use Rattle.house_floor.specs.declared.floor.Floor.{Floor}
-use Rattle.house_floor.specs.declared.floor.Post.{Post}
+use Rattle.house_shared.specs.Crew.{AllAt, IsPost}
+use Rattle.house_shared.specs.declared.shared.HouseShared.{HouseShared}
+use Rattle.house_shared.specs.declared.shared.Post.{Post}
 use Rattle.tests_threads.specs.inner.Rounds.{IsOwnPost}
 
 -- each post is of its own number
-pub own_posts : {B : Type 0} (floor : Floor B) (n : ℕ) (ps : List (Post B)) → AllAt (IsPost floor) n ps → All (IsOwnPost floor) ps
-own_posts floor n [] all = All-nil (IsOwnPost floor)
-own_posts floor n (p ∷ ps) all = All-cons (IsOwnPost floor) p ps (record { is = subst (λ k. IsPost floor k p) (sym all.0.number) all.0 }) (own_posts floor (suc n) ps all.1)
+pub own_posts : {B : Type 0} (shared : HouseShared B) (n : ℕ) (ps : List (Post B)) → AllAt (IsPost shared) n ps → All (IsOwnPost shared) ps
+own_posts shared n [] all = All-nil (IsOwnPost shared)
+own_posts shared n (p ∷ ps) all = All-cons (IsOwnPost shared) p ps (record { is = subst (λ k. IsPost shared k p) (sym all.0.number) all.0 }) (own_posts shared (suc n) ps all.1)
 
 -- there is room in each list
 pub is_room : (count each n : ℕ) (lists : Vec (Vec (Ended Job) Global) Global) → AreRooms count each lists → n ≡ each → All (λ v. vec_len v + n ≤ vec_capacity v) lists.items

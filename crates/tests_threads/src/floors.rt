@@ -1,11 +1,11 @@
 //! A small house: two shards, two producers, alice with a folder, and bob.
 
 ghost use Rattle.std.specs.Prelude.{◌≡◌, ◌≢◌, ◌<◌, ◌≤◌, All, IfOk, None, length, vec_len};
-ghost use Rattle.house_floor.specs.Users.{user_numbered};
+ghost use Rattle.house_shared.specs.Users.{user_numbered};
 
 use envelope::Directory;
-use house_floor::{Guest, Opened, Sizes, inbox_numbered, is_nobody, open};
 use house_history::Naming;
+use house_shared::{Guest, Opened, Sizes, inbox_numbered, is_nobody, open};
 use mailbox::{History, Limits};
 use std::alloc::{AllocError, Global};
 use std::marker::Brand;
@@ -91,7 +91,7 @@ fn guests_of(alloc: Global, directory: &Directory, user: u8) -> Result<Vec<Guest
 // How many bells each mailbox has, as digits of a number.
 fn bells_in<B: Naming>(opened: &Opened<B>) -> usize {
     let mut bells = 0usize;
-    for list in &opened.floor.depot.sessions {
+    for list in &opened.shared.delivery.sessions {
         bells = bells.wrapping_mul(10).wrapping_add(list.len());
     }
     bells
@@ -122,7 +122,7 @@ fn opened_for<B: Naming>(
         bells: bells_in(&opened),
         stands: opened.crew.stands.len(),
         posts: opened.crew.posts.len(),
-        mailboxes: opened.floor.depot.mailboxes.len(),
+        mailboxes: opened.shared.delivery.mailboxes.len(),
     };
     let _left = leave(opened);
     Ok(has)

@@ -1,4 +1,4 @@
-//! Tests of a house of threads: its floor, the permits on its lanes, its clerks, and plans that are run by threads which gates hold up. What is proved
+//! Tests of a house of threads: its shared state, the permits on its lanes, its shared consumers, and plans that are run by threads which gates hold up. What is proved
 //! of them stands in their own crates.
 #![tactic(auto)]
 
@@ -21,8 +21,6 @@ mod gates;
 #[cfg(test)]
 mod lanes;
 #[cfg(test)]
-mod notebooks;
-#[cfg(test)]
 mod plans;
 #[cfg(test)]
 mod refusals;
@@ -34,3 +32,5 @@ mod rounds;
 mod rows;
 #[cfg(test)]
 mod runs;
+#[cfg(test)]
+mod verdict_logs;

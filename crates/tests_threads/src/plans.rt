@@ -1,6 +1,6 @@
 //! Plans that are run: what peers send, which mailboxes there are, and what sessions do.
 
-use house_floor::Guest;
+use house_shared::Guest;
 use running_house::Plan;
 use settings::{Config, Step};
 use std::alloc::{AllocError, Global};

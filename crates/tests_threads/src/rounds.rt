@@ -1,5 +1,5 @@
 //! A whole round: three workers in threads of their own, who put copies for three mailboxes on two
-//! lanes and make the clerks' steps; then all lanes are closed.
+//! lanes and make the shared consumers' steps; then all lanes are closed.
 
 ghost use Rattle.std.specs.Prelude.{◌≡◌, ◌<◌, ◌≤◌, ◌+◌, ℕ, [], All, IfOk, Some, length, map, vec_len, vec_capacity};
 ghost use Rattle.std.specs.Mem.{manually_drop_value};
@@ -9,22 +9,19 @@ ghost use Rattle.shard_queue.specs.Permits.{IsProducer, number_of};
 ghost use Rattle.lane_work.specs.Permits.{ArePermits, IsPermit, permit_number};
 ghost use Rattle.lane_work.specs.Rooms.{AreRooms};
 ghost use Rattle.lane_work.specs.LanePermits.{AreConsumers, EndedRows};
-ghost use Rattle.clerks.specs.Keeping.{parts_of};
-ghost use Rattle.house_floor.specs.Crew.{AllAt, IsCrew, IsPost, IsStand};
-ghost use Rattle.house_floor.specs.Opening.{AreBaskets};
+ghost use Rattle.shared_consumers.specs.Keeping.{parts_of};
+ghost use Rattle.house_shared.specs.Crew.{AllAt, IsCrew, IsPost, IsStand};
+ghost use Rattle.house_shared.specs.Opening.{AreBaskets};
 ghost use Rattle.tests_threads.specs.inner.Rounds.{AreSomeones, IsOwnPost};
 ghost use Rattle.tests_threads.specs.declared.rounds.Left.{Left};
 
 use change_ring::NO_FLAGS;
-use clerks::{
-    Clerk, Clerks, Dismissed, Hall, Staff, Unhindered, dismiss_all, hire_all, stand_down,
-};
 use delivery_token::{CopyKey, Job, Text, Verdict};
 use envelope::Directory;
-use house_floor::{Baskets, Crew, Floor, Opened, Post, Sizes, Stand, open};
 use house_history::{Answer, Letter, Naming};
+use house_shared::{Baskets, Crew, HouseShared, Opened, Post, Sizes, Stand, open};
 use lane_work::{
-    Closing, Consumed, Depot, Desk, Dispatch, LanePermit, Office, close_lanes, collect, end_all,
+    Closing, Consumed, Delivery, Desk, Dispatch, Intake, LanePermit, close_lanes, collect, end_all,
     spend_lists,
 };
 use locked_mailbox::LockedMailbox;
@@ -32,6 +29,10 @@ use mailbox::{History, Limits};
 use shard_queue::{
     Closed, ConsumerPermit, Ended, Entry, Full, ProducerPermit, ReceiverPermit, ReplyChannel,
     SenderEnded, ShardQueue,
+};
+use shared_consumers::{
+    ConsumerSet, Dismissed, LaneGroup, SharedConsumer, SharedConsumers, Unhindered, dismiss_all,
+    make_all, stand_down,
 };
 use std::alloc::{AllocError, AllocGlobal, Global};
 use std::marker::Brand;
@@ -41,7 +42,7 @@ use std::sync::{Mutex, Wait};
 use std::test::Fail;
 use std::thread;
 use std::thread::Threads;
-use workers_sync::{Actor, Pace};
+use workers_sync::{Actor, SyncPoint};
 
 const WORKERS: u8 = 3;
 
@@ -112,40 +113,40 @@ fn put_at<B: Naming, R: Wait>(
 // The same, on the lane of the copy's mailbox. The number of its shard, where there was room.
 fn put_copy<B: Naming, R: Wait>(
     rt: &R,
-    office: &Office<B>,
+    intake: &Intake<B>,
     permits: &mut Vec<LanePermit<Letter<B>>>,
     number: u8,
     letter: Letter<B>,
 ) -> Option<usize>
-    requires permits { ArePermits office.now.lanes.items number permits.old.items }
-    requires lanes { office.now.directory.shards ≡ length office.now.lanes.items }
-    ensures { ArePermits office.now.lanes.items number permits.new.items }
+    requires permits { ArePermits intake.now.lanes.items number permits.old.items }
+    requires lanes { intake.now.directory.shards ≡ length intake.now.lanes.items }
+    ensures { ArePermits intake.now.lanes.items number permits.new.items }
 {
-    let shard = office.directory.shard_of(letter.job().mailbox);
-    let was_put = put_at(rt, &office.lanes[shard], &mut permits[shard], letter);
+    let shard = intake.directory.shard_of(letter.job().mailbox);
+    let was_put = put_at(rt, &intake.lanes[shard], &mut permits[shard], letter);
     if was_put { Some(shard) } else { None }
 }
 
 // Makes a copy, and puts it. The number of its shard, where there was memory and room.
 fn put_next<B: Naming, R: Wait>(
     rt: &R,
-    floor: &Floor<B>,
+    shared: &HouseShared<B>,
     permits: &mut Vec<LanePermit<Letter<B>>>,
     dispatch: &mut Dispatch<B>,
     number: u8,
     serial: u8,
 ) -> Option<usize>
-    requires permits { ArePermits floor.now.office.lanes.items number permits.old.items }
-    requires lanes { floor.now.office.directory.shards ≡ length floor.now.office.lanes.items }
-    ensures { ArePermits floor.now.office.lanes.items number permits.new.items }
+    requires permits { ArePermits shared.now.intake.lanes.items number permits.old.items }
+    requires lanes { shared.now.intake.directory.shards ≡ length shared.now.intake.lanes.items }
+    ensures { ArePermits shared.now.intake.lanes.items number permits.new.items }
 {
-    let Ok(job) = job_of(floor.alloc, number, serial) else {
+    let Ok(job) = job_of(shared.alloc, number, serial) else {
         return None;
     };
     let Ok(letter) = dispatch.send(job) else {
         return None;
     };
-    put_copy(rt, &floor.office, permits, number, letter)
+    put_copy(rt, &shared.intake, permits, number, letter)
 }
 
 // Whether the next verdict that waits tells that a copy was stored.
@@ -164,29 +165,35 @@ fn hears_stored<B: Naming, R: Wait>(
 }
 
 // Puts each of its copies, helps, and hears the verdict. How many were stored.
-fn put_all<B: Naming, H: Hall, R: Wait>(
+fn put_all<B: Naming, H: LaneGroup, R: Wait>(
     rt: &R,
-    floor: &Floor<B>,
-    clerks: &[Mutex<Clerk<B, H>>],
+    shared: &HouseShared<B>,
+    shared_consumers: &[Mutex<SharedConsumer<B, H>>],
     channel: &ReplyChannel<Answer<B>>,
     desk: &mut Desk<B>,
 ) -> usize
-    requires lanes { H.lanes ≡ Some floor.now.office.lanes.items }
-    requires depot { H.depot ≡ Some (parts_of floor.now.depot) }
-    requires shards { floor.now.office.directory.shards ≡ length floor.now.office.lanes.items }
-    requires permits { ArePermits floor.now.office.lanes.items desk.old.number
+    requires lanes { H.lanes ≡ Some shared.now.intake.lanes.items }
+    requires delivery { H.delivery ≡ Some (parts_of shared.now.delivery) }
+    requires shards { shared.now.intake.directory.shards ≡ length shared.now.intake.lanes.items }
+    requires permits { ArePermits shared.now.intake.lanes.items desk.old.number
         desk.old.permits.items }
     requires receiver { IsReceiver channel.now desk.old.receiver }
     ensures number { desk.new.number ≡ desk.old.number }
-    ensures permits { ArePermits floor.now.office.lanes.items desk.old.number
+    ensures permits { ArePermits shared.now.intake.lanes.items desk.old.number
         desk.new.permits.items }
 {
-    let help = Clerks::new(clerks, &floor.office.lanes, &floor.depot, &Unhindered, 8);
+    let help = SharedConsumers::new(
+        shared_consumers,
+        &shared.intake.lanes,
+        &shared.delivery,
+        &Unhindered,
+        8,
+    );
     let number = desk.number;
     let mut stored = 0usize;
     for serial in 0..COPIES {
         let (permits, dispatch) = (&mut desk.permits, &mut desk.dispatch);
-        if let Some(shard) = put_next(rt, floor, permits, dispatch, number, serial) {
+        if let Some(shard) = put_next(rt, shared, permits, dispatch, number, serial) {
             help.help(rt, shard);
             if hears_stored(rt, channel, &mut desk.receiver) {
                 stored = stored.saturating_add(1);
@@ -197,23 +204,27 @@ fn put_all<B: Naming, H: Hall, R: Wait>(
 }
 
 // A worker's whole life.
-fn labour<B: Naming, H: Hall, R: Wait + Abort>(
+fn labour<B: Naming, H: LaneGroup, R: Wait + Abort>(
     rt: &R,
-    floor: &Floor<B>,
-    clerks: &[Mutex<Clerk<B, H>>],
+    shared: &HouseShared<B>,
+    shared_consumers: &[Mutex<SharedConsumer<B, H>>],
     parcel: ManuallyDrop<Post<B>>,
 ) -> ManuallyDrop<Left<B>>
-    requires lanes { H.lanes ≡ Some floor.now.office.lanes.items }
-    requires depot { H.depot ≡ Some (parts_of floor.now.depot) }
-    requires shards { floor.now.office.directory.shards ≡ length floor.now.office.lanes.items }
-    requires post { IsOwnPost floor.now (manually_drop_value parcel) }
-    ensures { AreSomeones floor.now.office.lanes.items
+    requires lanes { H.lanes ≡ Some shared.now.intake.lanes.items }
+    requires delivery { H.delivery ≡ Some (parts_of shared.now.delivery) }
+    requires shards { shared.now.intake.directory.shards ≡ length shared.now.intake.lanes.items }
+    requires post { IsOwnPost shared.now (manually_drop_value parcel) }
+    ensures { AreSomeones shared.now.intake.lanes.items
         (manually_drop_value {X = Left B} result).ended.items }
 {
     let Post { mut desk, room } = ManuallyDrop::into_inner(parcel);
     let position = usize::from(desk.number);
-    let channel = floor.depot.channels.get(position).expect(rt, "a channel");
-    let stored = put_all(rt, floor, clerks, channel, &mut desk);
+    let channel = shared
+        .delivery
+        .channels
+        .get(position)
+        .expect(rt, "a channel");
+    let stored = put_all(rt, shared, shared_consumers, channel, &mut desk);
     let Desk {
         number,
         permits,
@@ -221,9 +232,23 @@ fn labour<B: Naming, H: Hall, R: Wait + Abort>(
         ends: _,
         dispatch: _,
     } = desk;
-    let mut pace = Pace::new(&Unhindered, Actor::Worker(number));
-    let help = Clerks::new(clerks, &floor.office.lanes, &floor.depot, &Unhindered, 8);
-    let ended = end_all(rt, &mut pace, &floor.office, &help, number, permits, room);
+    let mut sync_point = SyncPoint::new(&Unhindered, Actor::Worker(number));
+    let help = SharedConsumers::new(
+        shared_consumers,
+        &shared.intake.lanes,
+        &shared.delivery,
+        &Unhindered,
+        8,
+    );
+    let ended = end_all(
+        rt,
+        &mut sync_point,
+        &shared.intake,
+        &help,
+        number,
+        permits,
+        room,
+    );
     packed(Left {
         ended,
         receiver,
@@ -233,13 +258,13 @@ fn labour<B: Naming, H: Hall, R: Wait + Abort>(
 
 // The posts, for a closure to hold.
 fn pack_all<B: Naming>(
-    floor: &Floor<B>,
+    shared: &HouseShared<B>,
     mut posts: Vec<Post<B>>,
     mut parcels: Vec<ManuallyDrop<Post<B>>>,
 ) -> Vec<ManuallyDrop<Post<B>>>
-    requires posts { AllAt (IsPost floor.now) 0 posts.items }
+    requires posts { AllAt (IsPost shared.now) 0 posts.items }
     requires room { (parcels.items ≡ []) × (vec_len posts ≤ vec_capacity parcels) }
-    ensures posts { All (λ p. IsOwnPost floor.now (manually_drop_value p)) result.items }
+    ensures posts { All (λ p. IsOwnPost shared.now (manually_drop_value p)) result.items }
     ensures count { vec_len result ≡ vec_len posts }
 {
     while let Some(post) = posts.pop() {
@@ -249,7 +274,7 @@ fn pack_all<B: Naming>(
     parcels
 }
 
-// The clerks' ends of the lanes, in their order; what is left of their senders is spent with the
+// The shared consumers' ends of the lanes, in their order; what is left of their senders is spent with the
 // channels.
 fn part<B: Naming>(
     mut consumed: Vec<Consumed<B>>,
@@ -289,19 +314,19 @@ struct Round {
 
 // Collects what is left of the workers' permits, and how many copies were told as stored.
 fn collect_all<B: Naming>(
-    floor: &Floor<B>,
+    shared: &HouseShared<B>,
     mut left: Vec<ManuallyDrop<Left<B>>>,
     lists: &mut Vec<Vec<Ended<Letter<B>>>>,
     receivers: &mut Vec<ReceiverPermit<Answer<B>>>,
 ) -> usize
     requires ended { All (λ l.
-        AreSomeones floor.now.office.lanes.items (manually_drop_value {X = Left B} l).ended.items)
+        AreSomeones shared.now.intake.lanes.items (manually_drop_value {X = Left B} l).ended.items)
         left.items }
-    requires lists { EndedRows floor.now.office.lanes.items (map (λ v. v.items) lists.old.items) }
-    requires count { vec_len lists.old ≡ length floor.now.office.lanes.items }
+    requires lists { EndedRows shared.now.intake.lanes.items (map (λ v. v.items) lists.old.items) }
+    requires count { vec_len lists.old ≡ length shared.now.intake.lanes.items }
     requires room { All (λ v. vec_len v + vec_len left ≤ vec_capacity v) lists.old.items }
     requires receivers { vec_len receivers.old + vec_len left ≤ vec_capacity receivers.old }
-    ensures lists { EndedRows floor.now.office.lanes.items (map (λ v. v.items) lists.new.items) }
+    ensures lists { EndedRows shared.now.intake.lanes.items (map (λ v. v.items) lists.new.items) }
     ensures receivers { vec_len receivers.new ≡ vec_len receivers.old + vec_len left }
 {
     let mut told = 0usize;
@@ -353,78 +378,83 @@ fn accepted_by_all<B: Naming>(
 }
 
 // Each worker's life in a thread of its own.
-fn work_all<B: Naming + Send + Sync, H: Hall + Send, T: Threads + Wait + Sync + Abort>(
+fn work_all<B: Naming + Send + Sync, H: LaneGroup + Send, T: Threads + Wait + Sync + Abort>(
     rt: &T,
-    floor: &Floor<B>,
-    clerks: &[Mutex<Clerk<B, H>>],
+    shared: &HouseShared<B>,
+    shared_consumers: &[Mutex<SharedConsumer<B, H>>],
     parcels: Vec<ManuallyDrop<Post<B>>>,
 ) -> Vec<ManuallyDrop<Left<B>>>
-    requires lanes { H.lanes ≡ Some floor.now.office.lanes.items }
-    requires depot { H.depot ≡ Some (parts_of floor.now.depot) }
-    requires shards { floor.now.office.directory.shards ≡ length floor.now.office.lanes.items }
-    requires posts { All (λ p. IsOwnPost floor.now (manually_drop_value p)) parcels.items }
+    requires lanes { H.lanes ≡ Some shared.now.intake.lanes.items }
+    requires delivery { H.delivery ≡ Some (parts_of shared.now.delivery) }
+    requires shards { shared.now.intake.directory.shards ≡ length shared.now.intake.lanes.items }
+    requires posts { All (λ p. IsOwnPost shared.now (manually_drop_value p)) parcels.items }
     ensures left { All (λ l.
-        AreSomeones floor.now.office.lanes.items (manually_drop_value {X = Left B} l).ended.items)
+        AreSomeones shared.now.intake.lanes.items (manually_drop_value {X = Left B} l).ended.items)
         result.items }
     ensures count { vec_len result ≡ vec_len parcels }
 {
     thread::map_vec(
         rt,
         parcels,
-        &|parcel| labour::<B, H, T>(rt, floor, clerks, parcel),
+        &|parcel| labour::<B, H, T>(rt, shared, shared_consumers, parcel),
     )
     .expect(rt, "memory")
 }
 
-// A clerk is hired for each stand, and each worker's life is led. The clerks, and what the workers leave.
-fn work_off<B: Naming + Send + Sync, H: Hall + Send, T: Threads + Wait + Sync + Abort>(
+// A shared consumer is spawned for each stand, and each worker's life is led. The shared consumers, and what the workers leave.
+fn work_off<B: Naming + Send + Sync, H: LaneGroup + Send, T: Threads + Wait + Sync + Abort>(
     rt: &T,
-    floor: &Floor<B>,
+    shared: &HouseShared<B>,
     stands: Vec<Stand<B>>,
     posts: Vec<Post<B>>,
-) -> (Staff<B, H>, Vec<ManuallyDrop<Left<B>>>)
-    requires lanes { H.lanes ≡ Some floor.now.office.lanes.items }
-    requires depot { H.depot ≡ Some (parts_of floor.now.depot) }
-    requires shards { floor.now.office.directory.shards ≡ length floor.now.office.lanes.items }
-    requires stands { AllAt (IsStand floor.now) 0 stands.items
-        × (vec_len stands ≡ length floor.now.office.lanes.items) }
-    requires posts { AllAt (IsPost floor.now) 0 posts.items }
-    ensures clerks { vec_len result.0.clerks ≡ length floor.now.office.lanes.items }
-    ensures rooms { AreRooms (length floor.now.office.lanes.items)
-        (length floor.now.depot.channels.items) result.0.rooms }
+) -> (ConsumerSet<B, H>, Vec<ManuallyDrop<Left<B>>>)
+    requires lanes { H.lanes ≡ Some shared.now.intake.lanes.items }
+    requires delivery { H.delivery ≡ Some (parts_of shared.now.delivery) }
+    requires shards { shared.now.intake.directory.shards ≡ length shared.now.intake.lanes.items }
+    requires stands { AllAt (IsStand shared.now) 0 stands.items
+        × (vec_len stands ≡ length shared.now.intake.lanes.items) }
+    requires posts { AllAt (IsPost shared.now) 0 posts.items }
+    ensures shared_consumers { vec_len result.0.shared_consumers
+        ≡ length shared.now.intake.lanes.items }
+    ensures rooms { AreRooms (length shared.now.intake.lanes.items)
+        (length shared.now.delivery.channels.items) result.0.rooms }
     ensures stands { result.0.stands.items ≡ [] }
     ensures left { All (λ l.
-        AreSomeones floor.now.office.lanes.items (manually_drop_value {X = Left B} l).ended.items)
+        AreSomeones shared.now.intake.lanes.items (manually_drop_value {X = Left B} l).ended.items)
         result.1.items }
     ensures count { vec_len result.1 ≡ vec_len posts }
 {
-    let alloc = floor.alloc;
-    let staff = Staff::<B, H>::with_room(alloc, floor.office.lanes.len()).expect(rt, "memory");
-    let staff = hire_all(floor, stands, staff);
+    let alloc = shared.alloc;
+    let consumer_set = ConsumerSet::<B, H>::with_room(alloc, shared.intake.lanes.len()).expect(
+        rt, "memory",
+    );
+    let consumer_set = make_all(shared, stands, consumer_set);
     let parcels = Vec::with_capacity(alloc, posts.len()).expect(rt, "memory");
-    let parcels = pack_all(floor, posts, parcels);
-    let left = work_all::<B, H, T>(rt, floor, &staff.clerks, parcels);
-    (staff, left)
+    let parcels = pack_all(shared, posts, parcels);
+    let left = work_all::<B, H, T>(rt, shared, &consumer_set.shared_consumers, parcels);
+    (consumer_set, left)
 }
 
-// What the clerks leave, each of whom stood in its place.
-fn dismiss<B: Naming, H: Hall, T: Wait + Abort>(
+// What the shared consumers leave, each of whom stood in its place.
+fn dismiss<B: Naming, H: LaneGroup, T: Wait + Abort>(
     rt: &T,
-    floor: &Floor<B>,
-    staff: Staff<B, H>,
+    shared: &HouseShared<B>,
+    consumer_set: ConsumerSet<B, H>,
     room: Vec<Consumed<B>>,
 ) -> Vec<Consumed<B>>
-    requires lanes { H.lanes ≡ Some floor.now.office.lanes.items }
-    requires depot { H.depot ≡ Some (parts_of floor.now.depot) }
-    requires clerks { vec_len staff.clerks ≡ length floor.now.office.lanes.items }
-    requires rooms { AreRooms (length floor.now.office.lanes.items)
-        (length floor.now.depot.channels.items) staff.rooms }
-    requires stands { staff.stands.items ≡ [] }
-    requires room { (room.items ≡ []) × (length floor.now.office.lanes.items ≤ vec_capacity room) }
-    ensures count { vec_len result ≡ length floor.now.office.lanes.items }
-    ensures permits { AreConsumers floor.now.office.lanes.items (map (λ c. c.permit) result.items) }
+    requires lanes { H.lanes ≡ Some shared.now.intake.lanes.items }
+    requires delivery { H.delivery ≡ Some (parts_of shared.now.delivery) }
+    requires shared_consumers { vec_len consumer_set.shared_consumers
+        ≡ length shared.now.intake.lanes.items }
+    requires rooms { AreRooms (length shared.now.intake.lanes.items)
+        (length shared.now.delivery.channels.items) consumer_set.rooms }
+    requires stands { consumer_set.stands.items ≡ [] }
+    requires room { (room.items ≡ []) × (length shared.now.intake.lanes.items ≤ vec_capacity room) }
+    ensures count { vec_len result ≡ length shared.now.intake.lanes.items }
+    ensures permits { AreConsumers shared.now.intake.lanes.items
+        (map (λ c. c.permit) result.items) }
 {
-    let Dismissed { consumed, in_order } = dismiss_all(rt, &Unhindered, floor, staff, room);
+    let Dismissed { consumed, in_order } = dismiss_all(rt, &Unhindered, shared, consumer_set, room);
     if !in_order {
         panic!(rt; "a clerk stood at another's position")
     }
@@ -433,62 +463,62 @@ fn dismiss<B: Naming, H: Hall, T: Wait + Abort>(
 
 // Closes the lanes and spends the channels. Whether all lanes could be closed, and the mailboxes.
 fn close_all<B: Naming>(
-    floor: Floor<B>,
+    shared: HouseShared<B>,
     lists: Vec<Vec<Ended<Letter<B>>>>,
     permits: Vec<ConsumerPermit<Letter<B>>>,
     closed: Vec<Closed<Letter<B>>>,
     hands: Vec<Vec<SenderEnded<Answer<B>>>>,
     receivers: Vec<ReceiverPermit<Answer<B>>>,
 ) -> (bool, Vec<Mutex<LockedMailbox<B>>>)
-    requires lists { EndedRows floor.office.lanes.items (map (λ v. v.items) lists.items) }
-    requires permits { AreConsumers floor.office.lanes.items permits.items }
+    requires lists { EndedRows shared.intake.lanes.items (map (λ v. v.items) lists.items) }
+    requires permits { AreConsumers shared.intake.lanes.items permits.items }
     requires closed { (closed.items ≡ [])
-        × (length floor.office.lanes.items ≤ vec_capacity closed) }
-    requires hands { vec_len hands ≤ length floor.depot.channels.items }
-    requires receivers { vec_len receivers ≡ length floor.depot.channels.items }
+        × (length shared.intake.lanes.items ≤ vec_capacity closed) }
+    requires hands { vec_len hands ≤ length shared.delivery.channels.items }
+    requires receivers { vec_len receivers ≡ length shared.delivery.channels.items }
 {
-    let Floor {
-        office,
-        depot,
+    let HouseShared {
+        intake,
+        delivery,
         bells: _,
         turns: _,
         alloc,
-    } = floor;
-    let Office {
+    } = shared;
+    let Intake {
         directory: _,
         host: _,
         max_message: _,
         budget: _,
         lanes,
         closings: _,
-    } = office;
-    let Depot {
+    } = intake;
+    let Delivery {
         mailboxes,
         channels,
         sessions: _,
         front: _,
-    } = depot;
+    } = delivery;
     let are_closed = close_lanes(alloc, lanes, lists, permits, closed).is_some();
     spend_channels(alloc, channels, hands, receivers);
     (are_closed, mailboxes)
 }
 
 // The whole round over a house that was opened.
-fn run_in<B: Naming + Send + Sync, H: Hall + Send, T: Threads + Wait + Sync + Abort>(
+fn run_in<B: Naming + Send + Sync, H: LaneGroup + Send, T: Threads + Wait + Sync + Abort>(
     rt: &T,
-    floor: Floor<B>,
+    shared: HouseShared<B>,
     crew: Crew<B>,
     baskets: Baskets<B>,
 ) -> Round
-    requires lanes { H.lanes ≡ Some floor.office.lanes.items }
-    requires depot { H.depot ≡ Some (parts_of floor.depot) }
-    requires shards { floor.office.directory.shards ≡ length floor.office.lanes.items }
-    requires few { length floor.office.lanes.items ≤ length floor.depot.channels.items }
-    requires crew { IsCrew floor (length floor.depot.channels.items) crew }
-    requires baskets { AreBaskets (length floor.depot.channels.items)
-        (length floor.office.lanes.items) baskets }
+    requires lanes { H.lanes ≡ Some shared.intake.lanes.items }
+    requires delivery { H.delivery ≡ Some (parts_of shared.delivery) }
+    requires shards { shared.intake.directory.shards ≡ length shared.intake.lanes.items }
+    requires few { length shared.intake.lanes.items ≤ length shared.delivery.channels.items }
+    requires crew { IsCrew shared (length shared.delivery.channels.items) crew }
+    requires baskets { AreBaskets (length shared.delivery.channels.items)
+        (length shared.intake.lanes.items) baskets }
 {
-    let alloc = floor.alloc;
+    let alloc = shared.alloc;
     let Crew {
         stands,
         posts,
@@ -515,11 +545,11 @@ fn run_in<B: Naming + Send + Sync, H: Hall + Send, T: Threads + Wait + Sync + Ab
     hands.destroy_empty();
     spend_lists(sender_lists);
     spares.spend();
-    let (staff, left) = work_off::<B, H, T>(rt, &floor, stands, posts);
-    let told = collect_all(&floor, left, &mut lists, &mut receivers);
-    let consumed = dismiss(rt, &floor, staff, consumed);
+    let (consumer_set, left) = work_off::<B, H, T>(rt, &shared, stands, posts);
+    let told = collect_all(&shared, left, &mut lists, &mut receivers);
+    let consumed = dismiss(rt, &shared, consumer_set, consumed);
     let permits = part(consumed, consumers, &mut sender_hands);
-    let (closed, mailboxes) = close_all(floor, lists, permits, lanes, sender_hands, receivers);
+    let (closed, mailboxes) = close_all(shared, lists, permits, lanes, sender_hands, receivers);
     let accepted = accepted_by_all(alloc, mailboxes).expect(rt, "memory");
     Round {
         closed,
@@ -593,12 +623,12 @@ fn round_in<B: Naming + Send + Sync, T: Threads + Wait + Sync + Abort + AllocGlo
     requires directory { directory.shards ≡ 2 }
 {
     let Opened {
-        floor,
+        shared,
         crew,
         baskets,
-        sleepers: _,
+        session_parkers: _,
     } = open::<B>(rt.alloc(), history, directory, sizes(&[]), &[])?;
-    Ok(run_in::<B, Brand, T>(rt, floor, crew, baskets))
+    Ok(run_in::<B, Brand, T>(rt, shared, crew, baskets))
 }
 
 #[test]
@@ -615,43 +645,51 @@ fn each_copy_is_stored_once_and_all_lanes_close(rt: HostRuntime) -> Result<(), F
     Ok(())
 }
 
-fn help_once<B: Naming, H: Hall, T: Wait>(
+fn help_once<B: Naming, H: LaneGroup, T: Wait>(
     rt: &T,
-    floor: &Floor<B>,
-    clerks: &[Mutex<Clerk<B, H>>],
+    shared: &HouseShared<B>,
+    shared_consumers: &[Mutex<SharedConsumer<B, H>>],
     shard: usize,
 )
-    requires lanes { H.lanes ≡ Some floor.now.office.lanes.items }
-    requires depot { H.depot ≡ Some (parts_of floor.now.depot) }
+    requires lanes { H.lanes ≡ Some shared.now.intake.lanes.items }
+    requires delivery { H.delivery ≡ Some (parts_of shared.now.delivery) }
 {
-    let help = Clerks::new(clerks, &floor.office.lanes, &floor.depot, &Unhindered, 8);
+    let help = SharedConsumers::new(
+        shared_consumers,
+        &shared.intake.lanes,
+        &shared.delivery,
+        &Unhindered,
+        8,
+    );
     help.help(rt, shard);
 }
 
 // Helps on so many shards from the first on, in a thread for each. How many threads there were.
-fn help_each<B: Naming + Send + Sync, H: Hall + Send, T: Threads + Wait + Sync>(
+fn help_each<B: Naming + Send + Sync, H: LaneGroup + Send, T: Threads + Wait + Sync>(
     rt: &T,
-    floor: &Floor<B>,
-    clerks: &[Mutex<Clerk<B, H>>],
+    shared: &HouseShared<B>,
+    shared_consumers: &[Mutex<SharedConsumer<B, H>>],
     shards: usize,
 ) -> usize
-    requires lanes { H.lanes ≡ Some floor.now.office.lanes.items }
-    requires depot { H.depot ≡ Some (parts_of floor.now.depot) }
+    requires lanes { H.lanes ≡ Some shared.now.intake.lanes.items }
+    requires delivery { H.delivery ≡ Some (parts_of shared.now.delivery) }
 {
     thread::scope(
         thread::scope_env(),
         rt,
         |scope| -> usize
-            requires { IsSend B.row × IsSync B.row × IsSync T.row × (H.lanes ≡ Some floor.now.office.lanes.items)
-                × (H.depot ≡ Some (parts_of floor.now.depot)) }
+            requires { IsSend B.row × IsSync B.row × IsSync T.row
+                × (H.lanes ≡ Some shared.now.intake.lanes.items)
+                × (H.delivery ≡ Some (parts_of shared.now.delivery)) }
         {
             let mut made = 0usize;
             for shard in 0..shards {
                 let started = scope.spawn(
                     move || -> ()
-                        requires { IsSend B.row × IsSync B.row × IsSync T.row × (H.lanes ≡ Some floor.now.office.lanes.items)
-                            × (H.depot ≡ Some (parts_of floor.now.depot)) }
-                    { help_once::<B, H, T>(rt, floor, clerks, shard) },
+                        requires { IsSend B.row × IsSync B.row × IsSync T.row
+                            × (H.lanes ≡ Some shared.now.intake.lanes.items)
+                            × (H.delivery ≡ Some (parts_of shared.now.delivery)) }
+                    { help_once::<B, H, T>(rt, shared, shared_consumers, shard) },
                 );
                 if started.is_ok() {
                     made = made.saturating_add(1);
@@ -662,34 +700,42 @@ fn help_each<B: Naming + Send + Sync, H: Hall + Send, T: Threads + Wait + Sync>(
     )
 }
 
-// Hires clerks who find nothing to do, and stands them down: the number of the last one's shard, and
+// Makes shared consumers who find nothing to do, and stands them down: the number of the last one's shard, and
 // how many stands there are again.
-fn idle_in<B: Naming + Send + Sync, H: Hall + Send, T: Threads + Wait + Sync + Abort>(
+fn idle_in<B: Naming + Send + Sync, H: LaneGroup + Send, T: Threads + Wait + Sync + Abort>(
     rt: &T,
-    floor: &Floor<B>,
+    shared: &HouseShared<B>,
     stands: Vec<Stand<B>>,
 ) -> (u8, Vec<Stand<B>>)
-    requires lanes { H.lanes ≡ Some floor.now.office.lanes.items }
-    requires depot { H.depot ≡ Some (parts_of floor.now.depot) }
-    requires some { 0 < length floor.now.office.lanes.items }
-    requires stands { AllAt (IsStand floor.now) 0 stands.items
-        × (vec_len stands ≡ length floor.now.office.lanes.items) }
+    requires lanes { H.lanes ≡ Some shared.now.intake.lanes.items }
+    requires delivery { H.delivery ≡ Some (parts_of shared.now.delivery) }
+    requires some { 0 < length shared.now.intake.lanes.items }
+    requires stands { AllAt (IsStand shared.now) 0 stands.items
+        × (vec_len stands ≡ length shared.now.intake.lanes.items) }
 {
-    let staff = Staff::<B, H>::with_room(floor.alloc, stands.len()).expect(rt, "memory");
-    let staff = hire_all(floor, stands, staff);
+    let consumer_set = ConsumerSet::<B, H>::with_room(shared.alloc, stands.len()).expect(
+        rt, "memory",
+    );
+    let consumer_set = make_all(shared, stands, consumer_set);
     // The third shard isn't there.
-    let threads = help_each(rt, floor, &staff.clerks, 3);
+    let threads = help_each(rt, shared, &consumer_set.shared_consumers, 3);
     assert!(rt; threads == 3);
-    let shard = shard_behind(rt, &staff.clerks[staff.clerks.len() - 1]);
-    (shard, stand_down(floor, staff))
+    let shard = shard_behind(
+        rt,
+        &consumer_set.shared_consumers[consumer_set.shared_consumers.len() - 1],
+    );
+    (shard, stand_down(shared, consumer_set))
 }
 
-fn shard_behind<B: Naming, H: Hall, T: Wait>(rt: &T, lock: &Mutex<Clerk<B, H>>) -> u8 {
-    let clerk = lock.lock(rt);
-    clerk.shard()
+fn shard_behind<B: Naming, H: LaneGroup, T: Wait>(
+    rt: &T,
+    lock: &Mutex<SharedConsumer<B, H>>,
+) -> u8 {
+    let shared_consumer = lock.lock(rt);
+    shared_consumer.shard()
 }
 
-// The number of the last clerk's shard, and how many stands there are, in a house whose history was just opened, after nothing was done there.
+// The number of the last shared consumer's shard, and how many stands there are, in a house whose history was just opened, after nothing was done there.
 fn idle_once<B: Naming + Send + Sync, T: Threads + Wait + Sync + Abort + AllocGlobal>(
     rt: &T,
     history: house_history::Opened,
@@ -699,10 +745,10 @@ fn idle_once<B: Naming + Send + Sync, T: Threads + Wait + Sync + Abort + AllocGl
     requires directory { directory.shards ≡ 2 }
 {
     let Opened {
-        floor,
+        shared,
         crew,
         baskets,
-        sleepers: _,
+        session_parkers: _,
     } = open::<B>(rt.alloc(), history, directory, sizes(&[]), &[])?;
     let Crew {
         stands,
@@ -711,10 +757,10 @@ fn idle_once<B: Naming + Send + Sync, T: Threads + Wait + Sync + Abort + AllocGl
         worked,
         unmanned,
     } = crew;
-    let (shard, stands) = idle_in::<B, Brand, T>(rt, &floor, stands);
+    let (shard, stands) = idle_in::<B, Brand, T>(rt, &shared, stands);
     let count = stands.len();
     // A house whose permits haven't ended can't be closed, and is left where it is.
-    let _floor = packed(floor);
+    let _shared = packed(shared);
     let _baskets = packed(baskets);
     let _stands = packed(stands);
     let _posts = packed(posts);
@@ -723,7 +769,7 @@ fn idle_once<B: Naming + Send + Sync, T: Threads + Wait + Sync + Abort + AllocGl
 }
 
 #[test]
-fn clerks_with_nothing_to_do_are_stood_down(rt: HostRuntime) -> Result<(), Fail> {
+fn shared_consumers_with_nothing_to_do_are_stood_down(rt: HostRuntime) -> Result<(), Fail> {
     let alloc = rt.alloc();
     let directory = directory(alloc)?;
     let history = house_history::Opened::new();

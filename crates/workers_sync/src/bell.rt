@@ -7,7 +7,7 @@ use std::sync::{Arc, Wait};
 
 /// A session's own end of its bell, on which one thread sleeps.
 #[derive(Drop)]
-pub struct Sleeper {
+pub struct SessionParker {
     parker: Parker,
     // Whether the session idles, for those who ring: to wake a thread costs more than to deliver a message.
     idles: Arc<AtomicBool>,
@@ -20,10 +20,10 @@ pub struct SessionBell {
     idles: Arc<AtomicBool>,
 }
 
-impl Sleeper {
+impl SessionParker {
     /// A new bell, of a session that doesn't idle. An error where memory is refused.
-    pub fn new(alloc: Global) -> Result<Sleeper, AllocError> {
-        Ok(Sleeper {
+    pub fn new(alloc: Global) -> Result<SessionParker, AllocError> {
+        Ok(SessionParker {
             parker: Parker::new(alloc)?,
             idles: Arc::new(alloc, AtomicBool::new(false))?,
         })
@@ -50,14 +50,14 @@ impl Sleeper {
 }
 
 impl SessionBell {
-    /// For whoever logged a change: wakes the sleeper where its session idles.
+    /// For whoever logged a change: wakes the parker where its session idles.
     pub fn ring(&self) {
         if self.idles.load(Ordering::SeqCst) {
             self.unparker.unpark();
         }
     }
 
-    /// Wakes the sleeper, whatever its session does.
+    /// Wakes the parker, whatever its session does.
     pub fn wake(&self) {
         self.unparker.unpark();
     }

@@ -5,7 +5,7 @@
 ghost use Rattle.std.specs.Prelude.{◌≡◌, ◌∷◌, ◌++◌, [], List, IfOk};
 ghost use Rattle.workers_sync.specs.Carried.{Carried};
 
-use crate::pace::{Gate, Pace};
+use crate::sync_point::{Gate, SyncPoint};
 use change_ring::Flags;
 use delivery_token::{Text, Verdict};
 use std::alloc::AllocError;
@@ -46,7 +46,7 @@ pub trait Courier {
     /// Errors: see `Lost`.
     fn carry<G: Gate>(
         &mut self,
-        pace: &mut Pace<'_, G>,
+        sync_point: &mut SyncPoint<'_, G>,
         message: u32,
         mailbox: u8,
         text: &Text,

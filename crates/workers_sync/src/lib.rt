@@ -6,19 +6,19 @@
 mod bell;
 mod calls;
 mod courier;
-mod grip;
 mod listening;
-mod pace;
 mod parting;
+mod shutdown_handle;
+mod sync_point;
 mod timely;
 mod waiting;
 
-pub use bell::{SessionBell, Sleeper, ring_each};
+pub use bell::{SessionBell, SessionParker, ring_each};
 pub use calls::{alter, count, deliver, discard, enter, expunge, feed, leave, read, view};
 pub use courier::{Courier, Lost};
-pub use grip::Grip;
 pub use listening::Listening;
-pub use pace::{Actor, Gate, Pace};
 pub use parting::{Patience, farewell, prepare};
+pub use shutdown_handle::ShutdownHandle;
+pub use sync_point::{Actor, Gate, SyncPoint};
 pub use timely::Timely;
 pub use waiting::Pause;

@@ -1,11 +1,11 @@
 -- What bodies and proofs say besides: what each thread of a house leaves.
 use Rattle.std.specs.Prelude.{◌≡◌, ℕ, List, Some, length, map}
 use Rattle.std.specs.Mem.{manually_drop_value}
-use Rattle.house_floor.specs.declared.floor.Floor.{Floor}
-use Rattle.house_floor.specs.declared.floor.Guest.{Guest}
+use Rattle.house_shared.specs.declared.shared.HouseShared.{HouseShared}
+use Rattle.house_shared.specs.declared.shared.Guest.{Guest}
 use Rattle.house_threads.specs.declared.producers.Produces.{Produces}
-use Rattle.house_threads.specs.declared.producers.Hired.{Hired}
-use Rattle.house_threads.specs.declared.producers.Hired.TheVariants.{There, Here}
+use Rattle.house_threads.specs.declared.producers.Spawned.{Spawned}
+use Rattle.house_threads.specs.declared.producers.Spawned.TheVariants.{There, Here}
 use Rattle.house_threads.specs.declared.consumers.Serves.{Serves}
 use Rattle.house_threads.specs.declared.consumers.Kept.{Kept}
 use Rattle.house_threads.specs.declared.consumers.Kept.TheVariants as kept
@@ -25,43 +25,43 @@ use Rattle.lane_work.specs.Speaking.{premises_of}
 use Rattle.shard_queue.specs.declared.ends.ReplyChannel.{ReplyChannel}
 use Rattle.shard_queue.specs.Reply.{IsReceiver, received}
 use Rattle.shard_queue.specs.Permits.{said}
-use Rattle.house_floor.specs.Left.{Plans, IsServiceOf, most_of}
+use Rattle.house_shared.specs.Left.{Plans, IsServiceOf, most_of}
 use Rattle.reckoning.specs.Produced.{IsProduceOf, SessionAccount}
 
 -- ---- promises
 
 -- this promise is producer n's, consumer n's
-abbrev pub IsProduces : {B : Type 0} → Floor B → Plans → List Guest → ℕ → Produces B → Type 0
-IsProduces floor plans guests n p = (p.floor.now ≡ floor) × (p.plans.now ≡ plans) × (p.guests.now ≡ guests) × (p.number ≡ n)
+abbrev pub IsProduces : {B : Type 0} → HouseShared B → Plans → List Guest → ℕ → Produces B → Type 0
+IsProduces shared plans guests n p = (p.shared.now ≡ shared) × (p.plans.now ≡ plans) × (p.guests.now ≡ guests) × (p.number ≡ n)
 
-abbrev pub IsServes : {B : Type 0} → Floor B → ℕ → Serves B → Type 0
-IsServes floor n p = (p.floor.now ≡ floor) × (p.shard ≡ n)
+abbrev pub IsServes : {B : Type 0} → HouseShared B → ℕ → Serves B → Type 0
+IsServes shared n p = (p.shared.now ≡ shared) × (p.shard ≡ n)
 
 -- its thread will leave what producer n is to leave, or that is there
-abbrev pub IsHired : {B : Type 0} → Floor B → Plans → List Guest → ℕ → Hired B → Type 0
-IsHired floor plans guests n (There h) = IsProduces floor plans guests n h.promise
-IsHired floor plans guests n (Here w) = IsProduceOf floor plans guests n (manually_drop_value w)
+abbrev pub IsSpawned : {B : Type 0} → HouseShared B → Plans → List Guest → ℕ → Spawned B → Type 0
+IsSpawned shared plans guests n (There h) = IsProduces shared plans guests n h.promise
+IsSpawned shared plans guests n (Here w) = IsProduceOf shared plans guests n (manually_drop_value w)
 
-abbrev pub IsKept : {B : Type 0} → Floor B → ℕ → Kept B → Type 0
-IsKept floor n (kept.There h) = IsServes floor n h.promise
-IsKept floor n (kept.Here c) = IsServiceOf floor n (manually_drop_value c)
+abbrev pub IsKept : {B : Type 0} → HouseShared B → ℕ → Kept B → Type 0
+IsKept shared n (kept.There h) = IsServes shared n h.promise
+IsKept shared n (kept.Here c) = IsServiceOf shared n (manually_drop_value c)
 
 -- ---- a session
 
 -- the session that had this selection, of a user with this name, lived through these steps, and said this
-pub record HasLived {B : Type 0} (floor : Floor B) (user : List ℕ) (selection : LockedStore) (guest : Guest) (carried : List Carried)
+pub record HasLived {B : Type 0} (shared : HouseShared B) (user : List ℕ) (selection : LockedStore) (guest : Guest) (carried : List Carried)
     (text : List ℕ) : Type 0 where
   pub last : Moment
-  pub lives : Lives floor.turns (greeted_at (Some (most_of floor.office.max_message)) (folders_of floor.office.directory user) selection
+  pub lives : Lives shared.turns (greeted_at (Some (most_of shared.intake.max_message)) (folders_of shared.intake.directory user) selection
       (greeting Standard)) guest.steps.items carried last
   pub wrote : text ≡ last.text
 
 -- What a session leaves: its ended permits are its own on each lane, its receiver is of its channel, and where it made all its steps, it heard as
 -- many verdicts as it put copies, this is its account of them, and the history has what it put and heard.
-abbrev pub IsAttended : {B : Type 0} → Floor B → ReplyChannel Noted → ℕ → Guest → Worked B → Type 0
-IsAttended floor channel seat guest w =
-    AreEnded floor.office.lanes.items seat w.ended.items × IsReceiver channel w.receiver × (w.log.seat ≡ seat)
+abbrev pub IsAttended : {B : Type 0} → HouseShared B → ReplyChannel Noted → ℕ → Guest → Worked B → Type 0
+IsAttended shared channel seat guest w =
+    AreEnded shared.intake.lanes.items seat w.ended.items × IsReceiver channel w.receiver × (w.log.seat ≡ seat)
     × (w.fate ≡ Whole → verdicts_in (received w.receiver) ≡ copies_in (map said w.ended.items))
-    × (w.fate ≡ Whole → SessionAccount (premises_of floor.office) (length floor.depot.mailboxes.items) floor.turns seat guest
+    × (w.fate ≡ Whole → SessionAccount (premises_of shared.intake) (length shared.delivery.mailboxes.items) shared.turns seat guest
     (map (λ b. b.items) w.replies.items) w.log.notes (received w.receiver) (map said w.ended.items))
     × (w.fate ≡ Whole → IsBackedBy seat w.dispatch (received w.receiver) (map said w.ended.items))

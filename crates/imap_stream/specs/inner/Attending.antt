@@ -1,8 +1,8 @@
--- What bodies and proofs say besides of a berth and its client: how far it has come.
+-- What bodies and proofs say besides of a client slot and its client: how far it has come.
 use Rattle.std.specs.Prelude.{ℕ, List, ◌++◌, Option}
 use Rattle.std.specs.Io.KnownBytes.{Consumes}
 use Rattle.imap_stream.specs.Attending.{Calls, Ends}
-use Rattle.imap_stream.specs.declared.berth.Parting.{Parting}
+use Rattle.imap_stream.specs.declared.client_slot.Parting.{Parting}
 use Rattle.imap_stream.specs.Visits.{Visit}
 
 -- Calls were made by which all that the input brought was heard.

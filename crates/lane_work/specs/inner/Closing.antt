@@ -4,7 +4,7 @@ use Rattle.std.specs.List.{list_any}
 use Rattle.envelope.specs.Directory.{Directory, is_shut, marked}
 use Rattle.lane_work.specs.declared.desk.Closing.{Closing}
 use Rattle.lane_work.specs.declared.desk.Desk.{Desk}
-use Rattle.lane_work.specs.declared.desk.Office.{Office}
+use Rattle.lane_work.specs.declared.desk.Intake.{Intake}
 use Rattle.lane_work.specs.Permits.{put_by}
 
 -- the shard is closed just before this connection
@@ -17,8 +17,8 @@ Marks connection closings old new = (new ≡ marked new.shut old) × (length new
     × ((shard : ℕ) → shard < old.shards → is_shut new shard ≡ (is_shut old shard || list_any (is_closed_at connection shard) closings))
 
 -- what the worker of this number closes
-abbrev pub closings_at : {B : Type 0} → Office B → ℕ → List Closing
-closings_at office number = slice_index_or (map (λ c. c.items) office.closings.items) number []
+abbrev pub closings_at : {B : Type 0} → Intake B → ℕ → List Closing
+closings_at intake number = slice_index_or (map (λ c. c.items) intake.closings.items) number []
 
 -- nothing is put, and nothing is changed but which permits are over
 abbrev pub KeepsDesk : {B : Type 0} → Desk B → Desk B → Type 0

@@ -8,14 +8,14 @@ use Rattle.lane_work.specs.Account.{AreBooksOf}
 use Rattle.lane_work.specs.Copies.{rooms_of}
 use Rattle.lane_work.specs.Permits.{put_by}
 use Rattle.lane_work.specs.declared.desk.Desk.{Desk}
-use Rattle.lane_work.specs.declared.desk.Office.{Office}
+use Rattle.lane_work.specs.declared.desk.Intake.{Intake}
 
 -- Between these two moments the desk carried these messages of this session, and no others: whatever copies its books told of before, they tell of
 -- these behind them, and of the verdicts on them. What is noted besides isn't asked.
-abbrev pub CarriesOn : {B : Type 0} → Office B → ℕ → Desk B → List Carried → Desk B → Type 0
-CarriesOn office serial old carried new =
+abbrev pub CarriesOn : {B : Type 0} → Intake B → ℕ → Desk B → List Carried → Desk B → Type 0
+CarriesOn intake serial old carried new =
     (copies : List (Job × Verdict))
-    → AreBooksOf office.directory (rooms_of office.lanes.items) old.number copies (λ told. Unit {0}) (received old.receiver)
+    → AreBooksOf intake.directory (rooms_of intake.lanes.items) old.number copies (λ told. Unit {0}) (received old.receiver)
     (map put_by old.permits.items)
-    → AreBooksOf office.directory (rooms_of office.lanes.items) old.number (copies ++ map (judged_of old.number serial) carried) (λ told. Unit {0})
+    → AreBooksOf intake.directory (rooms_of intake.lanes.items) old.number (copies ++ map (judged_of old.number serial) carried) (λ told. Unit {0})
     (received new.receiver) (map put_by new.permits.items)

@@ -1,4 +1,4 @@
--- Behind which copies of a message its consumers are summoned; nobody has to believe this file.
+-- Behind which copies of a message its consumers are notified; nobody has to believe this file.
 use Rattle.std.specs.Prelude.{ℕ, Bool, ◌==◌, not, List}
 use Rattle.std.specs.List.{list_all}
 use Rattle.envelope.specs.Directory.{Directory, shard_of}

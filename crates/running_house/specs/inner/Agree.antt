@@ -6,9 +6,9 @@ use Rattle.shard_queue.specs.Reply.{senders_of}
 use Rattle.shard_queue.specs.Permits.{capacity_of, history, producers_of}
 use Rattle.lane_work.specs.Speaking.{premises_of}
 use Rattle.mailbox.specs.declared.history.History.TheVariants.{Kept}
-use Rattle.house_floor.specs.Crew.{IsHouse}
-use Rattle.house_floor.specs.declared.floor.Floor.{Floor}
-use Rattle.house_floor.specs.declared.opening.Sizes.{Sizes}
+use Rattle.house_shared.specs.Crew.{IsHouse}
+use Rattle.house_shared.specs.declared.shared.HouseShared.{HouseShared}
+use Rattle.house_shared.specs.declared.opening.Sizes.{Sizes}
 use Rattle.reckoning.specs.Shelves.{AreNumbered, AreToldOnce}
 use Rattle.running_house.specs.inner.Begun.{begins_at}
 use Rattle.running_house.specs.Plan.{premises_for, producers_in}
@@ -29,14 +29,14 @@ pub record AreSizesFor (plan : Plan) (sizes : Sizes) : Type 0 where
   pub turns : sizes.turns ≡ plan.turns
   pub closings : map (λ c. c.items) sizes.closings.now ≡ map (λ c. c.items) plan.closings.items
 
--- this is the floor of this plan's house
-pub record IsFloorFor {B : Type 0} (plan : Plan) (floor : Floor B) : Type 0 where
-  pub house : IsHouse floor (producers_in plan)
-  pub premises : premises_of floor.office ≡ premises_for plan
-  pub mailboxes : length floor.depot.mailboxes.items ≡ length (premises_for plan).directory.homes
-  pub turns : floor.turns ≡ plan.turns
-  pub lanes : All (λ q. (capacity_of q ≡ plan.config.depth) × (producers_of q ≡ producers_in plan)) floor.office.lanes.items
-  pub channels : All (λ c. senders_of c ≡ plan.config.shards) floor.depot.channels.items
+-- this is the shared state of this plan's house
+pub record IsHouseSharedFor {B : Type 0} (plan : Plan) (shared : HouseShared B) : Type 0 where
+  pub house : IsHouse shared (producers_in plan)
+  pub premises : premises_of shared.intake ≡ premises_for plan
+  pub mailboxes : length shared.delivery.mailboxes.items ≡ length (premises_for plan).directory.homes
+  pub turns : shared.turns ≡ plan.turns
+  pub lanes : All (λ q. (capacity_of q ≡ plan.config.depth) × (producers_of q ≡ producers_in plan)) shared.intake.lanes.items
+  pub channels : All (λ c. senders_of c ≡ plan.config.shards) shared.delivery.channels.items
 
 -- ---- what the sessions said
 

@@ -9,7 +9,7 @@ use Rattle.lane_work.specs.Permits.{AreEnded}
 use Rattle.lane_work.specs.declared.worker.Fate.{Fate}
 use Rattle.lane_work.specs.declared.worker.Fate.TheVariants.{Whole, NotBegun, NoMemory, Torn}
 use Rattle.lane_work.specs.declared.worker.Worked.{Worked}
-use Rattle.house_floor.specs.declared.floor.Floor.{Floor}
+use Rattle.house_shared.specs.declared.shared.HouseShared.{HouseShared}
 
 abbrev pub is_whole : Fate → Bool
 is_whole Whole = true
@@ -19,7 +19,7 @@ is_whole Torn = false
 
 -- What producer n leaves once it has heard the end of each shard: the same; and where it heard these ends alone, the history has what it put and
 -- heard.
-pub record HasHeard {B : Type 0} (floor : Floor B) (n : ℕ) (w : Worked B) : Type 0 where
-  pub ended : AreEnded floor.office.lanes.items n w.ended.items
-  pub receiver : (channel : ReplyChannel Noted) → slice_get floor.depot.channels.items n ≡ Some channel → IsReceiver channel w.receiver
+pub record HasHeard {B : Type 0} (shared : HouseShared B) (n : ℕ) (w : Worked B) : Type 0 where
+  pub ended : AreEnded shared.intake.lanes.items n w.ended.items
+  pub receiver : (channel : ReplyChannel Noted) → slice_get shared.delivery.channels.items n ≡ Some channel → IsReceiver channel w.receiver
   pub backed : is_whole w.fate ≡ true → IsBackedBy n w.dispatch (received w.receiver) (map said w.ended.items)

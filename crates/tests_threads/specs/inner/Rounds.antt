@@ -4,13 +4,13 @@ use Rattle.delivery_token.specs.declared.Job.{Job}
 use Rattle.shard_queue.specs.declared.queue.Ended.{Ended}
 use Rattle.shard_queue.specs.declared.queue.ShardQueue.{ShardQueue}
 use Rattle.lane_work.specs.Permits.{AreEnded}
-use Rattle.house_floor.specs.Crew.{IsPost}
-use Rattle.house_floor.specs.declared.floor.Floor.{Floor}
-use Rattle.house_floor.specs.declared.floor.Post.{Post}
+use Rattle.house_shared.specs.Crew.{IsPost}
+use Rattle.house_shared.specs.declared.shared.HouseShared.{HouseShared}
+use Rattle.house_shared.specs.declared.shared.Post.{Post}
 
 -- the post of the worker whose number stands there
-pub record IsOwnPost {B : Type 0} (floor : Floor B) (post : Post B) : Type 0 where
-  pub is : IsPost floor post.desk.number post
+pub record IsOwnPost {B : Type 0} (shared : HouseShared B) (post : Post B) : Type 0 where
+  pub is : IsPost shared post.desk.number post
 
 -- one producer's ended permits, one on each lane
 pub record AreSomeones (lanes : List (ShardQueue Job)) (ended : List (Ended Job)) : Type 0 where

@@ -9,9 +9,9 @@ use Rattle.house_threads.proofs.aside.step_aside.Goals as goal
 
 pub returns : goal.returns
 returns g c lane is =
-    let depot = c.args.depot.now in
-    let channels = depot.channels.items in
-    let mailboxes = length depot.mailboxes.items in
+    let delivery = c.args.delivery.now in
+    let channels = delivery.channels.items in
+    let mailboxes = length delivery.mailboxes.items in
     let shard = c.args.stand.stall.shard in
     let senders = c.args.stand.stall.senders.items in
     let ended = c.end_senders-senders.result.items in

@@ -1,12 +1,12 @@
 use Rattle.std.proofs.Common.{◌≡◌, ◌≤◌, ◌+◌, vec_len, vec_capacity}
 use Rattle.std.specs.Vec.Iter.{into_iter_items, into_iter_len}
-use Rattle.house_floor.specs.Crew.{AllAt}
-use Rattle.house_floor.specs.Left.{IsServiceOf}
+use Rattle.house_shared.specs.Crew.{AllAt}
+use Rattle.house_shared.specs.Left.{IsServiceOf}
 use Rattle.house_threads.specs.inner.Crew.{IsKept}
 use Rattle.house_threads.proofs.consumers.join_consumers.Given as goal
 
 abbrev pub invariant-loop-one : goal.invariant-loop-one
 invariant-loop-one g l =
-    AllAt (IsKept l.floor) (vec_len l.consumed) (into_iter_items l.one-iterator)
+    AllAt (IsKept l.shared) (vec_len l.consumed) (into_iter_items l.one-iterator)
     × (into_iter_len l.one-iterator + vec_len l.consumed ≡ vec_len l.fn.kept) × (vec_len l.fn.kept ≤ vec_capacity l.consumed)
-    × AllAt (IsServiceOf l.floor) 0 l.consumed.items
+    × AllAt (IsServiceOf l.shared) 0 l.consumed.items

@@ -1,10 +1,10 @@
 use Rattle.std.proofs.Common.{◌≡◌, ◌≤◌, ◌+◌, length, vec_len, vec_capacity}
-use Rattle.house_floor.specs.Crew.{AllAt, IsStand}
+use Rattle.house_shared.specs.Crew.{AllAt, IsStand}
 use Rattle.house_threads.specs.inner.Crew.{IsKept}
 use Rattle.house_threads.proofs.consumers.start_consumers.Given as goal
 
 abbrev pub invariant-loop-position : goal.invariant-loop-position
 invariant-loop-position g l =
-    AllAt (IsStand l.floor) l.position l.stands.items × (vec_len l.stands + l.position ≡ length l.floor.office.lanes.items)
-    × AllAt (IsKept l.floor) 0 l.kept.items × (vec_len l.kept ≡ l.position) × (length l.floor.office.lanes.items ≤ vec_capacity l.kept)
-    × (l.first ≤ length l.floor.office.lanes.items)
+    AllAt (IsStand l.shared) l.position l.stands.items × (vec_len l.stands + l.position ≡ length l.shared.intake.lanes.items)
+    × AllAt (IsKept l.shared) 0 l.kept.items × (vec_len l.kept ≡ l.position) × (length l.shared.intake.lanes.items ≤ vec_capacity l.kept)
+    × (l.first ≤ length l.shared.intake.lanes.items)

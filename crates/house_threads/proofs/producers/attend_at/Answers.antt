@@ -7,10 +7,10 @@ use Rattle.house_threads.proofs.producers.attend_at.Goals as goal
 
 pub returns : goal.returns
 returns g c =
-    let floor = c.args.floor.now in
+    let shared = c.args.shared.now in
     let guest = c.index-guests-session.result in
     let one : c.from.result ≡ c.args.number = search rules in
     let same : c.from-2.result ≡ c.args.number = search rules in
-    attended_of floor c.args.plans.now c.args.guests.now c.from-2.result c.args.number (c.from.result - length c.args.plans.now) c.args.post.desk.number c.index-channel.result.now guest c.attend.result
+    attended_of shared c.args.plans.now c.args.guests.now c.from-2.result c.args.number (c.from.result - length c.args.plans.now) c.args.post.desk.number c.index-channel.result.now guest c.attend.result
     same c.requires.behind (omega (arith, one, c.requires.behind)) c.requires.post.number c.index-guests-session.is
-    (subst (λ (x : ReplyChannel Noted). IsAttended floor x c.args.post.desk.number guest c.attend.result) c.index-channel.ensures c.attend.ensures)
+    (subst (λ (x : ReplyChannel Noted). IsAttended shared x c.args.post.desk.number guest c.attend.result) c.index-channel.ensures c.attend.ensures)

@@ -1,21 +1,21 @@
 use Rattle.std.proofs.Common.{rules, ◌≡◌, ◌∷◌, sym, subst, vec_len, arith}
 use Rattle.std.specs.Vec.Iter.{into_iter_items}
-use Rattle.house_floor.specs.Crew.{AllAt}
+use Rattle.house_shared.specs.Crew.{AllAt}
 use Rattle.reckoning.specs.Produced.{IsProduceOf}
-use Rattle.house_threads.specs.inner.Crew.{IsHired}
-use Rattle.house_floor.proofs.Positions.{head_at, more_at}
+use Rattle.house_threads.specs.inner.Crew.{IsSpawned}
+use Rattle.house_shared.proofs.Positions.{head_at, more_at}
 use Rattle.house_threads.proofs.producers.join_producers.Goals as goal
 
 pub loop-one-preserved : goal.loop-one-preserved
 loop-one-preserved g c =
     let v = c.loop-one.invariant in
-    let floor = c.args.floor.now in
+    let shared = c.args.shared.now in
     let plans = c.args.plans.now in
     let guests = c.args.guests.now in
     let first : into_iter_items c.loop-one.one-iterator ≡ c.in-Some.one ∷ into_iter_items c.next.new.self = search rules in
-    let f = head_at (IsHired floor plans guests) (vec_len c.loop-one.worked) (into_iter_items c.loop-one.one-iterator) (into_iter_items c.next.new.self) c.in-Some.one first v.0 in (
-      subst (λ n. AllAt (IsHired floor plans guests) n (into_iter_items c.next.new.self)) (sym c.push_reserved.ensures.len) f.1,
+    let f = head_at (IsSpawned shared plans guests) (vec_len c.loop-one.worked) (into_iter_items c.loop-one.one-iterator) (into_iter_items c.next.new.self) c.in-Some.one first v.0 in (
+      subst (λ n. AllAt (IsSpawned shared plans guests) n (into_iter_items c.next.new.self)) (sym c.push_reserved.ensures.len) f.1,
       search rules,
       search rules,
-      more_at (IsProduceOf floor plans guests) 0 c.loop-one.worked.items c.push_reserved.new.self.items c.join_producer.result (vec_len c.loop-one.worked) c.push_reserved.ensures.items v.3 (omega (arith, c.loop-one.worked.ok.0)) (c.join_producer.ensures (vec_len c.loop-one.worked) f.0),
+      more_at (IsProduceOf shared plans guests) 0 c.loop-one.worked.items c.push_reserved.new.self.items c.join_producer.result (vec_len c.loop-one.worked) c.push_reserved.ensures.items v.3 (omega (arith, c.loop-one.worked.ok.0)) (c.join_producer.ensures (vec_len c.loop-one.worked) f.0),
     )

@@ -1,12 +1,12 @@
 use Rattle.std.proofs.Common.{◌≡◌, ◌≤◌, ◌+◌, vec_len, vec_capacity}
 use Rattle.std.specs.Vec.Iter.{into_iter_items, into_iter_len}
-use Rattle.house_floor.specs.Crew.{AllAt}
+use Rattle.house_shared.specs.Crew.{AllAt}
 use Rattle.reckoning.specs.Produced.{IsProduceOf}
-use Rattle.house_threads.specs.inner.Crew.{IsHired}
+use Rattle.house_threads.specs.inner.Crew.{IsSpawned}
 use Rattle.house_threads.proofs.producers.join_producers.Given as goal
 
 abbrev pub invariant-loop-one : goal.invariant-loop-one
 invariant-loop-one g l =
-    AllAt (IsHired l.floor l.plans l.guests) (vec_len l.worked) (into_iter_items l.one-iterator)
-    × (into_iter_len l.one-iterator + vec_len l.worked ≡ vec_len l.fn.hired) × (vec_len l.fn.hired ≤ vec_capacity l.worked)
-    × AllAt (IsProduceOf l.floor l.plans l.guests) 0 l.worked.items
+    AllAt (IsSpawned l.shared l.plans l.guests) (vec_len l.worked) (into_iter_items l.one-iterator)
+    × (into_iter_len l.one-iterator + vec_len l.worked ≡ vec_len l.fn.spawned) × (vec_len l.fn.spawned ≤ vec_capacity l.worked)
+    × AllAt (IsProduceOf l.shared l.plans l.guests) 0 l.worked.items

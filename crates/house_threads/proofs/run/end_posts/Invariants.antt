@@ -1,10 +1,10 @@
 use Rattle.std.proofs.Common.{◌≡◌, ◌≤◌, ◌+◌, All, length, vec_len, vec_capacity}
-use Rattle.house_floor.specs.Crew.{AllAt, IsPost}
-use Rattle.house_floor.specs.Left.{IsPostLeft}
+use Rattle.house_shared.specs.Crew.{AllAt, IsPost}
+use Rattle.house_shared.specs.Left.{IsPostLeft}
 use Rattle.house_threads.proofs.run.end_posts.Given as goal
 
 abbrev pub invariant-loop-done : goal.invariant-loop-done
 invariant-loop-done g l =
-    AllAt (IsPost l.floor) l.done l.posts.items × (vec_len l.posts + l.done ≡ vec_len l.fn.posts)
+    AllAt (IsPost l.shared) l.done l.posts.items × (vec_len l.posts + l.done ≡ vec_len l.fn.posts)
     × (vec_len l.unmanned ≡ l.done) × (vec_len l.fn.posts ≤ vec_capacity l.unmanned)
-    × All (IsPostLeft (length l.floor.office.lanes.items)) l.unmanned.items
+    × All (IsPostLeft (length l.shared.intake.lanes.items)) l.unmanned.items

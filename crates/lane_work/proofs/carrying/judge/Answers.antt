@@ -21,7 +21,7 @@ use Rattle.lane_work.proofs.carrying.judge.Goals as goal
 
 pub returns-in-Some-clause-judged : goal.returns-in-Some-clause-judged
 returns-in-Some-clause-judged g c =
-    let lanes = c.args.context.now.office.now.lanes.items in
+    let lanes = c.args.context.now.intake.now.lanes.items in
     let before = c.args.desk.now.permits.items in
     let after = c.put_copy.new.desk.permits.items in
     let n = permits_length lanes c.args.desk.now.number before c.requires.permits in
@@ -29,12 +29,12 @@ returns-in-Some-clause-judged g c =
     let a = length-map after put_by in
     let s = overs_length after before c.put_copy.ensures.same.3 in
     let w = c.put_copy.ensures.within in
-    judged_at_once c.args.context.now.office.now.directory (rooms_of lanes) c.args.desk.now.number (record { key = c.args.key; mailbox = c.args.mailbox; text = c.args.text.now; flags = c.args.flags }) c.put_copy.result c.in-Some.verdict
-    (received c.put_copy.new.desk.receiver) (map put_by before) (map put_by after) (omega (arith, n, b, w)) (omega (arith, a, b, s)) c.in-Some.is (c.put_copy.ensures.put (live_at before (shard_of c.args.context.now.office.now.directory c.args.mailbox) c.requires.live))
+    judged_at_once c.args.context.now.intake.now.directory (rooms_of lanes) c.args.desk.now.number (record { key = c.args.key; mailbox = c.args.mailbox; text = c.args.text.now; flags = c.args.flags }) c.put_copy.result c.in-Some.verdict
+    (received c.put_copy.new.desk.receiver) (map put_by before) (map put_by after) (omega (arith, n, b, w)) (omega (arith, a, b, s)) c.in-Some.is (c.put_copy.ensures.put (live_at before (shard_of c.args.context.now.intake.now.directory c.args.mailbox) c.requires.live))
 
 pub returns-in-None-clause-judged : goal.returns-in-None-clause-judged
 returns-in-None-clause-judged g c =
-    let lanes = c.args.context.now.office.now.lanes.items in
+    let lanes = c.args.context.now.intake.now.lanes.items in
     let before = c.args.desk.now.permits.items in
     let after = c.put_copy.new.desk.permits.items in
     let n = permits_length lanes c.args.desk.now.number before c.requires.permits in
@@ -42,9 +42,9 @@ returns-in-None-clause-judged g c =
     let a = length-map after put_by in
     let s = overs_length after before c.put_copy.ensures.same.3 in
     let w = c.put_copy.ensures.within in
-    subst (λ (v : Vec (LanePermit Job) Global). IfOk c.hear_one.result (λ verdict. WasJudged c.args.context.now.office.now.directory (rooms_of lanes) c.args.desk.now.number (record { key = c.args.key; mailbox = c.args.mailbox; text = c.args.text.now; flags = c.args.flags }) verdict (received c.hear_one.new.desk.receiver) (map put_by before) (map put_by v.items))) (sym c.hear_one.ensures.same.1)
-    (judged_later c.args.context.now.office.now.directory (rooms_of lanes) c.args.desk.now.number (record { key = c.args.key; mailbox = c.args.mailbox; text = c.args.text.now; flags = c.args.flags }) c.put_copy.result c.hear_one.result
-    (received c.hear_one.new.desk.receiver) (map put_by before) (map put_by after) (omega (arith, n, b, w)) (omega (arith, a, b, s)) c.in-None.is (c.put_copy.ensures.put (live_at before (shard_of c.args.context.now.office.now.directory c.args.mailbox) c.requires.live)) c.hear_one.ensures.heard)
+    subst (λ (v : Vec (LanePermit Job) Global). IfOk c.hear_one.result (λ verdict. WasJudged c.args.context.now.intake.now.directory (rooms_of lanes) c.args.desk.now.number (record { key = c.args.key; mailbox = c.args.mailbox; text = c.args.text.now; flags = c.args.flags }) verdict (received c.hear_one.new.desk.receiver) (map put_by before) (map put_by v.items))) (sym c.hear_one.ensures.same.1)
+    (judged_later c.args.context.now.intake.now.directory (rooms_of lanes) c.args.desk.now.number (record { key = c.args.key; mailbox = c.args.mailbox; text = c.args.text.now; flags = c.args.flags }) c.put_copy.result c.hear_one.result
+    (received c.hear_one.new.desk.receiver) (map put_by before) (map put_by after) (omega (arith, n, b, w)) (omega (arith, a, b, s)) c.in-None.is (c.put_copy.ensures.put (live_at before (shard_of c.args.context.now.intake.now.directory c.args.mailbox) c.requires.live)) c.hear_one.ensures.heard)
 
 pub returns-in-Some-clause-live : goal.returns-in-Some-clause-live
 returns-in-Some-clause-live g c = live_still c.args.desk.now.permits.items c.put_copy.new.desk.permits.items c.put_copy.ensures.same.3 c.requires.live
@@ -57,8 +57,8 @@ pub returns-in-Some-clause-only : goal.returns-in-Some-clause-only
 returns-in-Some-clause-only g c =
     let put = c.put_copy.ensures in
     let before = c.args.desk.now.permits.items in
-    let lanes = permits_length c.args.context.now.office.now.lanes.items c.args.desk.now.number before c.requires.permits in
-    let shard = shard_of c.args.context.now.office.now.directory c.args.mailbox in
+    let lanes = permits_length c.args.context.now.intake.now.lanes.items c.args.desk.now.number before c.requires.permits in
+    let shard = shard_of c.args.context.now.intake.now.directory c.args.mailbox in
     let counts = tried_counts (map put_by before) (map put_by c.put_copy.new.desk.permits.items) shard c.args.desk.now.number _ c.put_copy.result (slice_index_or (overs before) shard false) _ _
     (omega (arith, put.within, lanes, length-map before put_by)) put.put put.over in
     let some = ap (λ o. unknown (o ∷ [])) c.in-Some.is in
@@ -69,8 +69,8 @@ pub returns-in-None-clause-only : goal.returns-in-None-clause-only
 returns-in-None-clause-only g c =
     let put = c.put_copy.ensures in
     let before = c.args.desk.now.permits.items in
-    let lanes = permits_length c.args.context.now.office.now.lanes.items c.args.desk.now.number before c.requires.permits in
-    let shard = shard_of c.args.context.now.office.now.directory c.args.mailbox in
+    let lanes = permits_length c.args.context.now.intake.now.lanes.items c.args.desk.now.number before c.requires.permits in
+    let shard = shard_of c.args.context.now.intake.now.directory c.args.mailbox in
     let counts = tried_counts (map put_by before) (map put_by c.put_copy.new.desk.permits.items) shard c.args.desk.now.number _ c.put_copy.result (slice_index_or (overs before) shard false) _ _
     (omega (arith, put.within, lanes, length-map before put_by)) put.put put.over in
     let none = ap (λ o. unknown (o ∷ [])) c.in-None.is in

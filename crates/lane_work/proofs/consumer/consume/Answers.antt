@@ -8,7 +8,7 @@ use Rattle.lane_work.proofs.consumer.consume.Goals as goal
 
 pub returns-clause-consumed : goal.returns-clause-consumed
 returns-clause-consumed g c =
-    let channels = c.args.depot.now.channels.items in
+    let channels = c.args.delivery.now.channels.items in
     let served = c.serve_all-tally.ensures in
     let ended = c.end_senders-senders.result.items in
     let left = c.serve_all-tally.new.stall in
@@ -17,6 +17,6 @@ returns-clause-consumed g c =
       senders = subst (λ n. AreSendersEnded channels n ended) served.shard (subst (λ cs. AreSendersEnded cs left.shard ended) c.deref.ensures.value c.end_senders-senders.ensures.ended);
       kept = served.kept;
       torn = served.torn;
-      said = answers_close (length c.args.depot.now.mailboxes.items) c.args.stall.shard (got left.permit) channels left.senders.items (map sent_on c.args.stall.senders.items) (map said_on ended) served.senders
+      said = answers_close (length c.args.delivery.now.mailboxes.items) c.args.stall.shard (got left.permit) channels left.senders.items (map sent_on c.args.stall.senders.items) (map said_on ended) served.senders
           (subst (λ n. HaveClosed n (map sent_on left.senders.items) (map said_on ended)) served.shard c.end_senders-senders.ensures.said) served.answered;
     }

@@ -14,13 +14,13 @@ use Rattle.lane_work.proofs.consumer.serve_all.Goals as goal
 pub loop-preserved-in-Item : goal.loop-preserved-in-Item
 loop-preserved-in-Item g c =
     let v = c.loop.invariant in
-    let m = length c.args.depot.now.mailboxes.items in
-    let n = length c.args.depot.now.channels.items in (
+    let m = length c.args.delivery.now.mailboxes.items in
+    let n = length c.args.delivery.now.channels.items in (
       v.0,
       c.take_as.ensures.permit,
       c.serve_copy-known.ensures.senders,
       answers_item m n c.args.stall.now.shard c.in-Item.p c.in-Item.letter (got c.loop.stall.permit) (got c.take_as.new.permit) (map sent_on c.args.stall.now.senders.items) (map sent_on c.loop.stall.senders.items)
-          (map sent_on c.serve_copy-known.new.senders.items) (search rules) (length-map c.loop.stall.senders.items sent_on ∙ senders_length c.args.depot.now.channels.items c.args.stall.now.shard c.loop.stall.senders.items v.2)
+          (map sent_on c.serve_copy-known.new.senders.items) (search rules) (length-map c.loop.stall.senders.items sent_on ∙ senders_length c.args.delivery.now.channels.items c.args.stall.now.shard c.loop.stall.senders.items v.2)
           c.serve_copy-known.ensures.served v.3,
       torn_next m n (got c.loop.stall.permit) (got c.take_as.new.permit) (Item c.in-Item.p c.in-Item.letter) c.loop.tally.torn (not c.serve_copy-known.result) (search rules) (ap not c.serve_copy-known.ensures.known) v.4,
       kept_next (got c.loop.stall.permit) (got c.take_as.new.permit) c.loop.taken.items c.keep_copy.new.taken.items (Item c.in-Item.p c.in-Item.letter) c.loop.tally.kept c.keep_copy.result (search rules) v.5
@@ -32,8 +32,8 @@ loop-preserved-in-Item g c =
 
 pub loop-init : goal.loop-init
 loop-init g c =
-    let m = length c.args.depot.now.mailboxes.items in
-    let n = length c.args.depot.now.channels.items in
+    let m = length c.args.delivery.now.mailboxes.items in
+    let n = length c.args.delivery.now.channels.items in
     let none = c.requires.permit.1 in (
       refl,
       c.requires.permit.0,
@@ -47,8 +47,8 @@ loop-init g c =
 pub loop-preserved-in-End : goal.loop-preserved-in-End
 loop-preserved-in-End g c =
     let v = c.loop.invariant in
-    let m = length c.args.depot.now.mailboxes.items in
-    let n = length c.args.depot.now.channels.items in
+    let m = length c.args.delivery.now.mailboxes.items in
+    let n = length c.args.delivery.now.channels.items in
     let old = got c.loop.stall.permit in
     let new = got c.take_as.new.permit in (
       v.0,
@@ -64,8 +64,8 @@ loop-preserved-in-End g c =
 pub loop-preserved : goal.loop-preserved
 loop-preserved g c =
     let v = c.loop.invariant in
-    let m = length c.args.depot.now.mailboxes.items in
-    let n = length c.args.depot.now.channels.items in
+    let m = length c.args.delivery.now.mailboxes.items in
+    let n = length c.args.delivery.now.channels.items in
     let old = got c.loop.stall.permit in
     let new = got c.take_as.new.permit in
     let same : old ≡ new = search rules in (

@@ -12,8 +12,8 @@ abbrev pub invariant-loop : goal.invariant-loop
 invariant-loop g l =
     (l.stall.shard ≡ l.fn.stall.shard)
     × IsConsumer l.lane l.stall.permit
-    × AreSenders l.depot.channels.items l.fn.stall.shard l.stall.senders.items
-    × HaveAnswered (length l.depot.mailboxes.items) (length l.depot.channels.items) l.fn.stall.shard (got l.stall.permit) (map sent_on l.fn.stall.senders.items) (map sent_on l.stall.senders.items)
-    × (l.tally.torn ≡ list_any (is_nobodys (length l.depot.mailboxes.items) (length l.depot.channels.items)) (got l.stall.permit))
+    × AreSenders l.delivery.channels.items l.fn.stall.shard l.stall.senders.items
+    × HaveAnswered (length l.delivery.mailboxes.items) (length l.delivery.channels.items) l.fn.stall.shard (got l.stall.permit) (map sent_on l.fn.stall.senders.items) (map sent_on l.stall.senders.items)
+    × (l.tally.torn ≡ list_any (is_nobodys (length l.delivery.mailboxes.items) (length l.delivery.channels.items)) (got l.stall.permit))
     × (l.tally.kept ≡ true → l.taken.items ≡ got l.stall.permit)
     × (l.ends ≤ ends_in (got l.stall.permit))

@@ -8,14 +8,14 @@ use Rattle.lane_work.proofs.ending.end_all.Goals as goal
 pub remove-permit-requires : goal.remove-permit-requires
 remove-permit-requires g c =
     let v = c.loop-lane.invariant in
-    let n = permits_length (drop c.loop-lane.lane c.args.office.now.lanes.items) c.args.number c.loop-lane.permits.items v.0 in
-    let l = length-drop c.loop-lane.lane c.args.office.now.lanes.items in
+    let n = permits_length (drop c.loop-lane.lane c.args.intake.now.lanes.items) c.args.number c.loop-lane.permits.items v.0 in
+    let l = length-drop c.loop-lane.lane c.args.intake.now.lanes.items in
     omega (arith, n, l, c.loop-lane-test.true, c.loop-lane.permits.ok.0)
 
 pub loop-lane-preserved : goal.loop-lane-preserved
 loop-lane-preserved g c =
     let v = c.loop-lane.invariant in
-    let lanes = c.args.office.now.lanes.items in
+    let lanes = c.args.intake.now.lanes.items in
     let i = c.loop-lane.lane in
     let under : i < length lanes = omega (arith, c.loop-lane-test.true, c.len-lane-end.ensures) in
     let f = first_permit lanes i c.args.number c.loop-lane.permits.items under v.0 c.index.result.now c.remove-permit.result c.remove-permit.ensures.value in (

@@ -7,7 +7,7 @@ use Rattle.lane_work.proofs.ending.end_all.Given as goal
 
 abbrev pub invariant-loop-lane : goal.invariant-loop-lane
 invariant-loop-lane g l =
-    ArePermits (drop l.lane l.office.lanes.items) l.number l.permits.items
-    × AreEnded (take l.lane l.office.lanes.items) l.number l.ended.items
-    × (vec_len l.ended ≡ l.lane) × (length l.office.lanes.items ≤ vec_capacity l.ended)
+    ArePermits (drop l.lane l.intake.lanes.items) l.number l.permits.items
+    × AreEnded (take l.lane l.intake.lanes.items) l.number l.ended.items
+    × (vec_len l.ended ≡ l.lane) × (length l.intake.lanes.items ≤ vec_capacity l.ended)
     × (map said l.ended.items ++ map (λ entries. entries ++ End l.number ∷ []) (map put_by l.permits.items) ≡ map (λ entries. entries ++ End l.number ∷ []) (map put_by l.fn.permits.items))

@@ -35,7 +35,7 @@ note_all-requires-clause-room g c =
     let l = known_length (length c.hear_all.new.verdicts.slots) c.hear_all.new.verdicts.slots c.known_in-verdicts.result.items c.known_in-verdicts.ensures in
     let b = c.as_slice.ensures.len in
     let k = c.len-count.ensures in
-    subst (g.N.Notebook.has_room c.reserve.new.self) (omega (arith, n, f, l, b, k, c.known_in-verdicts.result.ok.0)) c.in_ok-reserve.ensures.ok
+    subst (g.N.VerdictLog.has_room c.reserve.new.self) (omega (arith, n, f, l, b, k, c.known_in-verdicts.result.ok.0)) c.in_ok-reserve.ensures.ok
 
 pub known_in-verdicts-requires-clause-room : goal.known_in-verdicts-requires-clause-room
 known_in-verdicts-requires-clause-room g c =
@@ -56,11 +56,11 @@ pub returns-clause-books : goal.returns-clause-books
 returns-clause-books g c open_to judged books =
     let kept = ap (λ (v : Vec (LanePermit Job) Global). map put_by v.items) (sym c.hear_all.ensures.same.1) in
     let p = c.args.producer.now.desk.number in
-    let d = c.args.context.now.office.now.directory in
+    let d = c.args.context.now.intake.now.directory in
     let m = submission_of c.args.message.now in
     let before = map put_by c.args.producer.now.desk.permits.items in
     let mid = c.put_all.new.desk.permits.items in
-    books_more d (rooms_of c.args.context.now.office.now.lanes.items) p judged (g.N.Notebook.tells c.args.producer.now.book) (g.N.Notebook.tells c.note_all.new.self) (received c.args.producer.now.desk.receiver) (received c.hear_all.new.desk.receiver) m c.put_all.new.verdicts.slots c.hear_all.new.verdicts.slots c.known_in-verdicts.result.items before (map put_by c.hear_all.new.desk.permits.items)
+    books_more d (rooms_of c.args.context.now.intake.now.lanes.items) p judged (g.N.VerdictLog.tells c.args.producer.now.book) (g.N.VerdictLog.tells c.note_all.new.self) (received c.args.producer.now.desk.receiver) (received c.hear_all.new.desk.receiver) m c.put_all.new.verdicts.slots c.hear_all.new.verdicts.slots c.known_in-verdicts.result.items before (map put_by c.hear_all.new.desk.permits.items)
     (search rules) (search rules) (c.put_all.ensures.tried open_to) c.hear_all.ensures.fills c.known_in-verdicts.ensures.each
     (subst (HavePut d p (copies_of m) c.put_all.new.verdicts.slots before) kept (c.put_all.ensures.put open_to))
     (ap length (sym kept) ∙ length-map mid put_by ∙ overs_length mid c.args.producer.now.desk.permits.items c.put_all.ensures.same.3 ∙ sym (length-map c.args.producer.now.desk.permits.items put_by))

@@ -12,7 +12,7 @@ use Rattle.lane_work.proofs.worker.speak.Given as goal
 
 abbrev pub invariant-loop-fed : goal.invariant-loop-fed
 invariant-loop-fed g l =
-    AreInForce l.directory l.context.office.now.lanes.items l.fn.producer.desk.number l.producer.desk.permits.items
+    AreInForce l.directory l.context.intake.now.lanes.items l.fn.producer.desk.number l.producer.desk.permits.items
     × IsReceiver l.context.channel.now l.producer.desk.receiver
     × (l.producer.desk.number ≡ l.fn.producer.desk.number)
     × CountsEnds l.fn.producer.desk l.producer.desk
@@ -20,8 +20,8 @@ invariant-loop-fed g l =
     × (l.machine.pending ≡ [])
     × (l.machine.setting ≡ l.fn.machine.setting) × (l.machine.host ≡ l.fn.machine.host)
     × (l.used ≤ length l.bytes)
-    × ((done : List Judged) → Stands l.directory l.context.office.now.directory (rooms_of l.context.office.now.lanes.items) l.fn.producer.desk.number done [] false l.fn.machine l.fn.out.items (notes_tell l.fn.producer.book.notes) (received l.fn.producer.desk.receiver) (map put_by l.fn.producer.desk.permits.items)
-    → Stands l.directory l.context.office.now.directory (rooms_of l.context.office.now.lanes.items) l.fn.producer.desk.number done (take l.used l.bytes) false l.machine l.out.items (notes_tell l.producer.book.notes) (received l.producer.desk.receiver) (map put_by l.producer.desk.permits.items))
+    × ((done : List Judged) → Stands l.directory l.context.intake.now.directory (rooms_of l.context.intake.now.lanes.items) l.fn.producer.desk.number done [] false l.fn.machine l.fn.out.items (notes_tell l.fn.producer.book.notes) (received l.fn.producer.desk.receiver) (map put_by l.fn.producer.desk.permits.items)
+    → Stands l.directory l.context.intake.now.directory (rooms_of l.context.intake.now.lanes.items) l.fn.producer.desk.number done (take l.used l.bytes) false l.machine l.out.items (notes_tell l.producer.book.notes) (received l.producer.desk.receiver) (map put_by l.producer.desk.permits.items))
     × HearsItsOwn l.fn.producer.desk l.producer.desk
     × KeepsBacked l.fn.producer.desk l.producer.desk
 

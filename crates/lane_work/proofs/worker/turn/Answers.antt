@@ -30,8 +30,8 @@ put_and_hear-requires-clause-mailboxes g c =
 
 pub returns-clause-stands : goal.returns-clause-stands
 returns-clause-stands g c done bytes told stands =
-    stands_judged c.args.directory.now c.args.context.now.office.now.directory (rooms_of c.args.context.now.office.now.lanes.items) c.args.producer.now.desk.number done bytes c.args.machine.now c.feed.new.self c.answer.new.self (told ++ c.args.out.now.items) (told ++ c.feed.new.out.items) (told ++ c.answer.new.out.items)
-    (g.N.Notebook.tells c.args.producer.now.book) (g.N.Notebook.tells c.put_and_hear.new.producer.book) (received c.args.producer.now.desk.receiver) (received c.put_and_hear.new.producer.desk.receiver) (map put_by c.args.producer.now.desk.permits.items) (map put_by c.put_and_hear.new.producer.desk.permits.items) c.args.piece.now c.in_ok-fed.fed (submission_of c.submission.result.now)
+    stands_judged c.args.directory.now c.args.context.now.intake.now.directory (rooms_of c.args.context.now.intake.now.lanes.items) c.args.producer.now.desk.number done bytes c.args.machine.now c.feed.new.self c.answer.new.self (told ++ c.args.out.now.items) (told ++ c.feed.new.out.items) (told ++ c.answer.new.out.items)
+    (g.N.VerdictLog.tells c.args.producer.now.book) (g.N.VerdictLog.tells c.put_and_hear.new.producer.book) (received c.args.producer.now.desk.receiver) (received c.put_and_hear.new.producer.desk.receiver) (map put_by c.args.producer.now.desk.permits.items) (map put_by c.put_and_hear.new.producer.desk.permits.items) c.args.piece.now c.in_ok-fed.fed (submission_of c.submission.result.now)
     c.in_ok-verdicts.verdicts.items (search rules) (search rules) (search rules) (search rules) c.in-Submit.is c.submission.ensures (search rules)
     (λ k h. follows_behind told c.args.machine.now.setting c.args.machine.now.host c.args.directory.now k c.args.piece.now c.in_ok-fed.fed c.args.out.now.items c.feed.new.out.items c.feed.new.self.pending (c.in_ok-fed.ensures.ok k h))
     (subst (λ (old : List ℕ). (x : Directory) (k : Conversation) → StandsFor c.feed.new.self k
@@ -40,17 +40,17 @@ returns-clause-stands g c done bytes told stands =
     → Happens (StandsFor c.answer.new.self) c.feed.new.self.setting c.feed.new.self.host x k (on.Answered vs) (told ++ c.reserve.new.self.items) (told ++ c.answer.new.out.items))
     c.as_slice.ensures.value
     (λ x k h. happens_behind told c.feed.new.self.setting c.feed.new.self.host x k (on.Answered c.as_slice.result.now) c.reserve.new.self.items c.answer.new.out.items (c.in-Ok.ensures.ok x k h))))
-    (λ fits. c.in_ok-verdicts.ensures.books (open_to c.args.context.now.office.now.directory c.args.directory.now c.args.producer.now.desk.permits.items (submission_of c.submission.result.now).mailboxes c.requires.marks c.requires.permits.1 fits)) stands
+    (λ fits. c.in_ok-verdicts.ensures.books (open_to c.args.context.now.intake.now.directory c.args.directory.now c.args.producer.now.desk.permits.items (submission_of c.submission.result.now).mailboxes c.requires.marks c.requires.permits.1 fits)) stands
 
 pub returns-in-More-clause-stands : goal.returns-in-More-clause-stands
 returns-in-More-clause-stands g c done bytes told stands =
-    stands_on c.args.directory.now c.args.context.now.office.now.directory (rooms_of c.args.context.now.office.now.lanes.items) c.args.producer.now.desk.number done bytes c.args.machine.now c.feed.new.self (told ++ c.args.out.now.items) (told ++ c.feed.new.out.items) (g.N.Notebook.tells c.args.producer.now.book)
+    stands_on c.args.directory.now c.args.context.now.intake.now.directory (rooms_of c.args.context.now.intake.now.lanes.items) c.args.producer.now.desk.number done bytes c.args.machine.now c.feed.new.self (told ++ c.args.out.now.items) (told ++ c.feed.new.out.items) (g.N.VerdictLog.tells c.args.producer.now.book)
     (received c.args.producer.now.desk.receiver) (map put_by c.args.producer.now.desk.permits.items) c.args.piece.now c.in_ok-fed.fed c.in_ok-fed.ensures.same.0 c.in_ok-fed.ensures.same.1 (λ e. let x : More ≡ Submit = sym c.in-More.is ∙ e in cc)
     (λ k h. follows_behind told c.args.machine.now.setting c.args.machine.now.host c.args.directory.now k c.args.piece.now c.in_ok-fed.fed c.args.out.now.items c.feed.new.out.items c.feed.new.self.pending (c.in_ok-fed.ensures.ok k h)) stands
 
 pub returns-in-Quit-clause-stands : goal.returns-in-Quit-clause-stands
 returns-in-Quit-clause-stands g c done bytes told stands =
-    stands_on c.args.directory.now c.args.context.now.office.now.directory (rooms_of c.args.context.now.office.now.lanes.items) c.args.producer.now.desk.number done bytes c.args.machine.now c.feed.new.self (told ++ c.args.out.now.items) (told ++ c.feed.new.out.items) (g.N.Notebook.tells c.args.producer.now.book)
+    stands_on c.args.directory.now c.args.context.now.intake.now.directory (rooms_of c.args.context.now.intake.now.lanes.items) c.args.producer.now.desk.number done bytes c.args.machine.now c.feed.new.self (told ++ c.args.out.now.items) (told ++ c.feed.new.out.items) (g.N.VerdictLog.tells c.args.producer.now.book)
     (received c.args.producer.now.desk.receiver) (map put_by c.args.producer.now.desk.permits.items) c.args.piece.now c.in_ok-fed.fed c.in_ok-fed.ensures.same.0 c.in_ok-fed.ensures.same.1 (λ e. let x : Quit ≡ Submit = sym c.in-Quit.is ∙ e in cc)
     (λ k h. follows_behind told c.args.machine.now.setting c.args.machine.now.host c.args.directory.now k c.args.piece.now c.in_ok-fed.fed c.args.out.now.items c.feed.new.out.items c.feed.new.self.pending (c.in_ok-fed.ensures.ok k h)) stands
 
@@ -60,7 +60,7 @@ returns-in_err-verdicts-clause-kept g c =
     let host = c.args.machine.now.host in
     where_err c.from_residual-in_err-verdicts.result
     ((done : List Judged) (bytes told : List ℕ)
-    → Stands c.args.directory.now c.args.context.now.office.now.directory (rooms_of c.args.context.now.office.now.lanes.items) c.args.producer.now.desk.number done bytes false c.args.machine.now (told ++ c.args.out.now.items) (g.N.Notebook.tells c.args.producer.now.book) (received c.args.producer.now.desk.receiver)
+    → Stands c.args.directory.now c.args.context.now.intake.now.directory (rooms_of c.args.context.now.intake.now.lanes.items) c.args.producer.now.desk.number done bytes false c.args.machine.now (told ++ c.args.out.now.items) (g.N.VerdictLog.tells c.args.producer.now.book) (received c.args.producer.now.desk.receiver)
     (map put_by c.args.producer.now.desk.permits.items)
     → StartsWith c.reserve.new.self.items c.args.out.now.items)
     (λ done bytes told stands.

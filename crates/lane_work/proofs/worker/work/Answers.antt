@@ -16,7 +16,7 @@ use Rattle.lane_work.proofs.worker.work.Goals as goal
 pub go_through-fate-requires-clause-begun : goal.go_through-fate-requires-clause-begun
 go_through-fate-requires-clause-begun g c = (
   c.new-replies.ensures.items,
-  books_begin c.args.context.now.office.now.directory (rooms_of c.args.context.now.office.now.lanes.items) c.args.desk.number c.new-log.result.notes (received c.args.desk.receiver) c.args.desk.permits.items c.new-log.ensures.notes c.requires.permits.1,
+  books_begin c.args.context.now.intake.now.directory (rooms_of c.args.context.now.intake.now.lanes.items) c.args.desk.number c.new-log.result.notes (received c.args.desk.receiver) c.args.desk.permits.items c.new-log.ensures.notes c.requires.permits.1,
 )
 
 pub returns-clause-worked : goal.returns-clause-worked
@@ -25,14 +25,14 @@ returns-clause-worked g c =
     let f = c.finish.ensures in
     let before = map put_by c.go_through-fate.new.producer.desk.permits.items in
     let after = map said c.finish.result.ended.items in (
-      subst (λ n. AreEnded c.args.context.now.office.now.lanes.items n c.finish.result.ended.items) number f.ended,
+      subst (λ n. AreEnded c.args.context.now.intake.now.lanes.items n c.finish.result.ended.items) number f.ended,
       f.receiver,
       ap (λ (l : WorkerLog). l.seat) f.kept.0 ∙ c.go_through-fate.ensures.seat ∙ c.new-log.ensures.seat,
       λ whole.
-          let account = account_of (premises_of c.args.context.now.office.now) c.args.desk.number (map (λ b. b.items) c.args.connections.now) (map (λ b. b.items) c.go_through-fate.new.replies.items)
+          let account = account_of (premises_of c.args.context.now.intake.now) c.args.desk.number (map (λ b. b.items) c.args.connections.now) (map (λ b. b.items) c.go_through-fate.new.replies.items)
           c.go_through-fate.new.producer.book.notes (received c.go_through-fate.new.producer.desk.receiver) (received c.finish.result.receiver) before after f.grew (subst (λ n. HaveEnded n before after) number f.said) (c.go_through-fate.ensures.whole (f.whole whole)) in
-          subst (λ (l : WorkerLog). Account (premises_of c.args.context.now.office.now) c.args.desk.number (map (λ b. b.items) c.args.connections.now) (map (λ b. b.items) c.finish.result.replies.items) l.notes (received c.finish.result.receiver) after) (sym f.kept.0)
-          (subst (λ (r : Vec (Vec ℕ Global) Global). Account (premises_of c.args.context.now.office.now) c.args.desk.number (map (λ b. b.items) c.args.connections.now) (map (λ b. b.items) r.items) c.go_through-fate.new.producer.book.notes (received c.finish.result.receiver) after) (sym f.kept.1) account),
+          subst (λ (l : WorkerLog). Account (premises_of c.args.context.now.intake.now) c.args.desk.number (map (λ b. b.items) c.args.connections.now) (map (λ b. b.items) c.finish.result.replies.items) l.notes (received c.finish.result.receiver) after) (sym f.kept.0)
+          (subst (λ (r : Vec (Vec ℕ Global) Global). Account (premises_of c.args.context.now.intake.now) c.args.desk.number (map (λ b. b.items) c.args.connections.now) (map (λ b. b.items) r.items) c.go_through-fate.new.producer.book.notes (received c.finish.result.receiver) after) (sym f.kept.1) account),
     )
 
 pub returns-clause-only : goal.returns-clause-only

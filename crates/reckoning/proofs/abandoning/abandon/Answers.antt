@@ -1,7 +1,7 @@
 use Rattle.std.proofs.Common.{◌≡◌, ◌≤◌, ◌+◌, ◌*◌, length, subst, sym, vec_len, arith}
-use Rattle.house_floor.specs.Opening.{AreSpares}
-use Rattle.house_floor.specs.declared.floor.Post.{Post}
-use Rattle.house_floor.specs.declared.floor.Stand.{Stand}
+use Rattle.house_shared.specs.Opening.{AreSpares}
+use Rattle.house_shared.specs.declared.shared.Post.{Post}
+use Rattle.house_shared.specs.declared.shared.Stand.{Stand}
 use Rattle.lane_work.specs.declared.consumer.Consumed.{Consumed}
 use Rattle.lane_work.specs.declared.worker.Worked.{Worked}
 use Rattle.reckoning.proofs.Spent.{fits, fits_behind, no_more, permits_of_posts, senders_of_stands}
@@ -9,8 +9,8 @@ use Rattle.reckoning.proofs.abandoning.abandon.Goals as goal
 
 pub clear_posts-requires-clause-permits : goal.clear_posts-requires-clause-permits
 clear_posts-requires-clause-permits g c =
-    let lanes = length c.args.floor.office.lanes.items in
-    let channels = length c.args.floor.depot.channels.items in
+    let lanes = length c.args.shared.intake.lanes.items in
+    let channels = length c.args.shared.delivery.channels.items in
     let spares = c.ends_of-consumers.result.spares in
     let room : AreSpares (channels * lanes) spares = subst (AreSpares (channels * lanes)) (sym c.ends_of-consumers.ensures.spares) c.requires.baskets.spares in
     let few : length c.args.ran.posts.items ≤ channels = omega (arith, c.requires.left.each_producer, c.args.ran.posts.ok.0) in
@@ -18,8 +18,8 @@ clear_posts-requires-clause-permits g c =
 
 pub clear_posts-requires-clause-ended : goal.clear_posts-requires-clause-ended
 clear_posts-requires-clause-ended g c =
-    let lanes = length c.args.floor.office.lanes.items in
-    let channels = length c.args.floor.depot.channels.items in
+    let lanes = length c.args.shared.intake.lanes.items in
+    let channels = length c.args.shared.delivery.channels.items in
     let spares = c.ends_of-consumers.result.spares in
     let room : AreSpares (channels * lanes) spares = subst (AreSpares (channels * lanes)) (sym c.ends_of-consumers.ensures.spares) c.requires.baskets.spares in
     let few : length c.args.ran.posts.items ≤ channels = omega (arith, c.requires.left.each_producer, c.args.ran.posts.ok.0) in
@@ -27,8 +27,8 @@ clear_posts-requires-clause-ended g c =
 
 pub clear_workers-requires-clause-ended : goal.clear_workers-requires-clause-ended
 clear_workers-requires-clause-ended g c =
-    let lanes = length c.args.floor.office.lanes.items in
-    let channels = length c.args.floor.depot.channels.items in
+    let lanes = length c.args.shared.intake.lanes.items in
+    let channels = length c.args.shared.delivery.channels.items in
     let spares = c.ends_of-consumers.result.spares in
     let posts = c.args.ran.posts in
     let worked = c.args.ran.worked in
@@ -39,8 +39,8 @@ clear_workers-requires-clause-ended g c =
 
 pub clear_stands-requires-clause-senders : goal.clear_stands-requires-clause-senders
 clear_stands-requires-clause-senders g c =
-    let lanes = length c.args.floor.office.lanes.items in
-    let channels = length c.args.floor.depot.channels.items in
+    let lanes = length c.args.shared.intake.lanes.items in
+    let channels = length c.args.shared.delivery.channels.items in
     let spares = c.ends_of-consumers.result.spares in
     let room : AreSpares (channels * lanes) spares = subst (AreSpares (channels * lanes)) (sym c.ends_of-consumers.ensures.spares) c.requires.baskets.spares in
     let few : length c.args.ran.stands.items ≤ lanes = omega (arith, c.requires.left.each_lane, c.args.ran.stands.ok.0) in
@@ -48,8 +48,8 @@ clear_stands-requires-clause-senders g c =
 
 pub clear_consumers-requires-clause-ended : goal.clear_consumers-requires-clause-ended
 clear_consumers-requires-clause-ended g c =
-    let lanes = length c.args.floor.office.lanes.items in
-    let channels = length c.args.floor.depot.channels.items in
+    let lanes = length c.args.shared.intake.lanes.items in
+    let channels = length c.args.shared.delivery.channels.items in
     let spares = c.ends_of-consumers.result.spares in
     let room : AreSpares (channels * lanes) spares = subst (AreSpares (channels * lanes)) (sym c.ends_of-consumers.ensures.spares) c.requires.baskets.spares in
     let few : length c.args.ran.consumed.items ≤ lanes = omega (arith, c.requires.left.each_lane, c.args.ran.consumed.ok.0) in

@@ -1,6 +1,6 @@
 use Rattle.std.proofs.Common.{◌≡◌, ◌∙◌, ◌-◌, ℕ, [], ◌∷◌, ◌++◌, All, ap, arith, subst, sum_by, sym, vec_len}
 use Rattle.std.proofs.lemmas.List.Sums.{sum_by-append}
-use Rattle.house_floor.specs.declared.floor.Stand.{Stand}
+use Rattle.house_shared.specs.declared.shared.Stand.{Stand}
 use Rattle.reckoning.proofs.Spent.{all_taken}
 use Rattle.reckoning.proofs.abandoning.clear_stands.Goals as goal
 

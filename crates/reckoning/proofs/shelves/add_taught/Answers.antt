@@ -1,5 +1,5 @@
 use Rattle.std.proofs.Common.{rules, ◌≡◌, ◌+◌, ◌∙◌, ap, arith, length, subst, sym}
-use Rattle.house_floor.specs.Crew.{AllAt}
+use Rattle.house_shared.specs.Crew.{AllAt}
 use Rattle.house_history.specs.Events.{accepted_in}
 use Rattle.house_history.proofs.Follow.{accepted_own}
 use Rattle.locked_mailbox.specs.Locking.{Keeps, LockedMailbox}

@@ -1,5 +1,5 @@
 use Rattle.std.proofs.Common.{◌≡◌, take, vec_len}
-use Rattle.house_floor.specs.Crew.{AllAt}
+use Rattle.house_shared.specs.Crew.{AllAt}
 use Rattle.reckoning.specs.Shelves.{IsRecorded}
 use Rattle.reckoning.proofs.shelves.are_recorded.Given as goal
 

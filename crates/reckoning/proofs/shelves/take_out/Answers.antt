@@ -3,7 +3,7 @@ use Rattle.std.specs.Global.{Global}
 use Rattle.std.proofs.lemmas.List.Elements.{All-head, All-nil, All-tail}
 use Rattle.delivery_token.specs.Text.{Text}
 use Rattle.delivery_token.specs.declared.CopyKey.{CopyKey}
-use Rattle.house_floor.specs.Crew.{AllAt}
+use Rattle.house_shared.specs.Crew.{AllAt}
 use Rattle.reckoning.specs.Shelves.{AreNumbered, AreToldOnce, HasAccepted}
 use Rattle.reckoning.specs.Shelves.{IsTaught}
 use Rattle.reckoning.proofs.shelves.take_out.Goals as goal

@@ -1,5 +1,5 @@
 use Rattle.std.proofs.Common.{◌≡◌, ◌+◌, length, All}
-use Rattle.house_floor.specs.Crew.{AllAt}
+use Rattle.house_shared.specs.Crew.{AllAt}
 use Rattle.reckoning.specs.Shelves.{AreNumbered, AreToldOnce, HasAccepted}
 use Rattle.reckoning.specs.Shelves.{IsTaught}
 use Rattle.reckoning.proofs.shelves.take_out.Given as goal

@@ -6,7 +6,7 @@ use Rattle.lane_work.specs.declared.worker.Worked.{Worked}
 use Rattle.lane_work.specs.LanePermits as rows
 use Rattle.lane_work.specs.ChannelPermits.{AreReceivers, AreSenderEndedHands}
 use Rattle.reckoning.proofs.Parts.{consumers_of, ended_of, receivers_of, sender_hands_of}
-use Rattle.house_floor.specs.Crew.{AllAt}
+use Rattle.house_shared.specs.Crew.{AllAt}
 use Rattle.house_history.specs.Legal.{Legal}
 use Rattle.reckoning.specs.Histories.{IsKnownIn}
 use Rattle.reckoning.specs.Shelves.{HasAccepted, IsTaught}
@@ -26,19 +26,19 @@ pub balance-requires-clause-hands : goal.balance-requires-clause-hands
 balance-requires-clause-hands g c =
     let ws = c.learn_all.new.worked in
     subst (λ v. rows.AreEndedHands v.items 0 (map (λ (w : Worked _). w.ended.items) ws.items)) (sym c.remains_of-directory.ensures.lanes)
-    (ended_of c.args.floor c.args.plan.now.workers.items c.args.plan.now.sessions.items 0 ws.items
-    (subst (AllAt (IsProduceOf c.args.floor c.args.plan.now.workers.items c.args.plan.now.sessions.items) 0) (sym c.learn_all.ensures.same.0) c.requires.worked))
+    (ended_of c.args.shared c.args.plan.now.workers.items c.args.plan.now.sessions.items 0 ws.items
+    (subst (AllAt (IsProduceOf c.args.shared c.args.plan.now.workers.items c.args.plan.now.sessions.items) 0) (sym c.learn_all.ensures.same.0) c.requires.worked))
 
 pub balance-requires-clause-receivers : goal.balance-requires-clause-receivers
 balance-requires-clause-receivers g c =
     let ws = c.learn_all.new.worked in
     let as_many = c.learn_all.ensures.same.1 in
-    let channels = c.requires.floor.house.channels in
+    let channels = c.requires.shared.house.channels in
     let count = c.requires.all.worked in
     let ok = ws.ok.0 in
     subst (λ v. AreReceivers v.items (map (λ (w : Worked _). w.receiver) ws.items)) (sym c.remains_of-directory.ensures.channels)
-    (receivers_of c.args.floor c.args.plan.now.workers.items c.args.plan.now.sessions.items 0 ws.items
-    (subst (AllAt (IsProduceOf c.args.floor c.args.plan.now.workers.items c.args.plan.now.sessions.items) 0) (sym c.learn_all.ensures.same.0) c.requires.worked) (omega (arith, as_many, count, ok, channels)))
+    (receivers_of c.args.shared c.args.plan.now.workers.items c.args.plan.now.sessions.items 0 ws.items
+    (subst (AllAt (IsProduceOf c.args.shared c.args.plan.now.workers.items c.args.plan.now.sessions.items) 0) (sym c.learn_all.ensures.same.0) c.requires.worked) (omega (arith, as_many, count, ok, channels)))
 
 pub balance-requires-clause-consumers : goal.balance-requires-clause-consumers
 balance-requires-clause-consumers g c =
@@ -46,7 +46,7 @@ balance-requires-clause-consumers g c =
     let count = c.requires.all.consumed in
     let ok = cs.ok.0 in
     subst (λ v. rows.AreConsumers v.items (map (λ (d : Consumed _). d.permit) cs.items)) (sym c.remains_of-directory.ensures.lanes)
-    (consumers_of c.args.floor 0 cs.items c.requires.consumed (omega (arith, count, ok)))
+    (consumers_of c.args.shared 0 cs.items c.requires.consumed (omega (arith, count, ok)))
 
 pub balance-requires-clause-senders : goal.balance-requires-clause-senders
 balance-requires-clause-senders g c =
@@ -54,7 +54,7 @@ balance-requires-clause-senders g c =
     let count = c.requires.all.consumed in
     let ok = cs.ok.0 in
     subst (λ v. AreSenderEndedHands v.items 0 (map (λ (d : Consumed _). d.senders.items) cs.items)) (sym c.remains_of-directory.ensures.channels)
-    (sender_hands_of c.args.floor 0 cs.items c.requires.consumed (omega (arith, count, ok)))
+    (sender_hands_of c.args.shared 0 cs.items c.requires.consumed (omega (arith, count, ok)))
 
 pub report_on-requires-clause-taught : goal.report_on-requires-clause-taught
 report_on-requires-clause-taught g c =
@@ -68,18 +68,18 @@ returns-clause-agrees g c =
     let ws = c.learn_all.new.worked in
     let still = c.learn_all.ensures.same.0 in
     let as_many = c.learn_all.ensures.same.1 in
-    let worked = subst (AllAt (IsProduceOf c.args.floor c.args.plan.now.workers.items c.args.plan.now.sessions.items) 0) (sym still) c.requires.worked in
+    let worked = subst (AllAt (IsProduceOf c.args.shared c.args.plan.now.workers.items c.args.plan.now.sessions.items) 0) (sym still) c.requires.worked in
     let known = subst (All (IsKnownIn c.learn_all.new.front)) (sym still) c.learn_all.ensures.each in
     let cs = c.args.ran.consumed in
     let books = c.in_ok-books.books in
     let whole = length c.args.plan.now.sessions.items == 0 in
-    let balanced = subst (λ v. IsBalanced v.items c.args.floor.depot.channels.items ws.items cs.items books) c.remains_of-directory.ensures.lanes
+    let balanced = subst (λ v. IsBalanced v.items c.args.shared.delivery.channels.items ws.items cs.items books) c.remains_of-directory.ensures.lanes
     (subst (λ v. IsBalanced c.remains_of-directory.result.lanes.items v.items ws.items cs.items books) c.remains_of-directory.ensures.channels c.in_ok-books.ensures.balanced) in
     let producers = sym ws.ok.0 ∙ (as_many ∙ c.requires.all.worked) in
     let laid = ap length balanced.replies ∙ length-map ws.items (λ (w : Worked _). w.replies) in
     if_ok c.report_on.result (both _ _ c.report_on.result c.report_on.ensures.lists (both _ _ c.report_on.result c.report_on.ensures.met (both _ _ c.report_on.result c.report_on.ensures.numbered
     (both _ _ c.report_on.result c.report_on.ensures.refusals c.report_on.ensures.accepted)))) c.report_on.ensures.parts
-    (λ r lists parts. agrees c.args.plan.now c.args.floor c.requires.floor ws.items cs.items worked c.requires.consumed
+    (λ r lists parts. agrees c.args.plan.now c.args.shared c.requires.shared ws.items cs.items worked c.requires.consumed
     producers (sym cs.ok.0 ∙ c.requires.all.consumed) books balanced
     r parts.0 parts.1 parts.2 parts.3 parts.4
     (let counted = parts.5 in omega (arith, counted, laid, producers, r.sessions.ok.0, books.replies.ok.0))

@@ -16,17 +16,17 @@ returns-clause-setting g c fault =
 pub returns-clause-whole : goal.returns-clause-whole
 returns-clause-whole g c =
     let site = c.args.site in
-    let workers = length site.grips.mail.items in
+    let workers = length site.shutdown_handles.mail.items in
     let served = c.args.over.served in
     let dismissed = c.dismiss_all-dismissed.result in
     let told = g.L.Line.told in
     let left = c.requires.served c.if-none_started.false in
-    let each : length served.items ≡ length site.workplace.floor.depot.channels.items = (let n = left.1 in omega (arith, n, served.ok.0)) in
-    let count : length dismissed.consumed.items ≡ length site.workplace.floor.office.lanes.items = (let n = c.dismiss_all-dismissed.ensures.count in omega (arith, n, dismissed.consumed.ok.0)) in
-    by_end c.args.over.all_started c.args.over.is_told c.close_all-finished.result c.told.result (λ r. IfOk r (CameTo site.workplace.floor workers))
+    let each : length served.items ≡ length site.workplace.shared.delivery.channels.items = (let n = left.1 in omega (arith, n, served.ok.0)) in
+    let count : length dismissed.consumed.items ≡ length site.workplace.shared.intake.lanes.items = (let n = c.dismiss_all-dismissed.ensures.count in omega (arith, n, dismissed.consumed.ok.0)) in
+    by_end c.args.over.all_started c.args.over.is_told c.close_all-finished.result c.told.result (λ r. IfOk r (CameTo site.workplace.shared workers))
     c.told.ensures.spawn c.told.ensures.device c.told.ensures.torn c.told.ensures.done (λ all. tt) tt tt (λ taken said is.
-    came_to told site.workplace.floor workers served.items dismissed taken left.0 each (c.requires.mail c.if-none_started.false) count c.dismiss_all-dismissed.ensures.services
-    (subst (λ (o : Option Finished). IfSome o (WasClosed told site.workplace.floor served.items dismissed)) is c.close_all-finished.ensures))
+    came_to told site.workplace.shared workers served.items dismissed taken left.0 each (c.requires.mail c.if-none_started.false) count c.dismiss_all-dismissed.ensures.services
+    (subst (λ (o : Option Finished). IfSome o (WasClosed told site.workplace.shared served.items dismissed)) is c.close_all-finished.ensures))
 
 pub returns-clause-told : goal.returns-clause-told
 returns-clause-told g c =

@@ -2,4 +2,4 @@ use Rattle.std.proofs.Common.{◌≡◌, ◌≤◌, vec_len, vec_capacity}
 use Rattle.serving.proofs.equipment.client_buffers_for.Given as goal
 
 abbrev pub invariant-loop : goal.invariant-loop
-invariant-loop l = (vec_len l.all ≡ l.counter) × (l.berths ≤ vec_capacity l.all)
+invariant-loop l = (vec_len l.all ≡ l.counter) × (l.client_slots ≤ vec_capacity l.all)

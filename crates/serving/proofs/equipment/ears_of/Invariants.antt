@@ -1,5 +1,5 @@
 use Rattle.std.proofs.Common.{◌≡◌, ◌≤◌, ◌+◌, vec_len, vec_capacity}
 use Rattle.serving.proofs.equipment.ears_of.Given as goal
 
-abbrev pub invariant-loop-berth : goal.invariant-loop-berth
-invariant-loop-berth l = (vec_len l.ears ≡ l.berth) × (vec_len l.fn.bells ≤ vec_capacity l.ears) × (vec_len l.bells + l.berth ≡ vec_len l.fn.bells)
+abbrev pub invariant-loop-client_slot : goal.invariant-loop-client_slot
+invariant-loop-client_slot l = (vec_len l.ears ≡ l.client_slot) × (vec_len l.fn.bells ≤ vec_capacity l.ears) × (vec_len l.bells + l.client_slot ≡ vec_len l.fn.bells)

@@ -5,5 +5,5 @@ use Rattle.serving.proofs.run.in_scope.Goals as goal
 pub start_and_tell-begin-requires-clause-outfits : goal.start_and_tell-begin-requires-clause-outfits
 start_and_tell-begin-requires-clause-outfits g c κs within =
     let site = c.args.site.now in
-    let is = subst (IsDealt g.L.Line.told site.workplace.floor (length site.grips.mail.items) (length site.guests.items)) (sym c.into_inner-posts.ensures) c.requires.dealt in
+    let is = subst (IsDealt g.L.Line.told site.workplace.shared (length site.shutdown_handles.mail.items) (length site.guests.items)) (sym c.into_inner-posts.ensures) c.requires.dealt in
     (is.outfits, is.each_worker)

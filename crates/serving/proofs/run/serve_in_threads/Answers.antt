@@ -19,14 +19,14 @@ scoped-over-requires g c =
             search (sendable, b.sync-B),
             search (sendable, b.sync-R),
             c.requires.lanes,
-            c.requires.depot,
+            c.requires.delivery,
           ),
           (
             c.requires.house,
             (
-              c.requires.grips,
+              c.requires.shutdown_handles,
               (
-                c.requires.client_grips,
+                c.requires.client_shutdown_handles,
                 (
                   c.requires.imap,
                   (

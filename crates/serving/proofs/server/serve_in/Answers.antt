@@ -1,6 +1,6 @@
 use Rattle.std.proofs.Common.{rules, vec_len}
 use Rattle.settings.specs.Settings.{directory_for}
-use Rattle.house_floor.specs.Opening.{IsFloor}
+use Rattle.house_shared.specs.Opening.{IsHouseShared}
 use Rattle.serving.proofs.Endings.{left_ok}
 use Rattle.serving.proofs.Users.{each_there}
 use Rattle.serving.proofs.server.serve_in.Goals as goal
@@ -13,6 +13,6 @@ pub returns-clause-left : goal.returns-clause-left
 returns-clause-left g c =
     let config = c.args.config.now in
     let sizes = c.sizes_of-sizes.result in
-    let floor = c.in_ok-floor.field-0.floor in
-    let is : IsFloor (directory_for config) sizes floor = search rules in
-    left_ok config sizes floor c.from-workers.result (vec_len c.args.ready.layout.guests) c.run_house_in.result is c.sizes_of-sizes.ensures.host c.sizes_of-sizes.ensures.max_message (search rules) (search rules) c.run_house_in.ensures.whole
+    let shared = c.in_ok-shared.field-0.shared in
+    let is : IsHouseShared (directory_for config) sizes shared = search rules in
+    left_ok config sizes shared c.from-workers.result (vec_len c.args.ready.layout.guests) c.run_house_in.result is c.sizes_of-sizes.ensures.host c.sizes_of-sizes.ensures.max_message (search rules) (search rules) c.run_house_in.ensures.whole

@@ -1,6 +1,6 @@
 use Rattle.std.specs.Prelude.{Some}
-use Rattle.clerks.specs.Keeping.{parts_of}
+use Rattle.shared_consumers.specs.Keeping.{parts_of}
 use Rattle.serving.proofs.server.serve_in.Given as goal
 
 abbrev pub ghosts-run_house_in : goal.ghosts-run_house_in
-ghosts-run_house_in g a = record { lanes = Some a.floor.office.lanes.items; depot = Some (parts_of a.floor.depot) }
+ghosts-run_house_in g a = record { lanes = Some a.shared.intake.lanes.items; delivery = Some (parts_of a.shared.delivery) }

@@ -8,13 +8,13 @@ use Rattle.serving_workers.proofs.accepting.serve_all.Goals as goal
 pub loop-serial-preserved : goal.loop-serial-preserved
 loop-serial-preserved g c =
     let v = c.loop-serial.invariant in
-    let office = c.args.context.now.office.now in
-    let house = premises_of office in
+    let intake = c.args.context.now.intake.now in
+    let house = premises_of intake in
     let line = g.L.Line.told c.loop-serial.line in
     let next = g.L.Line.told c.attend_next.new.line in
     let was = c.loop-serial.producer.desk in
     let now = c.attend_next.new.producer.desk in (
-      subst (λ n. AreInForce office.directory office.lanes.items n now.permits.items) v.2 c.attend_next.ensures.permits,
+      subst (λ n. AreInForce intake.directory intake.lanes.items n now.permits.items) v.2 c.attend_next.ensures.permits,
       c.attend_next.ensures.receiver,
       c.attend_next.ensures.number ∙ v.2,
       search rules,

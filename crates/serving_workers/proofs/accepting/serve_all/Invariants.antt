@@ -8,8 +8,8 @@ use Rattle.serving_workers.proofs.accepting.serve_all.Given as goal
 
 abbrev pub invariant-loop-serial : goal.invariant-loop-serial
 invariant-loop-serial g l =
-    AreInForce l.context.office.now.directory l.context.office.now.lanes.items l.fn.producer.desk.number l.producer.desk.permits.items × IsReceiver l.context.channel.now l.producer.desk.receiver
+    AreInForce l.context.intake.now.directory l.context.intake.now.lanes.items l.fn.producer.desk.number l.producer.desk.permits.items × IsReceiver l.context.channel.now l.producer.desk.receiver
     × (l.producer.desk.number ≡ l.fn.producer.desk.number) × (0 < length l.buffers.input.items)
-    × (AreServed (premises_of l.context.office.now) l.fn.producer.desk.number (g.L.Line.told l.fn.line) 0 (received l.fn.producer.desk.receiver) (map put_by l.fn.producer.desk.permits.items)
-    → AreServed (premises_of l.context.office.now) l.fn.producer.desk.number (g.L.Line.told l.line) l.serial (received l.producer.desk.receiver) (map put_by l.producer.desk.permits.items))
+    × (AreServed (premises_of l.context.intake.now) l.fn.producer.desk.number (g.L.Line.told l.fn.line) 0 (received l.fn.producer.desk.receiver) (map put_by l.fn.producer.desk.permits.items)
+    → AreServed (premises_of l.context.intake.now) l.fn.producer.desk.number (g.L.Line.told l.line) l.serial (received l.producer.desk.receiver) (map put_by l.producer.desk.permits.items))
     × KeepsBacked l.fn.producer.desk l.producer.desk

@@ -9,13 +9,13 @@ use Rattle.serving_workers.proofs.accepting.serve_until_stopped.Goals as goal
 
 pub returns-clause-served : goal.returns-clause-served
 returns-clause-served g c fresh is =
-    let office = c.args.context.now.office.now in
+    let intake = c.args.context.now.intake.now in
     let number = c.args.desk.number in
     let now = c.serve_all-torn.new.producer.desk in
     let line = c.serve_all-torn.new.line in
     let told = g.L.Line.told in
-    let served = c.serve_all-torn.ensures.mail is (mail_begins office number (told c.args.outfit.line) c.args.desk.receiver c.args.desk.permits.items fresh c.requires.fresh) in
-    (line, refl, mail_ends (premises_of office) number now.number served.0 (told line) (received now.receiver) (map put_by now.permits.items) (map said c.end_all-ended.result.items) c.serve_all-torn.ensures.number served.1 c.end_all-ended.ensures.said)
+    let served = c.serve_all-torn.ensures.mail is (mail_begins intake number (told c.args.outfit.line) c.args.desk.receiver c.args.desk.permits.items fresh c.requires.fresh) in
+    (line, refl, mail_ends (premises_of intake) number now.number served.0 (told line) (received now.receiver) (map put_by now.permits.items) (map said c.end_all-ended.result.items) c.serve_all-torn.ensures.number served.1 c.end_all-ended.ensures.said)
 
 -- the history has what it put and heard
 pub returns-clause-backed : goal.returns-clause-backed

@@ -8,7 +8,7 @@ use Rattle.reckoning.proofs.Balanced.{at_some}
 use Rattle.shard_queue.specs.Reply.{received}
 use Rattle.serving_workers.specs.Closing.{GoOn, WasClosed}
 use Rattle.serving_workers.specs.declared.accepting.Served.{Served}
-use Rattle.house_floor.specs.Crew.{AllAt}
+use Rattle.house_shared.specs.Crew.{AllAt}
 use Rattle.reckoning.specs.Histories.{IsKnownIn}
 use Rattle.std.proofs.lemmas.List.Elements.{All-weaker}
 use Rattle.reckoning.specs.Shelves.{IsTaught}
@@ -19,7 +19,7 @@ use Rattle.serving_workers.proofs.Wholes.{both_of, whole_of}
 use Rattle.serving_workers.proofs.closing.close_all.Goals as goal
 
 pub spend_house-requires-clause-ended : goal.spend_house-requires-clause-ended
-spend_house-requires-clause-ended g c = lengths_of c.args.floor 0 c.hear_all_out-worked.result.items c.hear_all_out-worked.ensures.worked
+spend_house-requires-clause-ended g c = lengths_of c.args.shared 0 c.hear_all_out-worked.result.items c.hear_all_out-worked.ensures.worked
 
 pub are_recorded-recorded-requires : goal.are_recorded-recorded-requires
 are_recorded-recorded-requires g c =
@@ -31,7 +31,7 @@ pub close_queues-closings-requires-clause-hands : goal.close_queues-closings-req
 close_queues-closings-requires-clause-hands g c =
     let ws = c.learn_all.new.worked.items in
     subst (λ v. AreEndedHands v.items 0 (map (λ (w : Worked _). w.ended.items) ws)) (sym c.remains_of-lanes.ensures.lanes)
-    (ended_of c.args.floor 0 ws (subst (AllAt (HasHeard c.args.floor) 0) (sym c.learn_all.ensures.same.0) c.hear_all_out-worked.ensures.worked))
+    (ended_of c.args.shared 0 ws (subst (AllAt (HasHeard c.args.shared) 0) (sym c.learn_all.ensures.same.0) c.hear_all_out-worked.ensures.worked))
 
 pub close_queues-closings-requires-clause-receivers : goal.close_queues-closings-requires-clause-receivers
 close_queues-closings-requires-clause-receivers g c =
@@ -40,7 +40,7 @@ close_queues-closings-requires-clause-receivers g c =
     let count = c.hear_all_out-worked.ensures.count in
     let same = c.requires.house.channels in
     subst (λ v. AreReceivers v.items (map (λ (w : Worked _). w.receiver) ws.items)) (sym c.remains_of-lanes.ensures.channels)
-    (receivers_of c.args.floor 0 ws.items (subst (AllAt (HasHeard c.args.floor) 0) (sym c.learn_all.ensures.same.0) c.hear_all_out-worked.ensures.worked) (omega (arith, as_many, count, same, ws.ok.0)))
+    (receivers_of c.args.shared 0 ws.items (subst (AllAt (HasHeard c.args.shared) 0) (sym c.learn_all.ensures.same.0) c.hear_all_out-worked.ensures.worked) (omega (arith, as_many, count, same, ws.ok.0)))
 
 pub returns : goal.returns
 returns g c =
@@ -48,7 +48,7 @@ returns g c =
     let ws = c.learn_all.new.worked in
     let as_many = c.learn_all.ensures.same.1 in
     let still = c.learn_all.ensures.same.0 in
-    let heard_out = subst (AllAt (HasHeard c.args.floor) 0) (sym still) c.hear_all_out-worked.ensures.worked in
+    let heard_out = subst (AllAt (HasHeard c.args.shared) 0) (sym still) c.hear_all_out-worked.ensures.worked in
     let count = c.hear_all_out-worked.ensures.count in
     let same = c.requires.house.channels in
     let served = c.args.served.items in
@@ -60,18 +60,18 @@ returns g c =
     let mailboxes = c.are_recorded-recorded.new.unlocked in
     let told = g.L.Line.told in
     let made = c.finish.ensures in
-    both_of c.finish.result made.well made.closes made.rest (WasClosed told c.args.floor served c.args.dismissed) (λ finished well closes rest.
+    both_of c.finish.result made.well made.closes made.rest (WasClosed told c.args.shared served c.args.dismissed) (λ finished well closes rest.
     let sound = c.is_well.ensures well in
-    whole_of told c.args.floor served c.args.dismissed ws.items c.remains_of-lanes.result.lanes c.remains_of-lanes.result.channels c.hear_all_out-worked.new.lines.items unlocked mailboxes finished
+    whole_of told c.args.shared served c.args.dismissed ws.items c.remains_of-lanes.result.lanes c.remains_of-lanes.result.channels c.hear_all_out-worked.new.lines.items unlocked mailboxes finished
     (search rules) (subst (λ xs. list_any (λ (s : Served _ _). s.torn) xs ≡ false) all (sym c.is_producer_torn-is_producer_torn.ensures ∙ sound.0))
-    (subst (λ xs. list_any (λ (d : Consumed _). d.torn) xs ≡ false) each (sym c.is_clerk_torn-is_clerk_torn.ensures ∙ sound.1))
+    (subst (λ xs. list_any (λ (d : Consumed _). d.torn) xs ≡ false) each (sym c.is_shared_consumer_torn-is_shared_consumer_torn.ensures ∙ sound.1))
     c.remains_of-lanes.ensures.lanes c.remains_of-lanes.ensures.channels (ap (λ l. map (λ (w : Worked _). w.ended.items) l) still ∙ c.hear_all_out-worked.ensures.ended)
     (subst (λ l. GoOn (map (λ (s : Served _ _). received s.receiver) served) (map (λ (w : Worked _). received w.receiver) l)) (sym still) c.hear_all_out-worked.ensures.grew)
     (at_some _ _ _ _ closes.0 is.of_lanes) (at_some _ _ _ _ closes.1 is.of_channels)
-    (receivers_of c.args.floor 0 ws.items heard_out (omega (arith, as_many, count, same, ws.ok.0)))
+    (receivers_of c.args.shared 0 ws.items heard_out (omega (arith, as_many, count, same, ws.ok.0)))
     front c.learn_all.ensures.legal
     (backed_of front 0 ws.items
-    (subst (AllAt IsBackedAt 0) (sym still) (backed_each c.args.floor 0 c.hear_all_out-worked.result.items c.hear_all_out-worked.ensures.worked
+    (subst (AllAt IsBackedAt 0) (sym still) (backed_each c.args.shared 0 c.hear_all_out-worked.result.items c.hear_all_out-worked.ensures.worked
     (subst (λ (xs : List (Worked _)). list_all (λ (w : Worked _). is_whole w.fate) xs ≡ true) heard (sym c.are_quiet-quiet.ensures ∙ sound.2))))
     (subst (All (IsKnownIn front)) (sym still) c.learn_all.ensures.each) c.learn_all.ensures.legal)
     (c.are_recorded-recorded.ensures.recorded sound.3) c.are_recorded-recorded.ensures.same.0 (search rules) c.hear_all_out-worked.ensures.lines rest)

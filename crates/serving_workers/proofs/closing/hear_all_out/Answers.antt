@@ -1,6 +1,6 @@
 use Rattle.std.proofs.Common.{rules, ◌≡◌, ◌<◌, ◌+◌, ◌++◌, ◌∙◌, List, length, map, subst, sym, arith}
 use Rattle.lane_work.specs.declared.worker.Worked.{Worked}
-use Rattle.house_floor.proofs.Positions.{first_at, more_at}
+use Rattle.house_shared.proofs.Positions.{first_at, more_at}
 use Rattle.reckoning.proofs.Laying.{all_laid}
 use Rattle.serving_workers.specs.Closing.{GoOn}
 use Rattle.serving_workers.specs.Leaving.{IsServed}
@@ -13,13 +13,13 @@ use Rattle.serving_workers.proofs.closing.hear_all_out.Goals as goal
 pub loop-number-preserved : goal.loop-number-preserved
 loop-number-preserved g c =
     let v = c.loop-number.invariant in
-    let floor = c.args.floor.now in
+    let shared = c.args.shared.now in
     let some : 0 < length c.loop-number.left.items = omega (arith, v.1, c.loop-number-test.true, c.loop-number.left.ok.0) in
-    let f = first_at (IsServed g.L.Line.told floor) c.loop-number.number c.loop-number.left.items c.remove-one.new.self.items c.remove-one.result some c.remove-one.ensures.value c.remove-one.ensures.items v.0 in
+    let f = first_at (IsServed g.L.Line.told shared) c.loop-number.number c.loop-number.left.items c.remove-one.new.self.items c.remove-one.result some c.remove-one.ensures.value c.remove-one.ensures.items v.0 in
     let at : c.loop-number.number ≡ 0 + length c.loop-number.worked.items = omega (arith, v.3, c.loop-number.worked.ok.0) in (
       f.1,
       search rules,
-      more_at (HasHeard floor) 0 c.loop-number.worked.items c.push_reserved.new.self.items c.hear_out-heard.result.worked c.loop-number.number c.push_reserved.ensures.items v.2 at c.hear_out-heard.ensures.heard,
+      more_at (HasHeard shared) 0 c.loop-number.worked.items c.push_reserved.new.self.items c.hear_out-heard.result.worked c.loop-number.number c.push_reserved.ensures.items v.2 at c.hear_out-heard.ensures.heard,
       c.push_reserved.ensures.len ∙ search rules,
       search rules,
       one_more c.loop-number.worked.items c.push_reserved.new.self.items c.hear_out-heard.result.worked c.loop-number.left.items c.remove-one.new.self.items c.remove-one.result _

@@ -1,7 +1,7 @@
 use Rattle.std.proofs.Common.{rules, ◌≡◌, map, subst}
 use Rattle.delivery_token.specs.declared.log.Noted.{Noted}
 use Rattle.shard_queue.specs.declared.ends.ReplyChannel.{ReplyChannel}
-use Rattle.house_floor.proofs.Finding.{found_at}
+use Rattle.house_shared.proofs.Finding.{found_at}
 use Rattle.shard_queue.specs.Permits.{said}
 use Rattle.shard_queue.specs.Reply.{IsReceiver, received}
 use Rattle.lane_work.proofs.BackingLaws.{ends_backed}
@@ -14,7 +14,7 @@ returns-clause-heard g c = record {
   receiver = λ channel at.
       let same : c.from.result ≡ c.args.number = search rules in
       let left = c.hear_ends-quiet.new.receiver in
-      subst (λ (x : ReplyChannel Noted). IsReceiver x left) (found_at c.args.floor.now.depot.channels.items c.from.result c.args.number c.index-channel.result.now channel same at)
+      subst (λ (x : ReplyChannel Noted). IsReceiver x left) (found_at c.args.shared.now.delivery.channels.items c.from.result c.args.number c.index-channel.result.now channel same at)
       (subst (λ (x : ReplyChannel Noted). IsReceiver x left) c.index-channel.ensures c.hear_ends-quiet.ensures.receiver);
   backed = λ whole. (
     c.requires.served.backed.0,

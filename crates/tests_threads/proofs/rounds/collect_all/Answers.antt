@@ -10,7 +10,7 @@ use Rattle.tests_threads.proofs.rounds.collect_all.Goals as goal
 pub collect-requires-clause-each : goal.collect-requires-clause-each
 collect-requires-clause-each g c =
     let v = c.loop-parcel.invariant in
-    let lanes = c.args.floor.now.office.lanes.items in
+    let lanes = c.args.shared.now.intake.lanes.items in
     let lists = c.loop-parcel.lists in
     let own = popped (λ x. AreSomeones lanes (manually_drop_value {X = Left _} x).ended.items) c.loop-parcel.left.items c.pop.new.self.items c.in-Some.parcel c.in-Some.ensures.items v.0 in
     let same : manually_drop_value {X = Left _} c.in-Some.parcel ≡ c.into_inner-ended.result = search rules in
@@ -25,7 +25,7 @@ collect-requires-clause-each g c =
 pub loop-parcel-preserved : goal.loop-parcel-preserved
 loop-parcel-preserved g c =
     let v = c.loop-parcel.invariant in
-    let lanes = c.args.floor.now.office.lanes.items in
+    let lanes = c.args.shared.now.intake.lanes.items in
     let own = popped (λ x. AreSomeones lanes (manually_drop_value {X = Left _} x).ended.items) c.loop-parcel.left.items c.pop.new.self.items c.in-Some.parcel c.in-Some.ensures.items v.0 in
     let same : manually_drop_value {X = Left _} c.in-Some.parcel ≡ c.into_inner-ended.result = search rules in
     let mine = subst (λ (l : Left _). AreSomeones lanes l.ended.items) same own.1 in (

@@ -7,8 +7,8 @@ use Rattle.tests_threads.proofs.rounds.collect_all.Given as goal
 
 abbrev pub invariant-loop-parcel : goal.invariant-loop-parcel
 invariant-loop-parcel g l =
-    All (λ x. AreSomeones l.floor.office.lanes.items (manually_drop_value {X = Left _} x).ended.items) l.left.items
-    × EndedRows l.floor.office.lanes.items (map (λ v. v.items) l.lists.items)
+    All (λ x. AreSomeones l.shared.intake.lanes.items (manually_drop_value {X = Left _} x).ended.items) l.left.items
+    × EndedRows l.shared.intake.lanes.items (map (λ v. v.items) l.lists.items)
     × All (λ v. vec_len v + vec_len l.left ≤ vec_capacity v) l.lists.items
     × (vec_len l.receivers + vec_len l.left ≤ vec_capacity l.receivers)
     × (vec_len l.receivers + vec_len l.left ≡ vec_len l.fn.receivers + vec_len l.fn.left)

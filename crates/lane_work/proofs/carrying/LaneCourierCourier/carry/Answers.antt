@@ -12,14 +12,14 @@ use Rattle.lane_work.proofs.carrying.LaneCourierCourier.carry.Goals as goal
 pub returns-clause-carried : goal.returns-clause-carried
 returns-clause-carried g c done books =
     let self = c.args.self.now in
-    let d = self.context.office.now.directory in
-    let rooms = rooms_of self.context.office.now.lanes.items in
+    let d = self.context.intake.now.directory in
+    let rooms = rooms_of self.context.intake.now.lanes.items in
     let p = self.desk.number in
     let verdict = c.in-Ok.verdict in
     let one : Carried = record { message = c.args.message; mailbox = c.args.mailbox; text = c.args.text.now; flags = c.args.flags; verdict = verdict } in
-    let notes : (copies : List (Job × Verdict)) → g.N.Notebook.tells self.book copies → g.N.Notebook.tells c.note_one.new.self (copies ++ (copy_of p self.serial one, verdict) ∷ []) =
+    let notes : (copies : List (Job × Verdict)) → g.N.VerdictLog.tells self.book copies → g.N.VerdictLog.tells c.note_one.new.self (copies ++ (copy_of p self.serial one, verdict) ∷ []) =
     λ copies told. c.note_one.ensures.tells (copy_of p self.serial one) copies refl refl (c.reserve.ensures.tells copies told) in
-    carried_more d rooms p c.judge.new.desk.number self.serial done one (g.N.Notebook.tells self.book) (g.N.Notebook.tells c.note_one.new.self) (received self.desk.receiver) (received c.judge.new.desk.receiver)
+    carried_more d rooms p c.judge.new.desk.number self.serial done one (g.N.VerdictLog.tells self.book) (g.N.VerdictLog.tells c.note_one.new.self) (received self.desk.receiver) (received c.judge.new.desk.receiver)
     (map put_by self.desk.permits.items) (map put_by c.judge.new.desk.permits.items) c.judge.ensures.number c.in-Ok.ensures.judged notes c.judge.ensures.grew books
 
 pub returns-clause-kept : goal.returns-clause-kept
@@ -39,7 +39,7 @@ returns-clause-kept g c first k =
             (omega (arith, own, heard)),
             (
               more.0 ++ one ∷ [],
-              carries_more first.context.office.now self.context.office.now first.serial self.serial first.desk self.desk c.judge.new.desk more.0 one same.0 k.1 same.2 more.1 c.in-Ok.ensures.judged c.judge.ensures.grew,
+              carries_more first.context.intake.now self.context.intake.now first.serial self.serial first.desk self.desk c.judge.new.desk more.0 one same.0 k.1 same.2 more.1 c.in-Ok.ensures.judged c.judge.ensures.grew,
             ),
           ),
     )

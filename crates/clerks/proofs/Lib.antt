@@ -1,2 +1,0 @@
-mod KeepLaws
-pub mod StaffLaws

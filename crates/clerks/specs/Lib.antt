@@ -1,4 +1,0 @@
-pub mod Clerk
-pub mod Keeping
-pub mod Staff
-pub mod inner

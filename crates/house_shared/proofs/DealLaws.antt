@@ -1,0 +1,71 @@
+-- What is dealt, as a property of each one's number.
+use Rattle.std.proofs.Common.{◌≡◌, ◌+◌, ◌∙◌, ℕ, suc, ap, sym, subst, Vec, Global, List, [], ◌∷◌, Some, All, map, slice_get, arith}
+use Rattle.delivery_token.specs.declared.Job.{Job}
+use Rattle.delivery_token.specs.declared.log.Noted.{Noted}
+use Rattle.shard_queue.specs.declared.queue.ShardQueue.{ShardQueue}
+use Rattle.lane_work.specs.declared.desk.LanePermit.{LanePermit}
+use Rattle.shard_queue.specs.declared.queue.ConsumerPermit.{ConsumerPermit}
+use Rattle.shard_queue.specs.declared.ends.ReplyChannel.{ReplyChannel}
+use Rattle.shard_queue.specs.declared.reply.SenderPermit.{SenderPermit}
+use Rattle.shard_queue.specs.declared.reply.ReceiverPermit.{ReceiverPermit}
+use Rattle.shard_queue.specs.Reply.{IsReceiver, sent_on}
+use Rattle.shard_queue.specs.Permits.{IsConsumer}
+use Rattle.lane_work.specs.Permits.{ArePermits, AreSenders, IsNew}
+use Rattle.lane_work.specs.LanePermits.{AreConsumers, AreHands}
+use Rattle.lane_work.specs.ChannelPermits.{AreReceivers, AreSenderHands}
+use Rattle.house_shared.specs.Crew.{AllAt}
+
+-- a producer's permits on all lanes, which have put nothing
+abbrev pub IsHand : List (ShardQueue Job) → ℕ → Vec (LanePermit Job) Global → Type 0
+IsHand lanes n v = ArePermits lanes n v.items × All IsNew v.items
+
+-- a consumer's on all channels, which have sent nothing
+abbrev pub IsSenderHand : List (ReplyChannel Noted) → ℕ → Vec (SenderPermit Noted) Global → Type 0
+IsSenderHand channels n v = AreSenders channels n v.items × All (λ s. sent_on s ≡ []) v.items
+
+-- the end of the channel at this position, and of the lane
+abbrev pub IsReceiverAt : List (ReplyChannel Noted) → ℕ → ReceiverPermit Noted → Type 0
+IsReceiverAt channels n permit = (channel : ReplyChannel Noted) → slice_get channels n ≡ Some channel → IsReceiver channel permit
+
+abbrev pub IsConsumerAt : List (ShardQueue Job) → ℕ → ConsumerPermit Job → Type 0
+IsConsumerAt lanes n permit = (lane : ShardQueue Job) → slice_get lanes n ≡ Some lane → IsConsumer lane permit
+
+pub hands_at : (lanes : List (ShardQueue Job)) (n : ℕ) (vs : List (Vec (LanePermit Job) Global)) → AreHands lanes n (map (λ v. v.items) vs) → AllAt (IsHand lanes) n vs
+hands_at lanes n [] h = tt
+hands_at lanes n (v ∷ vs) h = (h.0, hands_at lanes (suc n) vs h.1)
+
+pub sender_hands_at : (channels : List (ReplyChannel Noted)) (n : ℕ) (vs : List (Vec (SenderPermit Noted) Global)) → AreSenderHands channels n (map (λ v. v.items) vs) → AllAt (IsSenderHand channels) n vs
+sender_hands_at channels n [] h = tt
+sender_hands_at channels n (v ∷ vs) h = (h.0, sender_hands_at channels (suc n) vs h.1)
+
+-- these are what stands in all from position n on
+abbrev pub IsRest : {A : Type 0} → List A → ℕ → List A → Type 0
+IsRest {A} all n xs = (i : ℕ) → slice_get all (n + i) ≡ slice_get xs i
+
+module _ {A : Type 0} where
+  head_of : (all : List A) (n : ℕ) (x : A) (xs : List A) → IsRest all n (x ∷ xs) → slice_get all n ≡ Some x
+  head_of all n x xs rest = let e : n + 0 ≡ n = omega arith in sym (ap (slice_get all) e) ∙ rest 0
+
+  tail_of : (all : List A) (n : ℕ) (x : A) (xs : List A) → IsRest all n (x ∷ xs) → IsRest all (suc n) xs
+  tail_of all n x xs rest i = let e : suc n + i ≡ n + suc i = omega arith in ap (slice_get all) e ∙ rest (suc i)
+
+  -- what is at a position is that value
+  same_at : (all : List A) (n : ℕ) (x y : A) → slice_get all n ≡ Some x → slice_get all n ≡ Some y → x ≡ y
+  same_at all n x y here there = let e : Some x ≡ Some y = sym here ∙ there in cc
+
+  pub all_rest : (all : List A) → IsRest all 0 all
+  all_rest all i = let e : 0 + i ≡ i = omega arith in ap (slice_get all) e
+
+pub receivers_at : (all : List (ReplyChannel Noted)) (n : ℕ) (cs : List (ReplyChannel Noted)) (ss : List (ReceiverPermit Noted)) → IsRest all n cs → AreReceivers cs ss → AllAt (IsReceiverAt all) n ss
+receivers_at all n [] [] rest h = tt
+receivers_at all n [] (s ∷ ss) rest h = absurd h
+receivers_at all n (c ∷ cs) [] rest h = tt
+receivers_at all n (c ∷ cs) (s ∷ ss) rest h =
+    ((λ channel e. subst (λ q. IsReceiver q s) (same_at all n c channel (head_of all n c cs rest) e) h.0), receivers_at all (suc n) cs ss (tail_of all n c cs rest) h.1)
+
+pub consumers_at : (all : List (ShardQueue Job)) (n : ℕ) (qs : List (ShardQueue Job)) (ss : List (ConsumerPermit Job)) → IsRest all n qs → AreConsumers qs ss → AllAt (IsConsumerAt all) n ss
+consumers_at all n [] [] rest h = tt
+consumers_at all n [] (s ∷ ss) rest h = absurd h
+consumers_at all n (q ∷ qs) [] rest h = tt
+consumers_at all n (q ∷ qs) (s ∷ ss) rest h =
+    ((λ lane e. subst (λ l. IsConsumer l s) (same_at all n q lane (head_of all n q qs rest) e) h.0), consumers_at all (suc n) qs ss (tail_of all n q qs rest) h.1)

@@ -1,0 +1,2 @@
+mod KeepLaws
+pub mod ConsumerSetLaws

@@ -1,0 +1,4 @@
+pub mod SharedConsumer
+pub mod Keeping
+pub mod ConsumerSet
+pub mod inner
