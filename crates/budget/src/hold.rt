@@ -53,12 +53,9 @@ impl Hold {
     /// Holds so many bytes more, where no more than the limit is held with them.
     pub(crate) fn take(pool: Arc<Pool>, bytes: u64) -> Result<Hold, Excess>
         ensures bytes { IfOk result (λ h. h.bytes ≡ bytes) }
-        ensures table { IfOk result (λ h. h.ticket.seat.table_id
-            ≡ (arc_value pool).table.shared.table_id) }
-        ensures fits { IfOk result (λ h. h.ticket.seat.me.0.before % 2 ^ 64 + bytes ≤
-            (arc_value pool).limit) }
-        ensures over { IfErr result (λ e. (e.table ≡ (arc_value pool).table.shared.table_id)
-            × ((arc_value pool).limit < e.before % 2 ^ 64 + bytes)) }
+        ensures table { IfOk result (λ h. h.ticket.seat.table_id ≡ (arc_value pool).table.shared.table_id) }
+        ensures fits { IfOk result (λ h. h.ticket.seat.me.0.before % 2 ^ 64 + bytes ≤ (arc_value pool).limit) }
+        ensures over { IfErr result (λ e. (e.table ≡ (arc_value pool).table.shared.table_id) × ((arc_value pool).limit < e.before % 2 ^ 64 + bytes)) }
     {
         let limit = pool.limit();
         let (shown, seat) = taken(&pool, bytes);
@@ -75,8 +72,7 @@ impl Hold {
 
     /// Gives them back, and answers the seat, which still knows what was held before.
     pub(crate) fn give(self) -> Seat<u8, Stay>
-        ensures { (result.table_id ≡ self.ticket.seat.table_id) × (result.id ≡ self.ticket.seat.id)
-            × (result.me ≡ (gone self.ticket.seat.me.0, [])) }
+        ensures { (result.table_id ≡ self.ticket.seat.table_id) × (result.id ≡ self.ticket.seat.id) × (result.me ≡ (gone self.ticket.seat.me.0, [])) }
     {
         let Hold {
             pool,
@@ -102,8 +98,7 @@ fn taken(pool: &Pool, bytes: u64) -> (u64, Seat<u8, Stay>)
 fn returned(pool: &Pool, mut seat: Seat<u8, Stay>, bytes: u64) -> Seat<u8, Stay>
     requires table { seat.table_id ≡ pool.now.table.shared.table_id }
     requires holds { seat.me.0.charged + seat.me.0.refused ≡ bytes }
-    ensures { (result.table_id ≡ seat.table_id) × (result.id ≡ seat.id)
-        × (result.me ≡ (gone seat.me.0, seat.me.1)) }
+    ensures { (result.table_id ≡ seat.table_id) × (result.id ≡ seat.id) × (result.me ≡ (gone seat.me.0, seat.me.1)) }
 {
     pool.table.shared.fetch_sub::<Gives>(&mut seat, 0, bytes);
     seat

@@ -70,8 +70,7 @@ fn first_field(header: &[u8]) -> Option<(&[u8], &[u8])>
     ensures none { IfNone result (header.now ≡ []) }
     ensures fields { IfSome result (λ cut. (takes : List ℕ → Bool) →
         fields_from takes true false false header.now
-        ≡ (if takes header.now then cut.0.now else [])
-        ++ fields_from takes true false false cut.1.now) }
+        ≡ (if takes header.now then cut.0.now else []) ++ fields_from takes true false false cut.1.now) }
     ensures lengths { IfSome result (λ cut. length cut.0.now + length cut.1.now ≡ length header.now) }
     ensures shorter { IfSome result (λ cut. length cut.1.now < length header.now) }
 {

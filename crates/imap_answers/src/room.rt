@@ -80,8 +80,7 @@ fn span_room(partial: Option<Span>, most: usize) -> usize
 fn body_room(which: &BodyPart<'_>, partial: Option<Span>, text: &[u8]) -> Option<usize>
     ensures value { MatchOption result
         (2 ^ 64 ≤ span_most partial (part_most which.now text.now) + names_most which.now + 80)
-        (λ most. most ≡ span_most partial
-        (part_most which.now text.now) + names_most which.now + 80) }
+        (λ most. most ≡ span_most partial (part_most which.now text.now) + names_most which.now + 80) }
     ensures bound { IfSome result (λ most. length (body_text which.now partial text.now) + 1 ≤ most) }
 {
     let bytes = span_room(partial, part_room(which, text));

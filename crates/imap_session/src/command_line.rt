@@ -36,8 +36,7 @@ impl Session {
         requires unsent { self.old.mailing.sent ≡ None }
         requires fits { length tag.now + LAST + FIRST ≤ O.room out.old }
         ensures answered { read line.now ≡ Ok (tag.now, command.now)
-            → AnswersText S.step self.old line.now store.old store.new (O.said out.old)
-            (O.said out.new)
+            → AnswersText S.step self.old line.now store.old store.new (O.said out.old) (O.said out.new)
             result self.new }
         ensures folders { self.new.folders ≡ self.old.folders }
         ensures sends { result ≡ may_send self.new }

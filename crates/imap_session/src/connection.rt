@@ -182,8 +182,7 @@ impl ImapConnection {
             (O.said out.new)
             after self.new.session) }
         ensures heard { IfOk result (λ after. (d : Dialogue) → StandsFor self.old d →
-            Hears S.step d verdict store.old store.new (O.said out.old)
-            (O.said out.new) after self.new) }
+            Hears S.step d verdict store.old store.new (O.said out.old) (O.said out.new) after self.new) }
 
         // Ended exactly where the session has ended. A refusal leaves the connection, the store and `out` as they were.
         ensures ended { (result ≡ Err SessionFault.Ended) ↔ (self.old.session.ended ≡ true) }
@@ -212,8 +211,7 @@ impl ImapConnection {
     ) -> Result<usize, SessionFault>
         // The session had a turn over the store as `Session::idle_turn` tells, and showed so many changes; so in each dialogue for which it stood.
         ensures session { IfOk result (λ count.
-            IdleTurns S.step self.old.session store.old store.new (O.said out.old)
-            (O.said out.new) count
+            IdleTurns S.step self.old.session store.old store.new (O.said out.old) (O.said out.new) count
             self.new.session) }
         ensures turned { IfOk result (λ count. (d : Dialogue) → StandsFor self.old d →
             Turns S.step d store.old store.new (O.said out.old) (O.said out.new) count self.new) }
@@ -282,8 +280,7 @@ impl ImapConnection {
             → 0 < fed.used) }
         ensures asked { Asks S.step store.old store.new }
         ensures ok { IfOk result (λ fed. (d : Dialogue) → StandsFor self.old d →
-            Takes S.step d piece.now store.old store.new (O.said out.old)
-            (O.said out.new) fed self.new) }
+            Takes S.step d piece.now store.old store.new (O.said out.old) (O.said out.new) fed self.new) }
         ensures err { OnErr result ((self.new ≡ self.old) × (store.new ≡ store.old)
             × (O.said out.new ≡ O.said out.old)) }
         ensures full { OnErr result (O.room out.new

@@ -74,8 +74,7 @@ fn tell_copied<S: Store, O: Outlet>(
     requires long { length response.tag + (STORED + 22 * length batch.now.uids.items)
         ≤ response.held }
     ensures plays { (now : Standing) → Plays S.step response.entry.tag now now
-        (showing selected (says (copied_words uidvalidity (batch_of batch.now)))) store.old
-        store.new
+        (showing selected (says (copied_words uidvalidity (batch_of batch.now)))) store.old store.new
         response.entry.text (O.said out.new) result }
     ensures only { (result ≡ After.Go) ⊎ (result ≡ After.Bye) }
     ensures lot { O.lot out.new ≡ response.entry.lot }
@@ -356,8 +355,7 @@ impl Session {
         requires fits { length tag
             + (STORED + 22 * length batch.uids.items) ≤ O.room out.old }
         ensures had { Had (played tag self.old
-            (on_verdict self.old.mailing self.old.selected
-            (Copied (batch_of batch)) mailbox verdict))
+            (on_verdict self.old.mailing self.old.selected (Copied (batch_of batch)) mailbox verdict))
             S.step store.old store.new (O.said out.old) (O.said out.new) result self.new }
         ensures folders { self.new.folders ≡ self.old.folders }
         ensures alone { self.new.mailing.begun ≡ None }

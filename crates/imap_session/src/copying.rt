@@ -232,8 +232,7 @@ fn find_messages<S: Store>(
 ) -> Result<Found, MailFault>
     ensures does { (response : ResponseSpec) (mailing : MailingSpec) → mailing.most ≡ most
         → Does S.step
-        (copy_to mailing copy.now mailbox)
-        (found_next mailing copy.now) store.old store.new response
+        (copy_to mailing copy.now mailbox) (found_next mailing copy.now) store.old store.new response
         response result }
     ensures found { IfOk result (IsFound tag.now) }
 {
@@ -309,8 +308,7 @@ impl Session {
         requires gathered { IsGathered batch }
         ensures leads { Leads response.entry.tag self.old
             (submitting self.old.mailing (batch_of batch) mailbox
-            (completed (commands.Copy copy.now))) response.entry.text
-            (O.said out.new) result self.new }
+            (completed (commands.Copy copy.now))) response.entry.text (O.said out.new) result self.new }
         ensures folders { self.new.folders ≡ self.old.folders }
         ensures sends { result ≡ may_send self.new }
         ensures lot { O.lot out.new ≡ response.entry.lot }
@@ -366,8 +364,7 @@ impl Session {
         requires alone { self.old.mailing.begun ≡ None }
         requires unsent { self.old.mailing.sent ≡ None }
         ensures had { Had
-            (played response.entry.tag self.old
-            (on_command response.entry.tag self.old (commands.Copy copy.now))) S.step
+            (played response.entry.tag self.old (on_command response.entry.tag self.old (commands.Copy copy.now))) S.step
             store.old store.new response.entry.text (O.said out.new) result self.new }
         ensures folders { self.new.folders ≡ self.old.folders }
         ensures sends { result ≡ may_send self.new }

@@ -235,8 +235,7 @@ impl Session {
         requires short { IfSome line (λ l. length l.items ≤ most_line) }
         requires fits { length tag.now + MOST_LINE + LAST + FIRST ≤ O.room out.old }
         ensures answered { (whole : List ℕ) → IsJoined line whole
-            → AnswersJoined S.step tag.now self.old whole rest.now store.old store.new
-            (O.said out.old)
+            → AnswersJoined S.step tag.now self.old whole rest.now store.old store.new (O.said out.old)
             (O.said out.new) result self.new }
         ensures folders { self.new.folders ≡ self.old.folders }
         ensures sends { result ≡ may_send self.new }

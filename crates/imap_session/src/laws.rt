@@ -50,8 +50,7 @@ pub fn parts_show_none()
 /// before it is removed. A message that was refused has no tagged OK, and shows none.
 pub fn verdicts_show_in_order()
     ensures { (mailing : Mailing) (selected : Option Selected) (origin : Origin) (mailbox : ℕ)
-        (verdict : Verdict) → VerdictShowsInOrder selected origin verdict
-        (on_verdict mailing selected origin mailbox verdict) }
+        (verdict : Verdict) → VerdictShowsInOrder selected origin verdict (on_verdict mailing selected origin mailbox verdict) }
 {}
 
 /// A tagged last line begins `OK [APPENDUID` where it answers a verdict that was `Stored`, on a message that was appended, and nowhere else: not where it ends a command or an IDLE,
@@ -65,8 +64,7 @@ pub fn only_a_stored_verdict_tells_a_uid()
 
     // Where the verdict on an appended message was `Stored`, the last line tells its UID, behind the UIDVALIDITY as the mailbox was counted; else none.
     ensures verdicts { (mailing : Mailing) (selected : Option Selected) (origin : Origin)
-        (mailbox : ℕ) (verdict : Verdict) → VerdictTellsUid selected origin mailbox verdict
-        (on_verdict mailing selected origin mailbox verdict) }
+        (mailbox : ℕ) (verdict : Verdict) → VerdictTellsUid selected origin mailbox verdict (on_verdict mailing selected origin mailbox verdict) }
 
     // No last line of a command, of an IDLE, or behind a literal tells one.
     ensures commands { (tag : List ℕ) (now : Standing) (command : Command)

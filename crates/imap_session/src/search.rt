@@ -54,8 +54,7 @@ fn search_one<S: Store>(
 ) -> Result<Option<usize>, MailFault>
     ensures { (response : ResponseSpec) (view : List ℕ) (uid : ℕ) → message ≡ named_at view uid
         → (next : List ℕ → Exchange) (gone : Exchange) → gone ≡ next [] → Does S.step
-        (Read uid false (on_found (λ row. next (found_in search.now last (named_at view uid) row))
-        gone))
+        (Read uid false (on_found (λ row. next (found_in search.now last (named_at view uid) row)) gone))
         (λ found. next (option_to_list found)) store.old store.new response response result }
 {
     let Some(row) = store.read(message.uid, false)? else {
@@ -135,8 +134,7 @@ fn finish_search<S: Store, O: Outlet>(
     response: &mut Response<'_, O>,
 ) -> Result<ResponseText, MailFault>
     ensures { Does S.step
-        (messages_done (commands.Search search.now) search.now.by_uid false) last store.old
-        store.new
+        (messages_done (commands.Search search.now) search.now.by_uid false) last store.old store.new
         response.old response.new result }
 {
     if search.by_uid {

@@ -104,8 +104,7 @@ fn enter_folder<S: Store, O: Outlet>(
     response: &mut Response<'_, O>,
 ) -> Result<ResponseText, MailFault>
     ensures { Moves S.step selected.old selected.new
-        (wanting (entering profile read_only folder.now)) last store.old store.new response.old
-        response.new
+        (wanting (entering profile read_only folder.now)) last store.old store.new response.old response.new
         result }
 {
     let name = folder.name();
@@ -131,8 +130,7 @@ fn enter_named<S: Store, O: Outlet>(
     response: &mut Response<'_, O>,
 ) -> Result<ResponseText, MailFault>
     ensures { Moves S.step selected.old selected.new
-        (wanting (on_folder name.now folders.now (entering profile read_only))) last store.old
-        store.new
+        (wanting (on_folder name.now folders.now (entering profile read_only))) last store.old store.new
         response.old response.new result }
 {
     match find_folder(name, folders) {
@@ -154,8 +152,7 @@ pub(crate) fn select_mailbox<S: Store, O: Outlet>(
 ) -> Result<ResponseText, MailFault>
     requires long { length response.old.tag + (LAST + FIRST) ≤ response.old.held }
     ensures { Moves S.step selected.old selected.new
-        (selecting profile folders.now selected.old read_only name.now) last store.old store.new
-        response.old response.new result }
+        (selecting profile folders.now selected.old read_only name.now) last store.old store.new response.old response.new result }
 {
     leave_previous(selected, store, response)?;
     let name = name.to_bytes(response.out.alloc())?;

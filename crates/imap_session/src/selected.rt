@@ -81,8 +81,7 @@ pub(crate) fn search_selected<S: Store, O: Outlet>(
     response: &mut Response<'_, O>,
 ) -> Result<ResponseText, MailFault>
     ensures { Does S.step
-        (on_found (search_known response.old.tag command.now) wrong_state selected) last store.old
-        store.new
+        (on_found (search_known response.old.tag command.now) wrong_state selected) last store.old store.new
         response.old response.new result }
 {
     match selected {

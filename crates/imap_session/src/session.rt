@@ -242,8 +242,7 @@ impl Session {
             ≤ response.held + length (first_line self.old.profile command.now) }
         ensures plays { Plays S.step response.entry.tag self.old
             (record self.old { selected = self.new.selected })
-            (behind_first_line response.entry.tag self.old command.now) store.old store.new
-            response.entry.text
+            (behind_first_line response.entry.tag self.old command.now) store.old store.new response.entry.text
             (O.said out.new) result }
         ensures standing { self.new
             ≡ (closed (record self.old { selected = self.new.selected }) result).standing }
@@ -277,8 +276,7 @@ impl Session {
         requires alone { self.old.mailing.begun ≡ None }
         requires unsent { self.old.mailing.sent ≡ None }
         ensures answered { IfOk result (λ after.
-            Answers S.step self.old line.now store.old store.new (O.said out.old)
-            (O.said out.new) after
+            Answers S.step self.old line.now store.old store.new (O.said out.old) (O.said out.new) after
             self.new) }
         ensures lasts { result ≢ Err SessionFault.Ended }
         ensures refused { OnErr result ((self.new ≡ self.old) × (store.new ≡ store.old)
@@ -376,8 +374,7 @@ impl Session {
         requires unsent { self.old.mailing.sent ≡ None }
         // What was asked of the store, what is said, and how the session stands then is what `turn_of` tells, by the store's answers.
         ensures answered { IfOk result (λ after.
-            Answers S.step self.old line.now store.old store.new (O.said out.old)
-            (O.said out.new) after
+            Answers S.step self.old line.now store.old store.new (O.said out.old) (O.said out.new) after
             self.new) }
         ensures ended { (result ≡ Err SessionFault.Ended) ↔ (self.old.ended ≡ true) }
         ensures refused { OnErr result ((self.new ≡ self.old) × (store.new ≡ store.old)
@@ -463,9 +460,7 @@ impl Session {
         requires unsent { self.old.mailing.sent ≡ None }
         requires room { HasFirstRoom begun }
         ensures answered { IfOk result (λ after. Answers S.step
-            (record self.old {
-              mailing = record self.old.mailing { begun = Some (pending_of begun) };
-            })
+            (record self.old { mailing = record self.old.mailing { begun = Some (pending_of begun) } })
             line.now store.old store.new (O.said out.old) (O.said out.new) after self.new) }
         ensures lasts { result ≢ Err SessionFault.Ended }
         ensures refused { OnErr result ((self.new
@@ -509,8 +504,7 @@ impl Session {
         requires unsent { self.old.mailing.sent ≡ None }
         requires fits { length tag.now + STORED ≤ O.room out.old }
         ensures plays { Plays S.step tag.now self.old self.old
-            (on_verdict self.old.mailing self.old.selected Client mailbox verdict) store.old
-            store.new
+            (on_verdict self.old.mailing self.old.selected Client mailbox verdict) store.old store.new
             (O.said out.old) (O.said out.new) result }
         ensures standing { self.new ≡ (closed self.old result).standing }
         ensures mailing { self.new.mailing ≡ self.old.mailing }
@@ -539,8 +533,7 @@ impl Session {
         requires fits { length sent.tag
             + (STORED + room_of_sets (origin_of sent.origin)) ≤ O.room out.old }
         ensures had { Had (played sent.tag self.old
-            (on_verdict self.old.mailing self.old.selected
-            (origin_of sent.origin) sent.append.mailbox
+            (on_verdict self.old.mailing self.old.selected (origin_of sent.origin) sent.append.mailbox
             verdict)) S.step store.old store.new (O.said out.old) (O.said out.new) result self.new }
         ensures folders { self.new.folders ≡ self.old.folders }
         ensures alone { self.new.mailing.begun ≡ None }

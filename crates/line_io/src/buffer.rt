@@ -125,8 +125,7 @@ impl<W: Sink> Buffer<W> {
     /// is long, whatever it says now.
     pub fn trade(&mut self, row: Vec<u8>) -> Vec<u8>
         requires none { self.old.pending ≡ [] }
-        ensures row { (length result.items ≡ self.old.limit)
-            × (vec_capacity result ≡ self.old.memory) }
+        ensures row { (length result.items ≡ self.old.limit) × (vec_capacity result ≡ self.old.memory) }
         ensures trades { self.new ≡ record self.old {
           limit = length row.items;
           memory = vec_capacity row;
