@@ -132,7 +132,8 @@ fn serve_all<B: Naming, R: Wait, G: Gate>(
     requires none { taken.old.items ≡ [] }
     ensures shard { stall.new.shard ≡ stall.old.shard }
     ensures permit { IsConsumer lane.now stall.new.permit }
-    ensures senders { AreSenders delivery.now.channels.items stall.old.shard stall.new.senders.items }
+    ensures senders { AreSenders delivery.now.channels.items stall.old.shard
+        stall.new.senders.items }
     ensures answered { HaveAnswered (length delivery.now.mailboxes.items)
         (length delivery.now.channels.items) stall.old.shard
         (got stall.new.permit) (map sent_on stall.old.senders.items)

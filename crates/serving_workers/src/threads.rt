@@ -250,7 +250,8 @@ pub fn start_workers<
     ensures spawned { AllAt (IsSpawned L.told workplace.now.shared) 0 result.spawned.items }
     ensures count { vec_len result.spawned ≡ length shutdown_handles.now }
     ensures mail { All (λ h. serves_mail h ≡ true) result.spawned.items }
-    ensures room { length workplace.now.shared.delivery.channels.items ≤ vec_capacity result.spawned }
+    ensures room { length workplace.now.shared.delivery.channels.items
+        ≤ vec_capacity result.spawned }
 
     // The posts of the producers behind the workers are given back, in their order, with nothing put or heard yet.
     ensures posts { AllAt (IsPost workplace.now.shared)

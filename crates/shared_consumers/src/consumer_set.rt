@@ -128,7 +128,8 @@ fn dismiss<B: Naming, H: LaneGroup, R: Wait, G: Gate>(
     requires delivery { H.delivery ≡ Some (parts_of shared.now.delivery) }
     requires room { (room.items ≡ [])
         × (length shared.now.delivery.channels.items ≤ vec_capacity room) }
-    ensures service { IsService shared.now.intake.lanes.items shared.now.delivery result.0 result.1 }
+    ensures service { IsService shared.now.intake.lanes.items shared.now.delivery
+        result.0 result.1 }
     ensures count { vec_len result.1.senders ≡ length shared.now.delivery.channels.items }
     ensures none { (result.1.taken.items ≡ []) × (result.1.kept ≡ false) }
 {

@@ -41,7 +41,8 @@ pub(crate) fn take_turn<B: Naming, R: Wait, G: Gate>(
         (got stall.old.permit) [] (map sent_on stall.old.senders.items) }
     ensures shard { stall.new.shard ≡ stall.old.shard }
     ensures permit { IsConsumer lane.now stall.new.permit }
-    ensures senders { AreSenders delivery.now.channels.items stall.old.shard stall.new.senders.items }
+    ensures senders { AreSenders delivery.now.channels.items stall.old.shard
+        stall.new.senders.items }
     ensures answered { HaveAnswered (length delivery.now.mailboxes.items)
         (length delivery.now.channels.items) stall.old.shard
         (got stall.new.permit) [] (map sent_on stall.new.senders.items) }
