@@ -216,43 +216,10 @@ script_once k lines t printed s =
 -- ---- of a run
 
 pub wrote_all : (k : Setup) (lines : List ScriptLine) (h : House) (old new : Option (List ℕ)) → Writes k lines h old new → WroteOnce k lines old new
-wrote_all k lines h old new w = record {
-  some = lines;
-  others = [];
-  split = sym (append-nil lines);
-  after = w.after;
-  printed = w.printed;
-  script = w.script;
-  once = w.once;
-  sent = length w.printed;
-  within = le_refl (length w.printed);
-  out = subst (Appends old new) (sym (take-length w.printed)) w.out;
-}
+wrote_all k lines h old new w = w.wrote
 
 pub wrote_first : (k : Setup) (lines : List ScriptLine) (sent : ℕ) (h : House) (old new : Option (List ℕ)) → WritesFirst k lines sent h old new → WroteOnce k lines old new
-wrote_first k lines sent h old new w = record {
-  some = w.some;
-  others = w.others;
-  split = w.split;
-  after = w.after;
-  printed = w.printed;
-  script = w.script;
-  once = w.once;
-  sent = sent;
-  within = (let l = w.within in omega arith);
-  out = w.out;
-}
+wrote_first k lines sent h old new w = w.wrote
 
 pub wrote_beginning : (k : Setup) (lines : List ScriptLine) (Left : ℕ → List Bool → List ScriptLine → Scene → Type 0) (old new : Option (List ℕ)) → WritesBeginning k lines Left old new → WroteOnce k lines old new
-wrote_beginning k lines Left old new w = record {
-  some = w.some;
-  others = w.others;
-  split = w.split;
-  after = w.after;
-  printed = w.printed;
-  script = w.script;
-  once = w.once;
-  sent = length w.printed;
-  within = le_refl (length w.printed);
-  out = subst (Appends old new) (sym (take-length w.printed)) w.out;
-}
+wrote_beginning k lines Left old new w = w.wrote

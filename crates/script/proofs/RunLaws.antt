@@ -1,5 +1,5 @@
 -- From what the house promises of its calls to what a run promises of a line, of a turn and of all its turns.
-use Rattle.std.proofs.Common.{◌≡◌, ℕ, zero, suc, ◌+◌, ◌*◌, ◌<◌, ◌≤◌, ◌⊎◌, inl, inr, List, [], ◌∷◌, ◌++◌, length, take, get_or, length-set, refl, sym, ap, ◌∙◌, subst, arith, append_assoc, append-nil, length-append, Option, Some, None, Result, Ok, Err}
+use Rattle.std.proofs.Common.{◌≡◌, ℕ, zero, suc, ◌+◌, ◌*◌, ◌<◌, ◌≤◌, ◌⊎◌, inl, inr, List, [], ◌∷◌, ◌++◌, length, take, get_or, length-set, refl, sym, ap, ◌∙◌, subst, arith, append_assoc, append-nil, length-append, le_refl, Option, Some, None, Result, Ok, Err}
 use Rattle.std.proofs.Math.Seq.{take-append-add, take-suc}
 use Rattle.std.proofs.lemmas.Int.Digits.{digits_value_push}
 use Rattle.std.specs.Char.{digit_value}
@@ -320,7 +320,22 @@ run_stops form k input count h held left old mid new sent Left r is same = recor
 
 -- nothing was read or written yet
 pub run_unbegun : (k : Setup) (lines : List ScriptLine) (old : Option (List ℕ)) (Left : ℕ → List Bool → List ScriptLine → Scene → Type 0) → Left 1 (none_held k) lines (empty_scene k) → WritesBeginning k lines Left old old
-run_unbegun k lines old Left is = record { some = []; others = lines; split = refl; after = (empty_scene k); printed = []; script = (refl, refl); once = script_once k [] (empty_scene k) [] (refl, refl); left = is; out = Appends-nil old }
+run_unbegun k lines old Left is = record {
+  wrote = record {
+    some = [];
+    others = lines;
+    split = refl;
+    after = empty_scene k;
+    printed = [];
+    script = (refl, refl);
+    once = script_once k [] (empty_scene k) [] (refl, refl);
+    sent = 0;
+    within = le_refl 0;
+    out = Appends-nil old;
+  };
+  whole = refl;
+  left = is;
+}
 
 -- the same, in any form
 pub told_unbegun : (form : Form) (k : Setup) (lines : List (List ℕ)) (old : Option (List ℕ)) (Left : ℕ → List Bool → List ScriptLine → Scene → Type 0)

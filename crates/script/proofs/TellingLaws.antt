@@ -1,6 +1,7 @@
 -- From what each line prints to what all of them print, and what tells of that.
-use Rattle.std.proofs.Common.{◌≡◌, ◌∙◌, ℕ, suc, ◌+◌, Bool, List, [], ◌∷◌, ◌++◌, length, map, take, ◌<◌, refl, sym, ap, subst, arith, add-zero, append_assoc, append-nil, Option, Result, Ok, Err}
+use Rattle.std.proofs.Common.{◌≡◌, ◌∙◌, ℕ, suc, ◌+◌, Bool, List, [], ◌∷◌, ◌++◌, length, map, take, ◌<◌, refl, sym, ap, subst, arith, add-zero, append_assoc, append-nil, le_refl, Option, Result, Ok, Err}
 use Rattle.std.specs.Prelude.{OnOk}
+use Rattle.std.proofs.Math.Seq.{take-length}
 use Rattle.std.proofs.lemmas.List.{length-map}
 use Rattle.std.specs.Io.KnownBytes.{Appends}
 use Rattle.house.specs.House.{House}
@@ -109,12 +110,21 @@ all_written k input h old new w =
     let played = subst (λ (ls : List ScriptLine). Script k 1 (none_held k) ls (empty_scene k) w.after (joined w.texts)) (asked_as_script input)
     (as_script k 1 (none_held k) (asked_by (lines_of input)) (empty_scene k) w.after w.texts w.plays) in
     record {
-      after = w.after;
-      printed = joined w.texts;
-      script = played;
-      once = script_once k (script_of input) w.after (joined w.texts) played;
+      wrote = record {
+        some = script_of input;
+        others = [];
+        split = sym (append-nil (script_of input));
+        after = w.after;
+        printed = joined w.texts;
+        script = played;
+        once = script_once k (script_of input) w.after (joined w.texts) played;
+        sent = length (joined w.texts);
+        within = le_refl (length (joined w.texts));
+        out = subst (Appends old new) (sym (take-length (joined w.texts))) (subst (Appends old new) (text_is k (lines_of input) w.after w.texts w.plays) w.out);
+      };
+      all = refl;
+      whole = refl;
       stands = w.stands;
-      out = subst (Appends old new) (text_is k (lines_of input) w.after w.texts w.plays) w.out;
     }
 
 split_of : (input : List ℕ) (some others : List (List ℕ)) → lines_of input ≡ some ++ others → script_of input ≡ asked_by some ++ asked_by others
@@ -125,17 +135,23 @@ first_written : (k : Setup) (input : List ℕ) (sent : ℕ) (h : House) (old new
 first_written k input sent h old new w =
     let played = as_script k 1 (none_held k) (asked_by w.some) (empty_scene k) w.after w.texts w.plays in
     let is = text_is k w.some w.after w.texts w.plays in
+    let less = subst (λ (x : List ℕ). sent < length x) is w.within in
     record {
-      some = asked_by w.some;
-      others = asked_by w.others;
-      split = split_of input w.some w.others w.split;
-      after = w.after;
-      printed = joined w.texts;
-      script = played;
-      once = script_once k (asked_by w.some) w.after (joined w.texts) played;
+      wrote = record {
+        some = asked_by w.some;
+        others = asked_by w.others;
+        split = split_of input w.some w.others w.split;
+        after = w.after;
+        printed = joined w.texts;
+        script = played;
+        once = script_once k (asked_by w.some) w.after (joined w.texts) played;
+        sent = sent;
+        within = omega (arith, less);
+        out = subst (λ (x : List ℕ). Appends old new (take sent x)) is w.out;
+      };
+      stopped = refl;
+      within = less;
       stands = w.stands;
-      within = subst (λ (x : List ℕ). sent < length x) is w.within;
-      out = subst (λ (x : List ℕ). Appends old new (take sent x)) is w.out;
     }
 
 beginning_written : (k : Setup) (input : List ℕ) (Told Left : ℕ → List Bool → List ScriptLine → Scene → Type 0) (old new : Option (List ℕ))
@@ -144,16 +160,21 @@ beginning_written : (k : Setup) (input : List ℕ) (Told Left : ℕ → List Boo
 beginning_written k input Told Left old new weaker w =
     let played = as_script k 1 (none_held k) (asked_by w.some) (empty_scene k) w.after w.texts w.plays in
     record {
-      some = asked_by w.some;
-      others = asked_by w.others;
-      split = split_of input w.some w.others w.split;
-      after = w.after;
-      printed = joined w.texts;
-      script = played;
-      once = script_once k (asked_by w.some) w.after (joined w.texts) played;
+      wrote = record {
+        some = asked_by w.some;
+        others = asked_by w.others;
+        split = split_of input w.some w.others w.split;
+        after = w.after;
+        printed = joined w.texts;
+        script = played;
+        once = script_once k (asked_by w.some) w.after (joined w.texts) played;
+        sent = length (joined w.texts);
+        within = le_refl (length (joined w.texts));
+        out = subst (Appends old new) (sym (take-length (joined w.texts))) (subst (Appends old new) (text_is k w.some w.after w.texts w.plays) w.out);
+      };
+      whole = refl;
       left = subst (λ (n : ℕ). Left (n + 1) (held_by (none_held k) (asked_by w.some)) (asked_by w.others) w.after) (sym (length-map w.some asked))
           (weaker (length w.some + 1) (held_by (none_held k) (asked_by w.some)) (asked_by w.others) w.after w.left);
-      out = subst (Appends old new) (text_is k w.some w.after w.texts w.plays) w.out;
     }
 
 -- as text nothing is wanted to tell of a line

@@ -1,53 +1,36 @@
 -- What a run leaves: what was written, and what the house stands for then.
-use Rattle.std.specs.Prelude.{◌≡◌, ℕ, ◌+◌, ◌<◌, Bool, false, List, ◌∷◌, ◌++◌, length, take, Option}
-use Rattle.std.specs.Io.KnownBytes.{Appends}
+use Rattle.std.specs.Prelude.{◌≡◌, ℕ, ◌+◌, ◌<◌, Bool, false, List, [], ◌∷◌, length, Option}
 use Rattle.house.specs.Setup.{Setup}
-use Rattle.house.specs.Scene.{BytesPlay, ClosePlay, EnterPlay, LeavePlay, SayPlay, Scene, VanishPlay, empty_scene, place_of, seat_of}
+use Rattle.house.specs.Scene.{BytesPlay, ClosePlay, EnterPlay, LeavePlay, SayPlay, Scene, VanishPlay, place_of, seat_of}
 use Rattle.house.specs.Settled.{is_held}
 use Rattle.house.specs.Settling.{SettlingBreaksOff}
 use Rattle.house.specs.Stands.{StandsFor}
 use Rattle.house.specs.House.{House}
-use Rattle.script.specs.Script.{Asks, Closes, Enters, Leaves, LineDoes, Script, ScriptLine, Sends, Vanishes, held_after, held_by, none_held}
-use Rattle.script.specs.Promise.{DeliversOnce}
+use Rattle.script.specs.Script.{Asks, Closes, Enters, Leaves, LineDoes, ScriptLine, Sends, Vanishes, held_after, held_by, none_held}
+use Rattle.script.specs.Promise.{WroteOnce}
 
-module _ (k : Setup) (lines : List ScriptLine) (h : House) where
-  -- These bytes were written, they are what a script of these lines prints, and deliver exactly once; the house that is left stands for the scene
-  -- that it leads to.
-  pub record Writes (old new : Option (List ℕ)) : Type 0 where
-    pub after : Scene
-    pub printed : List ℕ
-    pub script : Script k 1 (none_held k) lines (empty_scene k) after printed
-    pub once : DeliversOnce k (length lines) after printed
-    pub stands : StandsFor k h after
-    pub out : Appends old new printed
+-- All lines were played, and all that they print was written; the house that is left stands for the scene that they lead to.
+pub record Writes (k : Setup) (lines : List ScriptLine) (h : House) (old new : Option (List ℕ)) : Type 0 where
+  pub wrote : WroteOnce k lines old new
+  pub all : wrote.others ≡ []
+  pub whole : wrote.sent ≡ length wrote.printed
+  pub stands : StandsFor k h wrote.after
 
 module _ (k : Setup) (lines : List ScriptLine) (sent : ℕ) (h : House) where
-  -- Of what some of the first lines print the first `sent` bytes were written, and not all. The house stands for the scene that these lines lead to.
+  -- Of what the lines print that were played the first `sent` bytes were written, and not all; the house stands for the scene that they lead to.
   pub record WritesFirst (old new : Option (List ℕ)) : Type 0 where
-    pub some : List ScriptLine
-    pub others : List ScriptLine
-    pub split : lines ≡ some ++ others
-    pub after : Scene
-    pub printed : List ℕ
-    pub script : Script k 1 (none_held k) some (empty_scene k) after printed
-    pub once : DeliversOnce k (length some) after printed
-    pub stands : StandsFor k h after
-    pub within : sent < length printed
-    pub out : Appends old new (take sent printed)
+    pub wrote : WroteOnce k lines old new
+    pub stopped : wrote.sent ≡ sent
+    pub within : sent < length wrote.printed
+    pub stands : StandsFor k h wrote.after
 
 module _ (k : Setup) (lines : List ScriptLine) (Left : ℕ → (held : List Bool) → List ScriptLine → Scene → Type 0) where
-  -- What some of the first lines print was written, whole, and of the house that is left, by the shards that are held then, the lines behind them and
-  -- the scene that these lead to, this holds.
+  -- All that the lines print that were played was written. Of the house that is left, by the shards that are held then, the lines behind these and the
+  -- scene that these lead to, this holds.
   pub record WritesBeginning (old new : Option (List ℕ)) : Type 0 where
-    pub some : List ScriptLine
-    pub others : List ScriptLine
-    pub split : lines ≡ some ++ others
-    pub after : Scene
-    pub printed : List ℕ
-    pub script : Script k 1 (none_held k) some (empty_scene k) after printed
-    pub once : DeliversOnce k (length some) after printed
-    pub left : Left (length some + 1) (held_by (none_held k) some) others after
-    pub out : Appends old new printed
+    pub wrote : WroteOnce k lines old new
+    pub whole : wrote.sent ≡ length wrote.printed
+    pub left : Left (length wrote.some + 1) (held_by (none_held k) wrote.some) wrote.others wrote.after
 
 module _ (k : Setup) (h : House) where
   -- nothing was done since
