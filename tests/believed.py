@@ -69,6 +69,9 @@ WITH_ITS_FILE = {("crates/laws_client/specs/Client.antt", "fresh")}
 # What bodies alone say stands within a module that has parameters, beside the public words that share these.
 WITHIN_ITS_MODULE = {("crates/shard_queue/specs/Closing.antt", "HasAllEnds"), ("crates/lane_work/specs/Streaming.antt", "SaysLast")}
 
+# A definition of README's sentences has no more arguments than this, beside those of its section.
+MOST_ARGUMENTS = 4
+
 # Words of a notation, which are no definitions.
 NOTATION = {"infixr", "infixl", "use"}
 
@@ -311,6 +314,50 @@ def sizes_beyond(closure, before):
     """The files of a closure, each with the lines of its definitions that aren't among these, where there are any."""
     sizes = {path: sum(closure.sources[path].lines[n] for n in names - before.get(path, set())) for path, names in closure.reached.items()}
     return {path: lines for path, lines in sizes.items() if lines}
+
+
+def arguments_in(groups):
+    """How many names the groups in parentheses of a head have, such as `(a b : A) (c : B)`, up to its type."""
+    count = depth = begun = 0
+    for at, letter in enumerate(groups):
+        if letter in "({":
+            begun = at if depth == 0 else begun
+            depth += 1
+        elif letter in ")}":
+            depth -= 1
+            if depth == 0 and groups[begun] == "(":
+                count += len(groups[begun + 1 : at].split(" : ")[0].split())
+        elif letter == ":" and depth == 0:
+            break
+    return count
+
+
+def patterns_in(side):
+    """How many arguments the left side of an equation has."""
+    count, depth, within = 0, 0, False
+    for letter in side:
+        if depth == 0 and letter != " " and not within:
+            count += 1
+        depth += {"(": 1, "[": 1, ")": -1, "]": -1}.get(letter, 0)
+        within = depth > 0 or letter != " "
+    return count
+
+
+def arguments_of(name, text):
+    """How many arguments a definition has, beside those of the modules that it stands in: of a type the names of its head, of a function what stands on the
+    left side of its first equation."""
+    if kind := DECLARED.match(text).group(1):
+        return arguments_in(" ".join(text.split("\n")).split(f"{kind} {name}", 1)[1])
+    equation = re.search(rf"\n{re.escape(name)}\b(.*?) =(?: |\n|$)", text)
+    return patterns_in(equation.group(1)) if equation else 0
+
+
+def with_many_arguments(roots):
+    """The definitions that the clauses of these functions rest on and that have more than four arguments, each with its file."""
+    closure = closure_of(roots)
+    for path, names in sorted(closure.reached.items()):
+        texts = closure.sources[path].text
+        yield from ((path, name) for name in sorted(names) if arguments_of(name, texts[name]) > MOST_ARGUMENTS)
 
 
 def parts():

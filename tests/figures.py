@@ -14,6 +14,8 @@ import os
 import re
 import sys
 
+import believed
+
 TOP = os.path.dirname(os.path.dirname(os.path.abspath(__file__)))
 
 # Each figure, in the order in which they are printed, and its limit.
@@ -26,6 +28,8 @@ LIMITS = {
     "per mille of clauses that begin with a line over 100 columns": 1,
     "lines of proofs": 104000,
     "lines of docs/PROVING.md": 300,
+    "promised definitions with more than four arguments": 23,
+    "lines of definitions over 150 columns": 8,
     "lines of code, definitions and proofs": 202700,
     "files that name an option (ring_max)": 50,
     "files that name a setting of serve (lmtp_port)": 35,
@@ -40,6 +44,9 @@ LIMITS = {
 FIXED = ("lines of docs/PROVING.md",)
 
 FEW_LINES, MANY_ARGUMENTS, LONG_LINE = 150, 8, 100
+
+# A line of definitions that is wider isn't read at one look.
+WIDE_LINE = 150
 
 # What a change of one kind names: files of crates/, docs/, tests/ and examples/ and README.md are counted. A file that has none of the words isn't looked
 # through for the pattern.
@@ -157,6 +164,18 @@ def clauses():
                 yield len(line) > LONG_LINE
 
 
+def wide_lines():
+    """How many lines of definitions are wide, but for imports and worked examples."""
+    paths = [path for path in files_of("crates") if path.endswith(".antt") and path.split(os.sep)[2] == "specs" and path.split(os.sep)[3] != "rows"]
+    lines = (line for path in paths for line in read(path).splitlines())
+    return sum(len(line) > WIDE_LINE and not re.match(r"\s*(?:pub )?use ", line) for line in lines)
+
+
+def with_many_arguments():
+    """How many of the definitions that the pages' promise rests on have many arguments."""
+    return sum(1 for _ in believed.with_many_arguments([root for _, roots in believed.PARTS for root in roots]))
+
+
 def count_lines(paths):
     return sum(read(path).count("\n") for path in paths)
 
@@ -189,6 +208,8 @@ def figures():
         "per mille of clauses that begin with a line over 100 columns": round(1000 * sum(long) / len(long)),
         "lines of proofs": count_lines(path for path in texts if path.split(os.sep)[2] == "proofs"),
         "lines of docs/PROVING.md": count_lines(["docs/PROVING.md"]),
+        "promised definitions with more than four arguments": with_many_arguments(),
+        "lines of definitions over 150 columns": wide_lines(),
         "lines of code, definitions and proofs": count_lines(texts),
         **count_touched(),
     }

@@ -9,12 +9,13 @@ use Rattle.house.specs.House.{House}
 use Rattle.script.specs.Script.{Asks, Closes, Enters, Leaves, LineDoes, ScriptLine, Sends, Vanishes, held_after, held_by, none_held}
 use Rattle.script.specs.Promise.{WroteOnce}
 
--- All lines were played, and all that they print was written; the house that is left stands for the scene that they lead to.
-pub record Writes (k : Setup) (lines : List ScriptLine) (h : House) (old new : Option (List ℕ)) : Type 0 where
-  pub wrote : WroteOnce k lines old new
-  pub all : wrote.others ≡ []
-  pub whole : wrote.sent ≡ length wrote.printed
-  pub stands : StandsFor k h wrote.after
+module _ (k : Setup) (lines : List ScriptLine) (h : House) where
+  -- All lines were played, and all that they print was written; the house that is left stands for the scene that they lead to.
+  pub record Writes (old new : Option (List ℕ)) : Type 0 where
+    pub wrote : WroteOnce k lines old new
+    pub all : wrote.others ≡ []
+    pub whole : wrote.sent ≡ length wrote.printed
+    pub stands : StandsFor k h wrote.after
 
 module _ (k : Setup) (lines : List ScriptLine) (sent : ℕ) (h : House) where
   -- Of what the lines print that were played the first `sent` bytes were written, and not all; the house stands for the scene that they lead to.
@@ -25,8 +26,8 @@ module _ (k : Setup) (lines : List ScriptLine) (sent : ℕ) (h : House) where
     pub stands : StandsFor k h wrote.after
 
 module _ (k : Setup) (lines : List ScriptLine) (Left : ℕ → (held : List Bool) → List ScriptLine → Scene → Type 0) where
-  -- All that the lines print that were played was written. Of the house that is left, by the shards that are held then, the lines behind these and the
-  -- scene that these lead to, this holds.
+  -- All that the lines print that were played was written. Of the house that is left, by the shards that are held then, the lines behind these and
+  -- the scene that these lead to, this holds.
   pub record WritesBeginning (old new : Option (List ℕ)) : Type 0 where
     pub wrote : WroteOnce k lines old new
     pub whole : wrote.sent ≡ length wrote.printed
