@@ -1,4 +1,4 @@
--- What it means that a client was attended, and what that refuses: one thing at a time is wrong. Above each stands what the client would have seen.
+-- What it means that a client was attended, and what that refuses: one thing at a time is wrong. Above each stands what would have happened.
 use Rattle.std.proofs.Common.{◌≡◌, ◌⊎◌, inl, inr, ℕ, true, false, List, [], ◌∷◌, ◌++◌, length, refl, Option, Some, None, ap, sym, ◌∙◌, append-nil, arith}
 use Rattle.std.specs.Prelude.{codes}
 use Rattle.std.proofs.lemmas.Bool.{false≢true, true≢false}
@@ -173,14 +173,14 @@ goes_on how old new open_yet a = false≢true (sym open_yet ∙ ap (λ (v : Visi
 told_at_parting : HasParted greeted (record over { taken = Some farewell }) → ⊥
 told_at_parting p = let many : length farewell ≡ 0 = ap sent p.rest in omega (arith, many)
 
--- Its session left its mailbox, and is there still: the mailbox keeps what others removed for it.
+-- Its session has left its mailbox, and is in it still.
 keeps_its_mailbox : Departs within within → ⊥
-keeps_its_mailbox (inl (out, same)) = none-some (sym out)
-keeps_its_mailbox (inr (gone, holds)) = none-some (sym (ap (λ (s : LockedStore). s.entered) holds.1))
+keeps_its_mailbox (inl (out, same)) = none-some entry (sym out)
+keeps_its_mailbox (inr (gone, holds)) = none-some entry (sym (ap (λ (s : LockedStore). s.entered) holds.1))
 
--- Its mailbox doesn't know it, and it is out of it all the same.
+-- Its mailbox doesn't know it, and its session says that it left.
 forgotten_and_out : IsForgotten within outside → ⊥
-forgotten_and_out f = none-some (ap (λ (s : LockedStore). s.entered) f.0)
+forgotten_and_out f = none-some entry (ap (λ (s : LockedStore). s.entered) f.0)
 
 abbrev box_of : Option Entry → ℕ
 box_of None = 0
@@ -191,6 +191,6 @@ in_another : HasParted selected (record selected { closed = true; selection = re
 in_another p = by p.departs
   where
     by : Departs within (record within { entered = Some (record entry { mailbox = 1 }) }) ⊎ IsForgotten within (record within { entered = Some (record entry { mailbox = 1 }) }) → ⊥
-    by (inl (inl (out, same))) = none-some (sym out)
-    by (inl (inr (gone, holds))) = none-some (sym (ap (λ (s : LockedStore). s.entered) holds.1))
+    by (inl (inl (out, same))) = none-some entry (sym out)
+    by (inl (inr (gone, holds))) = none-some (record entry { mailbox = 1 }) (sym (ap (λ (s : LockedStore). s.entered) holds.1))
     by (inr (same, here)) = let which : 1 ≡ 0 = ap (λ (s : LockedStore). box_of s.entered) same in omega (arith, which)
