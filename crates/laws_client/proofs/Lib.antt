@@ -100,3 +100,4 @@ mod ServedCurrent
 mod ServedFlags
 mod ServedStays
 mod ServedVisits
+mod AttendingRefuted

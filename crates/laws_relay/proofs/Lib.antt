@@ -45,3 +45,5 @@ mod ToldCopies
 mod Served
 mod ServedWorkers
 mod ServedLines
+mod ServedHolds
+mod ServedRefuted
