@@ -7,7 +7,8 @@ ghost use Rattle.house_shared.specs.Left.{IsServiceOf};
 ghost use Rattle.house_threads.specs.inner.Crew.{IsKept};
 
 use crate::aside::step_aside;
-use crate::parcels::{Manned, mark, packed};
+use crate::common::Common;
+use crate::parcels::{mark, packed};
 use house_history::Naming;
 use house_shared::{HouseShared, Stand};
 use lane_work::{Consumed, consume};
@@ -44,20 +45,19 @@ pub(crate) enum Kept<'a, B: Naming> {
 // A consumer's life, in a thread of its own; where no thread is to be had it steps aside.
 fn consume_there<B: Naming, R: Wait, G: Gate>(
     rt: &R,
-    shared: &HouseShared<B>,
-    gate: &G,
+    common: Common<'_, B, G>,
     shard: u8,
     stand: ManuallyDrop<Stand<B>>,
-    manned: &Manned,
 ) -> ManuallyDrop<Consumed<B>>
-    requires shard { shard < length shared.now.intake.lanes.items }
-    requires stand { IsStand shared.now shard (manually_drop_value stand) }
-    ensures { IsServiceOf shared.now shard (manually_drop_value result) }
+    requires shard { shard < length common.shared.now.intake.lanes.items }
+    requires stand { IsStand common.shared.now shard (manually_drop_value stand) }
+    ensures { IsServiceOf common.entry.shared.now shard (manually_drop_value result) }
 {
+    let shared = common.shared;
     let position = usize::from(shard);
     let stand = ManuallyDrop::into_inner(stand);
-    let mut sync_point = SyncPoint::new(gate, Actor::Consumer(shard));
-    if manned.shards.load(Ordering::SeqCst) <= u64::from(shard) {
+    let mut sync_point = SyncPoint::new(common.gate, Actor::Consumer(shard));
+    if common.manned.shards.load(Ordering::SeqCst) <= u64::from(shard) {
         let aside = step_aside(rt, shared.alloc, &mut sync_point, &shared.delivery, stand);
         return packed(aside);
     }
@@ -79,23 +79,23 @@ fn consume_there<B: Naming, R: Wait, G: Gate>(
 fn start_consumer<'s, E, B: Naming + Send + Sync, R: Threads + Wait + Sync, G: Gate + Sync>(
     scope: &thread::Scope<'s, E>,
     rt: &'s R,
-    shared: &'s HouseShared<B>,
-    gate: &'s G,
+    common: Common<'s, B, G>,
     shard: u8,
     stand: Stand<B>,
-    manned: &'s Manned,
 ) -> Kept<'s, B>
-    requires shard { shard < length shared.now.intake.lanes.items }
-    requires stand { IsStand shared.now shard stand }
-    ensures { IsKept shared.now shard result }
+    requires shard { shard < length common.shared.now.intake.lanes.items }
+    requires stand { IsStand common.shared.now shard stand }
+    ensures { IsKept common.entry.shared.now shard result }
 {
     let parcel = packed(stand);
-    match scope.spawn_with(Serves { shared, shard }, move || {
-        consume_there(rt, shared, gate, shard, parcel, manned)
-    }) {
+    let promise = Serves {
+        shared: common.shared,
+        shard,
+    };
+    match scope.spawn_with(promise, move || consume_there(rt, common, shard, parcel)) {
         Ok(child) => Kept::There(child),
         Err(refused) => {
-            mark(&manned.shards, shard);
+            mark(&common.manned.shards, shard);
             Kept::Here((refused.value)())
         }
     }
@@ -123,24 +123,23 @@ pub(crate) fn start_consumers<
 >(
     scope: &thread::Scope<'s, E>,
     rt: &'s R,
-    shared: &'s HouseShared<B>,
-    gate: &'s G,
+    common: Common<'s, B, G>,
     mut stands: Vec<Stand<B>>,
     mut kept: Vec<Kept<'s, B>>,
-    manned: &'s Manned,
 ) -> (Vec<Kept<'s, B>>, usize)
-    requires few { length shared.now.intake.lanes.items < 256 }
-    requires stands { AllAt (IsStand shared.now) 0 stands.items
-        × (vec_len stands ≡ length shared.now.intake.lanes.items) }
-    requires room { (kept.items ≡ []) × (length shared.now.intake.lanes.items ≤ vec_capacity kept) }
-    ensures kept { AllAt (IsKept shared.now) 0 result.0.items }
-    ensures count { vec_len result.0 ≡ length shared.now.intake.lanes.items }
-    ensures first { result.1 ≤ length shared.now.intake.lanes.items }
+    requires few { length common.shared.now.intake.lanes.items < 256 }
+    requires stands { AllAt (IsStand common.shared.now) 0 stands.items
+        × (vec_len stands ≡ length common.shared.now.intake.lanes.items) }
+    requires room { (kept.items ≡ [])
+        × (length common.shared.now.intake.lanes.items ≤ vec_capacity kept) }
+    ensures kept { AllAt (IsKept common.entry.shared.now) 0 result.0.items }
+    ensures count { vec_len result.0 ≡ length common.entry.shared.now.intake.lanes.items }
+    ensures first { result.1 ≤ length common.entry.shared.now.intake.lanes.items }
 {
-    let mut first = shared.intake.lanes.len();
-    for position in 0..shared.intake.lanes.len() {
+    let mut first = common.shared.intake.lanes.len();
+    for position in 0..common.shared.intake.lanes.len() {
         let stand = stands.remove(0);
-        let one = start_consumer(scope, rt, shared, gate, position as u8, stand, manned);
+        let one = start_consumer(scope, rt, common, position as u8, stand);
         let is_there = matches!(one, Kept::There(_));
         first = first_without(first, position, is_there);
         kept.push_reserved(one);

@@ -4,6 +4,7 @@
 #![tactic(auto)]
 
 mod aside;
+mod common;
 mod consumers;
 mod parcels;
 mod producers;

@@ -8,7 +8,8 @@ ghost use Rattle.reckoning.specs.Produced.{IsProduceOf};
 ghost use Rattle.house_threads.specs.inner.Crew.{IsSpawned};
 
 use crate::aside::stand_down;
-use crate::parcels::{Manned, mark, packed};
+use crate::common::Common;
+use crate::parcels::{mark, packed};
 use crate::sessions::attend;
 use house_history::Naming;
 use house_shared::{Guest, HouseShared, Post};
@@ -61,18 +62,18 @@ pub(crate) fn actor_of(workers: usize, number: u8) -> Actor {
 // A worker's life.
 fn work_at<B: Naming, R: Wait, G: Gate>(
     rt: &R,
-    shared: &HouseShared<B>,
-    gate: &G,
-    plans: &[Vec<Vec<u8>>],
-    guests: &[Guest],
+    common: Common<'_, B, G>,
     number: u8,
     post: Post<B>,
 ) -> Worked<B>
-    requires house { IsHouse shared.now (length plans.now + length guests.now) }
-    requires number { number < length plans.now }
-    requires post { IsPost shared.now number post }
-    ensures { IsProduceOf shared.now plans.now guests.now number result }
+    requires house { IsHouse common.shared.now
+        (length common.plans.now + length common.guests.now) }
+    requires number { number < length common.plans.now }
+    requires post { IsPost common.shared.now number post }
+    ensures { IsProduceOf common.entry.shared.now common.entry.plans.now
+        common.entry.guests.now number result }
 {
+    let shared = common.shared;
     let position = usize::from(number);
     let context = Context {
         rt,
@@ -81,36 +82,36 @@ fn work_at<B: Naming, R: Wait, G: Gate>(
         notifier: &shared.bells,
         channel: &shared.delivery.channels[position],
     };
-    let sync_point = SyncPoint::new(gate, Actor::Worker(number));
+    let sync_point = SyncPoint::new(common.gate, Actor::Worker(number));
     let Post { desk, room } = post;
-    work(&context, sync_point, desk, room, plans[position].as_slice())
+    let plan = common.plans[position].as_slice();
+    work(&context, sync_point, desk, room, plan)
 }
 
 // A session's life.
 fn attend_at<B: Naming, R: Wait, G: Gate>(
     rt: &R,
-    shared: &HouseShared<B>,
-    gate: &G,
-    plans: &[Vec<Vec<u8>>],
-    guests: &[Guest],
+    common: Common<'_, B, G>,
     number: u8,
     post: Post<B>,
 ) -> Worked<B>
-    requires house { IsHouse shared.now (length plans.now + length guests.now) }
-    requires guests { AreGuests shared.now guests.now }
-    requires behind { length plans.now ≤ number }
-    requires number { number < length plans.now + length guests.now }
-    requires post { IsPost shared.now number post }
-    ensures { IsProduceOf shared.now plans.now guests.now number result }
+    requires house { IsHouse common.shared.now
+        (length common.plans.now + length common.guests.now) }
+    requires guests { AreGuests common.shared.now common.guests.now }
+    requires behind { length common.plans.now ≤ number }
+    requires number { number < length common.plans.now + length common.guests.now }
+    requires post { IsPost common.shared.now number post }
+    ensures { IsProduceOf common.entry.shared.now common.entry.plans.now
+        common.entry.guests.now number result }
 {
-    let session = usize::from(number) - plans.len();
-    let channel = &shared.delivery.channels[usize::from(number)];
+    let session = usize::from(number) - common.plans.len();
+    let channel = &common.shared.delivery.channels[usize::from(number)];
     attend(
         rt,
-        shared,
-        gate,
+        common.shared,
+        common.gate,
         channel,
-        &guests[session],
+        &common.guests[session],
         session as u8,
         post,
     )
@@ -119,30 +120,29 @@ fn attend_at<B: Naming, R: Wait, G: Gate>(
 // A producer's life, in a thread of its own; where no thread is to be had it stands down.
 fn produce_there<B: Naming, R: Wait, G: Gate>(
     rt: &R,
-    shared: &HouseShared<B>,
-    gate: &G,
-    plans: &[Vec<Vec<u8>>],
-    guests: &[Guest],
+    common: Common<'_, B, G>,
     number: u8,
     post: ManuallyDrop<Post<B>>,
-    manned: &Manned,
 ) -> ManuallyDrop<Worked<B>>
-    requires house { IsHouse shared.now (length plans.now + length guests.now) }
-    requires guests { AreGuests shared.now guests.now }
-    requires number { number < length plans.now + length guests.now }
-    requires post { IsPost shared.now number (manually_drop_value post) }
-    ensures { IsProduceOf shared.now plans.now guests.now number (manually_drop_value result) }
+    requires house { IsHouse common.shared.now
+        (length common.plans.now + length common.guests.now) }
+    requires guests { AreGuests common.shared.now common.guests.now }
+    requires number { number < length common.plans.now + length common.guests.now }
+    requires post { IsPost common.shared.now number (manually_drop_value post) }
+    ensures { IsProduceOf common.entry.shared.now common.entry.plans.now
+        common.entry.guests.now number (manually_drop_value result) }
 {
     let post = ManuallyDrop::into_inner(post);
-    if manned.producers.load(Ordering::SeqCst) <= u64::from(number) {
-        let mut sync_point = SyncPoint::new(gate, actor_of(plans.len(), number));
+    if common.manned.producers.load(Ordering::SeqCst) <= u64::from(number) {
+        let shared = common.shared;
+        let mut sync_point = SyncPoint::new(common.gate, actor_of(common.plans.len(), number));
         let (intake, bells) = (&shared.intake, &shared.bells);
         return packed(stand_down(rt, shared.alloc, &mut sync_point, intake, bells, post));
     }
-    if usize::from(number) < plans.len() {
-        packed(work_at(rt, shared, gate, plans, guests, number, post))
+    if usize::from(number) < common.plans.len() {
+        packed(work_at(rt, common, number, post))
     } else {
-        packed(attend_at(rt, shared, gate, plans, guests, number, post))
+        packed(attend_at(rt, common, number, post))
     }
 }
 
@@ -151,33 +151,29 @@ fn produce_there<B: Naming, R: Wait, G: Gate>(
 fn start_producer<'s, E, B: Naming + Send + Sync, R: Threads + Wait + Sync, G: Gate + Sync>(
     scope: &thread::Scope<'s, E>,
     rt: &'s R,
-    shared: &'s HouseShared<B>,
-    gate: &'s G,
-    plans: &'s [Vec<Vec<u8>>],
-    guests: &'s [Guest],
+    common: Common<'s, B, G>,
     number: u8,
     post: Post<B>,
-    manned: &'s Manned,
 ) -> Spawned<'s, B>
-    requires house { IsHouse shared.now (length plans.now + length guests.now) }
-    requires guests { AreGuests shared.now guests.now }
-    requires number { number < length plans.now + length guests.now }
-    requires post { IsPost shared.now number post }
-    ensures { IsSpawned shared.now plans.now guests.now number result }
+    requires house { IsHouse common.shared.now
+        (length common.plans.now + length common.guests.now) }
+    requires guests { AreGuests common.shared.now common.guests.now }
+    requires number { number < length common.plans.now + length common.guests.now }
+    requires post { IsPost common.shared.now number post }
+    ensures { IsSpawned common.entry.shared.now common.entry.plans.now
+        common.entry.guests.now number result }
 {
     let parcel = packed(post);
     let promise = Produces {
-        shared,
-        plans,
-        guests,
+        shared: common.shared,
+        plans: common.plans,
+        guests: common.guests,
         number,
     };
-    match scope.spawn_with(promise, move || {
-        produce_there(rt, shared, gate, plans, guests, number, parcel, manned)
-    }) {
+    match scope.spawn_with(promise, move || produce_there(rt, common, number, parcel)) {
         Ok(child) => Spawned::There(child),
         Err(refused) => {
-            mark(&manned.producers, number);
+            mark(&common.manned.producers, number);
             Spawned::Here((refused.value)())
         }
     }
@@ -193,28 +189,27 @@ pub(crate) fn start_producers<
 >(
     scope: &thread::Scope<'s, E>,
     rt: &'s R,
-    shared: &'s HouseShared<B>,
-    gate: &'s G,
-    plans: &'s [Vec<Vec<u8>>],
-    guests: &'s [Guest],
+    common: Common<'s, B, G>,
     mut posts: Vec<Post<B>>,
     mut spawned: Vec<Spawned<'s, B>>,
-    manned: &'s Manned,
 ) -> (Vec<Spawned<'s, B>>, bool)
-    requires house { IsHouse shared.now (length plans.now + length guests.now) }
-    requires guests { AreGuests shared.now guests.now }
-    requires posts { AllAt (IsPost shared.now) 0 posts.items
-        × (vec_len posts ≡ length plans.now + length guests.now) }
+    requires house { IsHouse common.shared.now
+        (length common.plans.now + length common.guests.now) }
+    requires guests { AreGuests common.shared.now common.guests.now }
+    requires posts { AllAt (IsPost common.shared.now) 0 posts.items
+        × (vec_len posts ≡ length common.plans.now + length common.guests.now) }
     requires room { (spawned.items ≡ [])
-        × (length plans.now + length guests.now ≤ vec_capacity spawned) }
-    ensures spawned { AllAt (IsSpawned shared.now plans.now guests.now) 0 result.0.items }
-    ensures count { vec_len result.0 ≡ length plans.now + length guests.now }
+        × (length common.plans.now + length common.guests.now ≤ vec_capacity spawned) }
+    ensures spawned { AllAt (IsSpawned common.entry.shared.now common.entry.plans.now
+        common.entry.guests.now) 0 result.0.items }
+    ensures count { vec_len result.0 ≡ length common.entry.plans.now
+        + length common.entry.guests.now }
 {
     let mut all = true;
-    for position in 0..plans.len() + guests.len() {
+    for position in 0..common.plans.len() + common.guests.len() {
         let post = posts.remove(0);
         let number = position as u8;
-        let one = start_producer(scope, rt, shared, gate, plans, guests, number, post, manned);
+        let one = start_producer(scope, rt, common, number, post);
         all = all && matches!(one, Spawned::There(_));
         spawned.push_reserved(one);
     }
@@ -222,15 +217,15 @@ pub(crate) fn start_producers<
     (spawned, all)
 }
 
-fn join_producer<B: Naming, R: Threads>(
+fn join_producer<B: Naming, R: Threads, G: Gate>(
     rt: &R,
-    shared: &HouseShared<B>,
-    plans: &[Vec<Vec<u8>>],
-    guests: &[Guest],
+    common: Common<'_, B, G>,
     spawned: Spawned<'_, B>,
 ) -> Worked<B>
-    ensures { (n : ℕ) → IsSpawned shared.now plans.now guests.now n spawned.entry
-        → IsProduceOf shared.now plans.now guests.now n result }
+    ensures { (n : ℕ) → IsSpawned common.entry.shared.now common.entry.plans.now
+        common.entry.guests.now n spawned.entry
+        → IsProduceOf common.entry.shared.now common.entry.plans.now
+        common.entry.guests.now n result }
 {
     match spawned {
         Spawned::There(child) => ManuallyDrop::into_inner(child.join(rt)),
@@ -239,21 +234,21 @@ fn join_producer<B: Naming, R: Threads>(
 }
 
 /// Waits for each producer's end.
-pub(crate) fn join_producers<B: Naming, R: Threads>(
+pub(crate) fn join_producers<B: Naming, R: Threads, G: Gate>(
     rt: &R,
-    shared: &HouseShared<B>,
-    plans: &[Vec<Vec<u8>>],
-    guests: &[Guest],
+    common: Common<'_, B, G>,
     spawned: Vec<Spawned<'_, B>>,
     mut worked: Vec<Worked<B>>,
 ) -> Vec<Worked<B>>
-    requires spawned { AllAt (IsSpawned shared.now plans.now guests.now) 0 spawned.items }
+    requires spawned { AllAt (IsSpawned common.shared.now common.plans.now common.guests.now) 0
+        spawned.items }
     requires room { (worked.items ≡ []) × (vec_len spawned ≤ vec_capacity worked) }
-    ensures worked { AllAt (IsProduceOf shared.now plans.now guests.now) 0 result.items }
+    ensures worked { AllAt (IsProduceOf common.entry.shared.now common.entry.plans.now
+        common.entry.guests.now) 0 result.items }
     ensures count { vec_len result ≡ vec_len spawned.entry }
 {
     for one in spawned {
-        worked.push_reserved(join_producer(rt, shared, plans, guests, one));
+        worked.push_reserved(join_producer(rt, common, one));
     }
     worked
 }

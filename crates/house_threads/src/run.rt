@@ -10,6 +10,7 @@ ghost use Rattle.house_shared.specs.Left.{IsPostLeft, IsServiceOf, IsSpendable, 
 ghost use Rattle.reckoning.specs.Produced.{IsProduceOf};
 
 use crate::aside::end_first;
+use crate::common::Common;
 use crate::consumers::{Kept, join_consumers, start_consumers};
 use crate::parcels::{Manned, packed};
 use crate::producers::{Spawned, actor_of, join_producers, start_producers};
@@ -27,22 +28,25 @@ use workers_sync::{Gate, SyncPoint};
 // No producer is to begin: ends their permits on the lanes whose consumers run.
 fn end_posts<B: Naming, R: Wait, G: Gate>(
     rt: &R,
-    shared: &HouseShared<B>,
-    gate: &G,
-    workers: usize,
+    common: Common<'_, B, G>,
     mut posts: Vec<Post<B>>,
     mut unmanned: Vec<Post<B>>,
     manned: usize,
 ) -> Vec<Post<B>>
-    requires posts { AllAt (IsPost shared.now) 0 posts.items }
+    requires posts { AllAt (IsPost common.shared.now) 0 posts.items }
     requires room { (unmanned.items ≡ []) × (vec_len posts ≤ vec_capacity unmanned) }
-    requires manned { manned ≤ length shared.now.intake.lanes.items }
+    requires manned { manned ≤ length common.shared.now.intake.lanes.items }
     ensures count { vec_len result ≡ vec_len posts }
-    ensures left { All (IsPostLeft (length shared.now.intake.lanes.items)) result.items }
+    ensures left { All (IsPostLeft (length common.entry.shared.now.intake.lanes.items))
+        result.items }
 {
     for done in 0..posts.len() {
         let post = posts.remove(0);
-        let mut sync_point = SyncPoint::new(gate, actor_of(workers, post.desk.number));
+        let shared = common.shared;
+        let mut sync_point = SyncPoint::new(
+            common.gate,
+            actor_of(common.plans.len(), post.desk.number),
+        );
         unmanned.push_reserved(end_first(
             rt,
             &mut sync_point,
@@ -110,26 +114,26 @@ fn none_started<B: Naming>(crew: Crew<B>) -> Ran<B>
 fn in_scope<'s, E, B: Naming + Send + Sync, R: Threads + Wait + Sync, G: Gate + Sync>(
     scope: &thread::Scope<'s, E>,
     rt: &'s R,
-    shared: &'s HouseShared<B>,
-    gate: &'s G,
-    plans: &'s [Vec<Vec<u8>>],
-    guests: &'s [Guest],
+    common: Common<'s, B, G>,
     crew: ManuallyDrop<Crew<B>>,
-    manned: &'s Manned,
 ) -> Ran<B>
-    requires house { IsHouse shared.now (length plans.now + length guests.now) }
-    requires guests { AreGuests shared.now guests.now }
-    requires crew { IsCrew shared.now (length plans.now
-        + length guests.now) (manually_drop_value crew) }
-    ensures consumed { AllAt (IsServiceOf shared.now) 0 result.consumed.items }
-    ensures worked { AllAt (IsProduceOf shared.now plans.now guests.now) 0 result.worked.items }
-    ensures all { result.started ≡ Started.All → LeavesAll shared.now plans.now guests.now result }
-    ensures left { IsSpendable shared.now (length plans.now + length guests.now) result }
+    requires house { IsHouse common.shared.now
+        (length common.plans.now + length common.guests.now) }
+    requires guests { AreGuests common.shared.now common.guests.now }
+    requires crew { IsCrew common.shared.now (length common.plans.now
+        + length common.guests.now) (manually_drop_value crew) }
+    ensures consumed { AllAt (IsServiceOf common.entry.shared.now) 0 result.consumed.items }
+    ensures worked { AllAt (IsProduceOf common.entry.shared.now common.entry.plans.now
+        common.entry.guests.now) 0 result.worked.items }
+    ensures all { result.started ≡ Started.All
+        → LeavesAll common.entry.shared.now common.entry.plans.now common.entry.guests.now result }
+    ensures left { IsSpendable common.entry.shared.now (length common.entry.plans.now
+        + length common.entry.guests.now) result }
 {
-    let alloc = shared.alloc;
-    let shards = shared.intake.lanes.len();
+    let alloc = common.shared.alloc;
+    let shards = common.shared.intake.lanes.len();
     let crew = ManuallyDrop::into_inner(crew);
-    let Ok(handles) = handles_for(alloc, shards, plans.len() + guests.len()) else {
+    let Ok(handles) = handles_for(alloc, shards, common.plans.len() + common.guests.len()) else {
         return none_started(crew);
     };
     let Handles { kept, spawned } = handles;
@@ -140,11 +144,11 @@ fn in_scope<'s, E, B: Naming + Send + Sync, R: Threads + Wait + Sync, G: Gate + 
         worked,
         unmanned,
     } = crew;
-    let (kept, first) = start_consumers(scope, rt, shared, gate, stands, kept, manned);
+    let (kept, first) = start_consumers(scope, rt, common, stands, kept);
     let stands = Vec::new(alloc);
     if first < shards {
-        let posts = end_posts(rt, shared, gate, plans.len(), posts, unmanned, first);
-        let consumed = join_consumers(rt, shared, kept, consumed);
+        let posts = end_posts(rt, common, posts, unmanned, first);
+        let consumed = join_consumers(rt, common.shared, kept, consumed);
         let started = Started::Spawn;
         return Ran {
             worked,
@@ -154,11 +158,9 @@ fn in_scope<'s, E, B: Naming + Send + Sync, R: Threads + Wait + Sync, G: Gate + 
             started,
         };
     }
-    let (spawned, all) = start_producers(
-        scope, rt, shared, gate, plans, guests, posts, spawned, manned,
-    );
-    let worked = join_producers(rt, shared, plans, guests, spawned, worked);
-    let consumed = join_consumers(rt, shared, kept, consumed);
+    let (spawned, all) = start_producers(scope, rt, common, posts, spawned);
+    let worked = join_producers(rt, common, spawned, worked);
+    let consumed = join_consumers(rt, common.shared, kept, consumed);
     let started = if all { Started::All } else { Started::Spawn };
     Ran {
         worked,
@@ -214,6 +216,15 @@ pub fn run_threads<B: Naming + Send + Sync, R: Threads + Wait + Sync, G: Gate + 
                 → LeavesAll shared.entry.now plans.entry.now guests.entry.now result }
             ensures left { IsSpendable shared.entry.now (length plans.entry.now
                 + length guests.entry.now) result }
-        { in_scope(scope, rt, shared, gate, plans, guests, crew, marks) },
+        {
+            let common = Common {
+                shared,
+                gate,
+                plans,
+                guests,
+                manned: marks,
+            };
+            in_scope(scope, rt, common, crew)
+        },
     )
 }

@@ -130,26 +130,30 @@ pub(crate) fn announce(
     Ok(out)
 }
 
-/// Where it is said what listens. It owns nothing: what becomes of a `&mut` beside something that is owned no caller would know.
+/// What is said of the listeners, and where. It owns nothing: what becomes of a `&mut` beside something that is owned no caller would know.
 #[derive(Drop)]
 pub(crate) struct Announcer<'o, W: Sink> {
+    /// The lines that tell of the listeners.
+    pub(crate) lines: &'o [u8],
+    /// Where they are written.
     pub(crate) output: &'o mut W,
 }
 
 impl<'o, W: Sink> Announcer<'o, W> {
-    /// Writes these lines, and answers whether all of them were written.
-    pub(crate) fn tell(self, lines: &[u8]) -> (Announcer<'o, W>, bool)
+    /// Writes the lines, and answers whether all of them were written.
+    pub(crate) fn tell(self) -> (Announcer<'o, W>, bool)
         requires live { W.failed self.output.now ≡ false }
         ensures same { result.0.output.ghost_name ≡ self.entry.output.ghost_name }
         ensures told { (n : ℕ) × Appends (W.taken self.entry.output.now)
-            (W.taken result.0.output.now) (take n lines.now) }
+            (W.taken result.0.output.now) (take n self.entry.lines.now) }
         ensures all { result.1 ≡ true
-            → Appends (W.taken self.entry.output.now) (W.taken result.0.output.now) lines.now }
+            → Appends (W.taken self.entry.output.now) (W.taken result.0.output.now)
+            self.entry.lines.now }
     {
-        let Announcer { output } = self;
+        let Announcer { lines, output } = self;
         if send(output, lines).is_err() {
-            return (Announcer { output }, false);
+            return (Announcer { lines, output }, false);
         }
-        (Announcer { output }, true)
+        (Announcer { lines, output }, true)
     }
 }

@@ -130,6 +130,14 @@ fn spend<B: Naming, H: LaneGroup, L: Drop>(
     give_up(shared, worked, consumed, stands, posts, baskets)
 }
 
+/// Room for what the shared consumers of all shards leave.
+pub(crate) struct SharedConsumerRooms<B: Naming> {
+    /// For each, what is left of its senders.
+    pub(crate) rooms: Vec<Vec<SenderEnded<Answer<B>>>>,
+    /// Their stands, where they are stood down.
+    pub(crate) stands: Vec<Stand<B>>,
+}
+
 /// Closes the house that the threads have left, and hands out what it has left, or spends it where none was started. Ok says that nothing was
 /// amiss.
 ///
@@ -138,8 +146,7 @@ fn spend<B: Naming, H: LaneGroup, L: Drop>(
 pub(crate) fn close_or_spend<B: Naming, H: LaneGroup, R: Wait, L: Line>(
     rt: &R,
     site: Site<B, H>,
-    rooms: Vec<Vec<SenderEnded<Answer<B>>>>,
-    stands: Vec<Stand<B>>,
+    shared_consumer_rooms: SharedConsumerRooms<B>,
     over: Over<B, L>,
     rest: Rest<B, L>,
     consumed: Vec<Consumed<B>>,
@@ -154,9 +161,10 @@ pub(crate) fn close_or_spend<B: Naming, H: LaneGroup, R: Wait, L: Line>(
     requires shared_consumers { vec_len site.workplace.shared_consumers
         ≡ length site.workplace.shared.intake.lanes.items }
     requires rooms { AreRooms (length site.workplace.shared.intake.lanes.items)
-        (length site.workplace.shared.delivery.channels.items) rooms }
-    requires stands { (stands.items ≡ [])
-        × (length site.workplace.shared.intake.lanes.items ≤ vec_capacity stands) }
+        (length site.workplace.shared.delivery.channels.items) shared_consumer_rooms.rooms }
+    requires stands { (shared_consumer_rooms.stands.items ≡ [])
+        × (length site.workplace.shared.intake.lanes.items ≤ vec_capacity
+        shared_consumer_rooms.stands) }
     requires served { over.none_started ≡ false
         → AllAt (IsServed L.told site.workplace.shared) 0 over.served.items ×
         (vec_len over.served ≡ length site.workplace.shared.delivery.channels.items)
@@ -210,6 +218,7 @@ pub(crate) fn close_or_spend<B: Naming, H: LaneGroup, R: Wait, L: Line>(
         sessions: _,
         presences: _,
     } = workplace;
+    let SharedConsumerRooms { rooms, stands } = shared_consumer_rooms;
     let consumer_set = ConsumerSet {
         shared_consumers,
         rooms,

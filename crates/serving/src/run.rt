@@ -10,12 +10,12 @@ ghost use Rattle.std.specs.Thread.{IsSend, IsSync};
 ghost use Rattle.house_shared.specs.Crew.{AllAt, IsCrew, IsHouse, IsPost};
 ghost use Rattle.house_shared.specs.Opening.{AreBaskets};
 ghost use Rattle.shared_consumers.specs.Keeping.{parts_of};
-ghost use Rattle.serving_workers.specs.Leaving.{IsSpawned, IsOutfit, IsServed, has_thread, serves_mail};
-ghost use Rattle.serving.specs.inner.Dealing.{IsDealt};
+ghost use Rattle.serving_workers.specs.Leaving.{IsSpawned, IsServed, has_thread, serves_mail};
+ghost use Rattle.serving.specs.inner.Dealing.{AreSupplies, IsDealt};
 ghost use Rattle.serving.specs.inner.Ending.{CameTo, FirstTakeMail};
 
 use crate::announcing::Announcer;
-use crate::closing::{Over, close_or_spend, give_up};
+use crate::closing::{Over, SharedConsumerRooms, close_or_spend, give_up};
 use crate::equipment::{Equipment, Rooms, make_rooms};
 use crate::fault::ServeFault;
 use crate::limit::ClientLimit;
@@ -27,12 +27,12 @@ use crate::stopping::{await_end, bytes_held, longest_lane, stop_all};
 use crate::telling::start_telling;
 use crate::watch::Lookout;
 use house_history::Naming;
-use house_shared::{Baskets, Crew, Guest, HouseShared, Post};
+use house_shared::{Crew, Guest, Opened, Post};
 use line_io::Sink;
 use server_report::{Held, Log};
 use serving_workers::{
-    Begun, Finished, Line, Lines, Mark, Outfit, Rest, Served, Spawned, Workplace, join_producers,
-    packed, start_workers,
+    Begun, Finished, Line, Lines, Mark, Rest, Served, Spawned, Workplace, join_producers, packed,
+    start_workers,
 };
 use shared_consumers::{ConsumerSet, LaneGroup, Unhindered, make_all};
 use std::io::{Read, Write};
@@ -40,7 +40,6 @@ use std::mem::ManuallyDrop;
 use std::sync::Wait;
 use std::thread;
 use std::thread::Threads;
-use workers_sync::SessionParker;
 
 // The threads of the producers once all stand, and whoever said so.
 struct Begin<'s, 'o, B: Naming, L: Line, W: Sink> {
@@ -58,13 +57,19 @@ struct Left<'o, B: Naming, L, W: Sink> {
     announcer: Announcer<'o, W>,
 }
 
-// What is dealt to the threads, and room for what the producers leave.
-struct Dealt<B: Naming, L> {
+// What the threads are started with.
+struct Supplies<B: Naming, L> {
+    // For each producer.
     posts: Vec<Post<B>>,
     // What the client slots' threads take in with, and the watch's.
     ears: Vec<Ear>,
     lookout: Lookout,
     equipment: Equipment<L>,
+}
+
+// What is dealt to the threads, and room for what the producers leave.
+struct Dealt<B: Naming, L> {
+    supplies: Supplies<B, L>,
     served: Vec<Served<B, L>>,
 }
 
@@ -81,9 +86,7 @@ fn start_all<
     scope: &thread::Scope<'s, E>,
     rt: &'s R,
     site: &'s Site<B, H>,
-    posts: Vec<Post<B>>,
-    outfits: Vec<Outfit<L>>,
-    furnishings: Furnishings,
+    supplies: Supplies<B, L>,
     spawned: Vec<Spawned<'s, B, L>>,
 ) -> (Vec<Spawned<'s, B, L>>, bool)
     requires lanes { H.lanes ≡ Some site.now.workplace.shared.intake.lanes.items }
@@ -93,14 +96,10 @@ fn start_all<
     requires shutdown_handles { length site.now.shutdown_handles.mail.items + length
         site.now.guests.items
         ≡ length site.now.workplace.shared.delivery.channels.items }
-    requires posts { AllAt (IsPost site.now.workplace.shared) 0 posts.items
-        × (vec_len posts ≡ length site.now.workplace.shared.delivery.channels.items) }
-    requires outfits { All (λ o. IsOutfit L.told o) outfits.items
-        × (vec_len outfits ≡ length site.now.shutdown_handles.mail.items) }
+    requires supplies { AreSupplies L.told site.now.workplace.shared
+        (length site.now.shutdown_handles.mail.items) (length site.now.guests.items) supplies }
     requires client_shutdown_handles { length site.now.shutdown_handles.clients.items
         ≡ length site.now.guests.items }
-    requires ears { vec_len furnishings.ears ≡ length site.now.guests.items }
-    requires buffers { vec_len furnishings.buffers ≡ length site.now.guests.items }
     requires room { (spawned.items ≡ [])
         × (length site.now.workplace.shared.delivery.channels.items ≤ vec_capacity spawned) }
     requires imap { All (λ v. v.user < vec_len site.now.imap) site.now.guests.items }
@@ -110,6 +109,21 @@ fn start_all<
     ensures count { vec_len result.0 ≡ length site.now.workplace.shared.delivery.channels.items }
     ensures all { result.1 ≡ true → list_all has_thread result.0.items ≡ true }
 {
+    let Supplies {
+        posts,
+        ears,
+        lookout,
+        equipment,
+    } = supplies;
+    let Equipment {
+        outfits,
+        client_buffers,
+    } = equipment;
+    let furnishings = Furnishings {
+        ears,
+        buffers: client_buffers,
+        lookout,
+    };
     let Begun { spawned, posts } = start_workers::<E, B, H, R, L>(
         scope,
         rt,
@@ -138,11 +152,8 @@ fn start_and_tell<
     scope: &thread::Scope<'s, E>,
     rt: &'s R,
     site: &'s Site<B, H>,
-    posts: Vec<Post<B>>,
-    outfits: Vec<Outfit<L>>,
-    furnishings: Furnishings,
+    supplies: Supplies<B, L>,
     spawned: Vec<Spawned<'s, B, L>>,
-    lines: &[u8],
     announcer: Announcer<'o, W>,
 ) -> Begin<'s, 'o, B, L, W>
     requires lanes { H.lanes ≡ Some site.now.workplace.shared.intake.lanes.items }
@@ -152,14 +163,10 @@ fn start_and_tell<
     requires shutdown_handles { length site.now.shutdown_handles.mail.items + length
         site.now.guests.items
         ≡ length site.now.workplace.shared.delivery.channels.items }
-    requires posts { AllAt (IsPost site.now.workplace.shared) 0 posts.items
-        × (vec_len posts ≡ length site.now.workplace.shared.delivery.channels.items) }
-    requires outfits { All (λ o. IsOutfit L.told o) outfits.items
-        × (vec_len outfits ≡ length site.now.shutdown_handles.mail.items) }
+    requires supplies { AreSupplies L.told site.now.workplace.shared
+        (length site.now.shutdown_handles.mail.items) (length site.now.guests.items) supplies }
     requires client_shutdown_handles { length site.now.shutdown_handles.clients.items
         ≡ length site.now.guests.items }
-    requires ears { vec_len furnishings.ears ≡ length site.now.guests.items }
-    requires buffers { vec_len furnishings.buffers ≡ length site.now.guests.items }
     requires room { (spawned.items ≡ [])
         × (length site.now.workplace.shared.delivery.channels.items ≤ vec_capacity spawned) }
     requires imap { All (λ v. v.user < vec_len site.now.imap) site.now.guests.items }
@@ -174,21 +181,13 @@ fn start_and_tell<
     ensures unsaid { result.all_started ≡ false
         → result.announcer.output.now ≡ announcer.entry.output.now }
     ensures told { (n : ℕ) × Appends (W.taken announcer.entry.output.now)
-        (W.taken result.announcer.output.now) (take n lines.now) }
+        (W.taken result.announcer.output.now) (take n announcer.entry.lines.now) }
     ensures all { result.is_told ≡ true
         → Appends (W.taken announcer.entry.output.now) (W.taken result.announcer.output.now)
-        lines.now }
+        announcer.entry.lines.now }
 {
     let _not_yet = site.workplace.mark.start.lock(rt);
-    let (spawned, all_started) = start_all::<E, B, H, R, L>(
-        scope,
-        rt,
-        site,
-        posts,
-        outfits,
-        furnishings,
-        spawned,
-    );
+    let (spawned, all_started) = start_all::<E, B, H, R, L>(scope, rt, site, supplies, spawned);
     if !all_started {
         return Begin {
             spawned,
@@ -205,7 +204,7 @@ fn start_and_tell<
             announcer,
         };
     }
-    let (announcer, is_told) = announcer.tell(lines);
+    let (announcer, is_told) = announcer.tell();
     if !is_told {
         site.workplace.mark.set();
     }
@@ -218,15 +217,21 @@ fn start_and_tell<
 }
 
 // What is left where no thread of a producer was tried: for want of memory, or since a thread before them could not be made.
-fn untried<B: Naming, L>(
+fn untried<B: Naming, L: Drop>(
     served: Vec<Served<B, L>>,
-    posts: Vec<Post<B>>,
+    supplies: Supplies<B, L>,
     all_started: bool,
 ) -> Over<B, L>
-    ensures left { (result.served ≡ served) × (result.posts ≡ posts) }
+    ensures left { (result.served ≡ served) × (result.posts ≡ supplies.posts) }
     ensures none { (result.none_started ≡ true) × (result.all_started ≡ all_started)
         × (result.is_told ≡ false) }
 {
+    let Supplies {
+        posts,
+        ears: _,
+        lookout: _,
+        equipment: _,
+    } = supplies;
     Over {
         served,
         posts,
@@ -323,7 +328,6 @@ fn in_scope<
     dealt: ManuallyDrop<Dealt<B, L>>,
     writing: Writing<F>,
     stop: I,
-    lines: &[u8],
     announcer: Announcer<'o, W>,
 ) -> Left<'o, B, L, W>
     requires lanes { H.lanes ≡ Some site.now.workplace.shared.intake.lanes.items }
@@ -357,50 +361,25 @@ fn in_scope<
     ensures unsaid { result.over.all_started ≡ false
         → result.announcer.output.now ≡ announcer.entry.output.now }
     ensures told { (n : ℕ) × Appends (W.taken announcer.entry.output.now)
-        (W.taken result.announcer.output.now) (take n lines.now) }
+        (W.taken result.announcer.output.now) (take n announcer.entry.lines.now) }
     ensures all { result.over.is_told ≡ true
         → Appends (W.taken announcer.entry.output.now) (W.taken result.announcer.output.now)
-        lines.now }
+        announcer.entry.lines.now }
 {
-    let Dealt {
-        posts,
-        ears,
-        lookout,
-        equipment,
-        served,
-    } = ManuallyDrop::into_inner(dealt);
+    let Dealt { supplies, served } = ManuallyDrop::into_inner(dealt);
     let (alloc, producers) = (
         site.workplace.shared.alloc,
         site.workplace.shared.delivery.channels.len(),
     );
     let Ok(spawned) = Vec::with_capacity(alloc, producers) else {
-        let over = untried(served, posts, true);
+        let over = untried(served, supplies, true);
         return Left { over, announcer };
     };
     if !start_writing::<E, B, H, R, F>(scope, rt, site, writing) {
-        let over = untried(served, posts, false);
+        let over = untried(served, supplies, false);
         return Left { over, announcer };
     }
-    let Equipment {
-        outfits,
-        client_buffers,
-    } = equipment;
-    let furnishings = Furnishings {
-        ears,
-        buffers: client_buffers,
-        lookout,
-    };
-    let begin = start_and_tell::<E, B, H, R, L, W>(
-        scope,
-        rt,
-        site,
-        posts,
-        outfits,
-        furnishings,
-        spawned,
-        lines,
-        announcer,
-    );
+    let begin = start_and_tell::<E, B, H, R, L, W>(scope, rt, site, supplies, spawned, announcer);
     stop_and_join(rt, site, begin, served, stop)
 }
 
@@ -421,6 +400,7 @@ fn parcel_of<B: Naming, H: LaneGroup, L: Line>(
 
 // The scope of all threads, in which it is said that they stand.
 fn serve_in_threads<
+    'o,
     B: Naming + Send + Sync,
     H: LaneGroup + Send,
     R: Threads + Wait + Sync,
@@ -434,8 +414,8 @@ fn serve_in_threads<
     dealt: Dealt<B, L>,
     writing: Writing<F>,
     stop: I,
-    lines: &[u8],
-    output: &mut W,
+    lines: &'o [u8],
+    output: &'o mut W,
 ) -> Over<B, L>
     requires lanes { H.lanes ≡ Some site.now.workplace.shared.intake.lanes.items }
     requires delivery { H.delivery ≡ Some (parts_of site.now.workplace.shared.delivery) }
@@ -469,7 +449,7 @@ fn serve_in_threads<
         → Appends (W.taken output.old) (W.taken output.new) lines.now }
 {
     let dealt = parcel_of(site, dealt);
-    let announcer = Announcer { output };
+    let announcer = Announcer { lines, output };
     let Left { over, announcer } = thread::scope(
         thread::scope_env(),
         rt,
@@ -510,13 +490,16 @@ fn serve_in_threads<
             ensures unsaid { result.over.all_started ≡ false
                 → result.announcer.output.now ≡ announcer.entry.output.now }
             ensures told { (n : ℕ) × Appends (W.taken announcer.entry.output.now)
-                (W.taken result.announcer.output.now) (take n lines.entry.now) }
+                (W.taken result.announcer.output.now) (take n announcer.entry.lines.now) }
             ensures all { result.over.is_told ≡ true
                 → Appends (W.taken announcer.entry.output.now) (W.taken result.announcer.output.now)
-                lines.entry.now }
-        { in_scope(scope, rt, site, dealt, writing, stop, lines, announcer) },
+                announcer.entry.lines.now }
+        { in_scope(scope, rt, site, dealt, writing, stop, announcer) },
     );
-    let Announcer { output: _told } = announcer;
+    let Announcer {
+        lines: _,
+        output: _told,
+    } = announcer;
     over
 }
 
@@ -532,8 +515,6 @@ pub(crate) struct Manning<F, D> {
     pub(crate) compatible: bool,
     /// How many clients of each user are served at a time, in the compatible profile.
     pub(crate) limits: Vec<ClientLimit>,
-    /// For each client slot its own end of its bell.
-    pub(crate) bells: Vec<SessionParker>,
     /// How many client slots each user has.
     pub(crate) sessions: u8,
     /// Who gives each worker its line.
@@ -544,8 +525,15 @@ pub(crate) struct Manning<F, D> {
     pub(crate) writing: Writing<F>,
 }
 
+/// The listeners of a server, and what is to be said of them.
+#[derive(Drop)]
+pub(crate) struct Listeners {
+    pub(crate) sockets: Sockets,
+    pub(crate) lines: Vec<u8>,
+}
+
 /// Serves the house until `stop` is at its end, closes it, and hands out what it has left. Its producers are
-/// those of `manning`. Once each thread stands the lines are written to `output`, and nobody is served before.
+/// those of `manning`. Once each thread stands the lines of `listeners` are written to `output`, and nobody is served before.
 ///
 /// Errors, the first that holds: `NoMemory` where memory is refused before the first thread, and `Spawn` where a thread can't be made: then
 /// nothing was written; `Device` where the lines can't be written: after these three nobody was served. `Torn` where somebody met what he
@@ -561,35 +549,34 @@ pub(crate) fn run_house_in<
     F: Write + Drop + Send,
 >(
     rt: &R,
-    shared: HouseShared<B>,
+    opened: Opened<B>,
     manning: Manning<F, D>,
-    crew: Crew<B>,
-    baskets: Baskets<B>,
-    sockets: Sockets,
+    listeners: Listeners,
     stop: I,
-    lines: Vec<u8>,
     output: &mut W,
 ) -> Result<Finished<B, L>, ServeFault>
-    requires lanes { H.lanes ≡ Some shared.intake.lanes.items }
-    requires delivery { H.delivery ≡ Some (parts_of shared.delivery) }
-    requires house { IsHouse shared (length shared.delivery.channels.items) }
-    requires some { (0 < length shared.delivery.channels.items)
-        × (0 < length shared.intake.lanes.items) }
+    requires lanes { H.lanes ≡ Some opened.shared.intake.lanes.items }
+    requires delivery { H.delivery ≡ Some (parts_of opened.shared.delivery) }
+    requires house { IsHouse opened.shared (length opened.shared.delivery.channels.items) }
+    requires some { (0 < length opened.shared.delivery.channels.items)
+        × (0 < length opened.shared.intake.lanes.items) }
     requires producers { manning.workers + vec_len manning.guests
-        ≡ length shared.delivery.channels.items }
-    requires guests { vec_len manning.bells ≡ vec_len manning.guests }
-    requires imap { All (λ v. v.user < vec_len sockets.imap) manning.guests.items }
-    requires crew { IsCrew shared (length shared.delivery.channels.items) crew }
-    requires baskets { AreBaskets (length shared.delivery.channels.items)
-        (length shared.intake.lanes.items) baskets }
+        ≡ length opened.shared.delivery.channels.items }
+    requires guests { vec_len opened.session_parkers ≡ vec_len manning.guests }
+    requires imap { All (λ v. v.user < vec_len listeners.sockets.imap) manning.guests.items }
+    requires crew { IsCrew opened.shared
+        (length opened.shared.delivery.channels.items) opened.crew }
+    requires baskets { AreBaskets (length opened.shared.delivery.channels.items)
+        (length opened.shared.intake.lanes.items) opened.baskets }
     requires live { W.failed output.old ≡ false }
     ensures setting { (fault : ConfigFault) → result ≢ Err (ServeFault.Config fault) }
-    ensures whole { IfOk result (CameTo shared manning.workers) }
+    ensures whole { IfOk result (CameTo opened.shared manning.workers) }
     ensures untried { result ≡ Err ServeFault.NoMemory → output.new ≡ output.old }
     ensures unsaid { result ≡ Err ServeFault.Spawn → output.new ≡ output.old }
     ensures told { (n : ℕ) × Appends (W.taken output.old) (W.taken output.new)
-        (take n lines.items) }
-    ensures all { OnOk result (Appends (W.taken output.old) (W.taken output.new) lines.items) }
+        (take n listeners.lines.items) }
+    ensures all { OnOk result (Appends (W.taken output.old) (W.taken output.new)
+        listeners.lines.items) }
 {
     let Manning {
         workers,
@@ -597,12 +584,17 @@ pub(crate) fn run_house_in<
         guests,
         compatible,
         limits,
-        bells,
         sessions,
         mail,
         log,
         writing,
     } = manning;
+    let Opened {
+        shared,
+        crew,
+        baskets,
+        session_parkers,
+    } = opened;
     let Crew {
         stands,
         posts,
@@ -611,6 +603,7 @@ pub(crate) fn run_house_in<
         unmanned,
     } = crew;
     unmanned.destroy_empty();
+    let Listeners { sockets, lines } = listeners;
     let Sockets {
         lmtp,
         imap,
@@ -618,7 +611,14 @@ pub(crate) fn run_house_in<
         page,
         lookout,
     } = sockets;
-    let Ok(rooms) = make_rooms::<B, H, L, D>(&shared, mail, &lmtp, workers, bells, &lookout) else {
+    let Ok(rooms) = make_rooms::<B, H, L, D>(
+        &shared,
+        mail,
+        &lmtp,
+        workers,
+        session_parkers,
+        &lookout,
+    ) else {
         return Err(give_up(shared, worked, consumed, stands, posts, baskets));
     };
     let Rooms {
@@ -664,18 +664,27 @@ pub(crate) fn run_house_in<
         watch,
         rows,
     };
-    let dealt = Dealt {
+    let supplies = Supplies {
         posts,
         ears,
         lookout,
         equipment,
-        served,
     };
+    let dealt = Dealt { supplies, served };
     let over = serve_in_threads(rt, &site, dealt, writing, stop, &lines, output);
+    let shared_consumer_rooms = SharedConsumerRooms { rooms, stands };
     let rest = Rest {
         worked,
         unlocked,
         lines: room,
     };
-    close_or_spend(rt, site, rooms, stands, over, rest, consumed, baskets)
+    close_or_spend(
+        rt,
+        site,
+        shared_consumer_rooms,
+        over,
+        rest,
+        consumed,
+        baskets,
+    )
 }

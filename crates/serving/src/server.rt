@@ -16,11 +16,11 @@ use crate::client_slots::{client_slots_for, client_slots_of_user, count_users};
 use crate::fault::ServeFault;
 use crate::limit::{ClientLimit, limits_for};
 use crate::reporting::{Records, Reporting, Writing, records_for};
-use crate::run::{Manning, run_house_in};
-use crate::sockets::{Open, Sockets, open_sockets};
+use crate::run::{Listeners, Manning, run_house_in};
+use crate::sockets::{Open, open_sockets};
 use envelope::Directory;
 use house_history::Naming;
-use house_shared::{Guest, MOST_PRODUCERS, Opened, Sizes, open};
+use house_shared::{Guest, MOST_PRODUCERS, Sizes, open};
 use line_io::Sink;
 use mailbox::{History, Limits};
 use server_report::Log;
@@ -108,12 +108,6 @@ fn lay_out(alloc: Global, config: &Config) -> Result<Layout, ServeFault>
         guests,
         limits,
     })
-}
-
-// The listeners of a server, and what is to be said of them.
-struct Listeners {
-    sockets: Sockets,
-    lines: Vec<u8>,
 }
 
 // Listens on the ports of these settings. Errors: `Device` and `NoMemory`.
@@ -204,14 +198,8 @@ fn serve_in<
         guests,
         limits,
     } = layout;
-    let Listeners { sockets, lines } = listeners;
     let sizes = sizes_of(config, guests.len());
-    let Opened {
-        shared,
-        crew,
-        baskets,
-        session_parkers,
-    } = open::<B>(alloc, history, directory, sizes, guests.as_slice())?;
+    let opened = open::<B>(alloc, history, directory, sizes, guests.as_slice())?;
     let workers = usize::from(config.workers);
     let at_once = copies_at_once(config.depth, workers, guests.len());
     let manning = Manning {
@@ -220,15 +208,12 @@ fn serve_in<
         guests,
         compatible: config.compatible,
         limits,
-        bells: session_parkers,
         sessions: client_slots_of_user(config),
         mail,
         log,
         writing,
     };
-    run_house_in::<B, Brand, R, L, D, I, W, F>(
-        rt, shared, manning, crew, baskets, sockets, stop, lines, output,
-    )
+    run_house_in::<B, Brand, R, L, D, I, W, F>(rt, opened, manning, listeners, stop, output)
 }
 
 /// What a server begins with.

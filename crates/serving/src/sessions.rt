@@ -518,8 +518,7 @@ fn start_answering<
     scope: &thread::Scope<'s, E>,
     rt: &'s R,
     site: &'s Site<B, H>,
-    ear: Ear,
-    buffer: Vec<u8>,
+    furnishing: Furnishing,
     session: u8,
     number: u8,
     post: Post<B>,
@@ -537,6 +536,7 @@ fn start_answering<
     ensures spawned { IsSpawned L.told site.now.workplace.shared number result }
     ensures mail { serves_mail result ≡ false }
 {
+    let Furnishing { ear, buffer } = furnishing;
     let shared = &site.workplace.shared;
     let parcel = packed(post);
     let promise = Serves {
@@ -582,6 +582,13 @@ pub(crate) struct Ear {
     pub(crate) idles: Arc<AtomicBool>,
     /// So many waits it has had while its sessions idled.
     pub(crate) waits: u64,
+}
+
+// What the thread of one client slot is given.
+struct Furnishing {
+    ear: Ear,
+    // For what comes of its clients.
+    buffer: Vec<u8>,
 }
 
 /// What the client slots' threads are given: for each client slot one of each, and what the watch's thread waits with.
@@ -643,14 +650,14 @@ pub(crate) fn start_client_slots<
     }
     for client_slot in 0..site.guests.len() {
         let (ear, buffer) = (ears.remove(0), buffers.remove(0));
+        let furnishing = Furnishing { ear, buffer };
         let number = spawned.len() as u8;
         let post = posts.remove(0);
         let one = start_answering::<E, B, H, R, L>(
             scope,
             rt,
             site,
-            ear,
-            buffer,
+            furnishing,
             client_slot as u8,
             number,
             post,

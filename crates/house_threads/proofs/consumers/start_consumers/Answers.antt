@@ -7,7 +7,7 @@ use Rattle.house_threads.proofs.consumers.start_consumers.Goals as goal
 pub loop-position-preserved : goal.loop-position-preserved
 loop-position-preserved g c =
     let v = c.loop-position.invariant in
-    let shared = c.args.shared.now in
+    let shared = c.args.common.shared.now in
     let some : 0 < length c.loop-position.stands.items = omega (arith, v.1, c.loop-position-test.true, c.loop-position.stands.ok.0) in
     let f = first_at (IsStand shared) c.loop-position.position c.loop-position.stands.items c.remove-stand.new.self.items c.remove-stand.result some c.remove-stand.ensures.value c.remove-stand.ensures.items v.0 in
     let at : c.loop-position.position ≡ 0 + length c.loop-position.kept.items = omega (arith, v.3, c.loop-position.kept.ok.0) in (

@@ -7,6 +7,6 @@ use Rattle.house_threads.proofs.producers.join_producers.Given as goal
 
 abbrev pub invariant-loop-one : goal.invariant-loop-one
 invariant-loop-one g l =
-    AllAt (IsSpawned l.shared l.plans l.guests) (vec_len l.worked) (into_iter_items l.one-iterator)
+    AllAt (IsSpawned l.common.shared.now l.common.plans.now l.common.guests.now) (vec_len l.worked) (into_iter_items l.one-iterator)
     × (into_iter_len l.one-iterator + vec_len l.worked ≡ vec_len l.fn.spawned) × (vec_len l.fn.spawned ≤ vec_capacity l.worked)
-    × AllAt (IsProduceOf l.shared l.plans l.guests) 0 l.worked.items
+    × AllAt (IsProduceOf l.common.shared.now l.common.plans.now l.common.guests.now) 0 l.worked.items

@@ -5,6 +5,6 @@ use Rattle.house_threads.proofs.run.end_posts.Given as goal
 
 abbrev pub invariant-loop-done : goal.invariant-loop-done
 invariant-loop-done g l =
-    AllAt (IsPost l.shared) l.done l.posts.items × (vec_len l.posts + l.done ≡ vec_len l.fn.posts)
+    AllAt (IsPost l.common.shared.now) l.done l.posts.items × (vec_len l.posts + l.done ≡ vec_len l.fn.posts)
     × (vec_len l.unmanned ≡ l.done) × (vec_len l.fn.posts ≤ vec_capacity l.unmanned)
-    × All (IsPostLeft (length l.shared.intake.lanes.items)) l.unmanned.items
+    × All (IsPostLeft (length l.common.shared.now.intake.lanes.items)) l.unmanned.items

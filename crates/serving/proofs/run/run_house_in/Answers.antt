@@ -7,10 +7,10 @@ use Rattle.serving.proofs.run.run_house_in.Goals as goal
 pub give_up-requires-clause-stands : goal.give_up-requires-clause-stands
 give_up-requires-clause-stands g c =
     let crew = c.requires.crew in
-    (crew.each_lane, stands_left c.args.shared (length c.args.shared.delivery.channels.items) refl 0 c.args.crew.stands.items crew.stands)
+    (crew.each_lane, stands_left c.args.opened.shared (length c.args.opened.shared.delivery.channels.items) refl 0 c.args.opened.crew.stands.items crew.stands)
 
 pub give_up-requires-clause-posts : goal.give_up-requires-clause-posts
-give_up-requires-clause-posts g c = (c.requires.crew.each_post, posts_left c.args.shared 0 c.args.crew.posts.items c.requires.crew.posts)
+give_up-requires-clause-posts g c = (c.requires.crew.each_post, posts_left c.args.opened.shared 0 c.args.opened.crew.posts.items c.requires.crew.posts)
 
 pub serve_in_threads-over-requires-clause-dealt : goal.serve_in_threads-over-requires-clause-dealt
 serve_in_threads-over-requires-clause-dealt g c κs within =
@@ -18,13 +18,15 @@ serve_in_threads-over-requires-clause-dealt g c κs within =
     let outfits = c.in-Ok.ensures.outfits in
     let shutdown_handles = c.in-Ok.ensures.shutdown_handles.0 in
     let bells = c.requires.guests in record {
-      posts = c.requires.crew.posts;
-      each_post = c.requires.crew.each_post;
+      supplies = record {
+        posts = c.requires.crew.posts;
+        each_post = c.requires.crew.each_post;
+        outfits = outfits.0;
+        each_worker = (let many = outfits.1 in omega (arith, many, shutdown_handles, rooms.shutdown_handles.mail.ok.0));
+        ears = (let many = c.in-Ok.ensures.ears in omega (arith, many, bells, c.args.manning.guests.ok.0));
+        client_buffers = (let many = c.in-Ok.ensures.clients in omega (arith, many, bells, c.args.manning.guests.ok.0));
+      };
       served = search rules;
-      outfits = outfits.0;
-      each_worker = (let many = outfits.1 in omega (arith, many, shutdown_handles, rooms.shutdown_handles.mail.ok.0));
-      ears = (let many = c.in-Ok.ensures.ears in omega (arith, many, bells, c.args.manning.guests.ok.0));
-      client_buffers = (let many = c.in-Ok.ensures.clients in omega (arith, many, bells, c.args.manning.guests.ok.0));
     }
 
 pub returns-clause-all : goal.returns-clause-all

@@ -13,6 +13,6 @@ pub returns-clause-left : goal.returns-clause-left
 returns-clause-left g c =
     let config = c.args.config.now in
     let sizes = c.sizes_of-sizes.result in
-    let shared = c.in_ok-shared.field-0.shared in
+    let shared = c.in_ok-opened.opened.shared in
     let is : IsHouseShared (directory_for config) sizes shared = search rules in
     left_ok config sizes shared c.from-workers.result (vec_len c.args.ready.layout.guests) c.run_house_in.result is c.sizes_of-sizes.ensures.host c.sizes_of-sizes.ensures.max_message (search rules) (search rules) c.run_house_in.ensures.whole
