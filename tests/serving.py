@@ -50,7 +50,7 @@ APPENDED = rb"b\d+ OK \[APPENDUID 7 \d+\] APPEND completed"
 NOTHING, DISMISSED, BYE = b"", b"421 4.3.2 Shutting down\r\n", b"* BYE Shutting down\r\n"
 
 # So many messages each brings, of so many workers and sessions.
-CROWD, WORKERS, BERTHS = 50, 8, 4
+CROWD, WORKERS, SLOTS = 50, 8, 4
 
 # Users, slots of each and workers: with so many, 255 at most, all are served, and with so many none.
 SERVED = ((61, 4, 8), (62, 4, 7), (64, 3, 8))
@@ -354,9 +354,9 @@ def wait_for_a_worker(program):
 
 def bring_at_once(program):
     """Mail connections and sessions bring many messages in one piece each, all at once, on one lane with room for a copy of each of them."""
-    options = ("--workers", str(WORKERS), "--sessions", str(BERTHS), "--depth", str(WORKERS + BERTHS))
+    options = ("--workers", str(WORKERS), "--sessions", str(SLOTS), "--depth", str(WORKERS + SLOTS))
     with serving(program, ("alice",), options) as house:
-        peers, sessions = [mail(house) for _ in range(WORKERS)], [session(house) for _ in range(BERTHS)]
+        peers, sessions = [mail(house) for _ in range(WORKERS)], [session(house) for _ in range(SLOTS)]
         appended = b"".join(b"b%d APPEND INBOX {4+}\r\nhi\r\n\r\n" % number for number in range(CROWD))
         for peer in peers:
             peer.say((envelope(["alice"]) + b"hi\r\n.\r\n") * CROWD)
@@ -368,7 +368,7 @@ def bring_at_once(program):
         expect("what is answered beside OK", [answer for answer in answers if not re.fullmatch(APPENDED, answer)], [])
         for peer in peers:
             peer.quit()
-        select(sessions[0], (WORKERS + BERTHS) * CROWD)
+        select(sessions[0], (WORKERS + SLOTS) * CROWD)
 
 
 def bring_to_many(program):

@@ -146,7 +146,7 @@ def tell_copies(program):
     find(lines, rf"imap alice {caller} quit")
     held = 2 * sizes[0] + sizes[1] + sizes[0]
     summary = ["messages 3", "copies stored 4", "copies refused mailbox full 1", "connections 1", "sessions 1", f"bytes held {held}"]
-    # Both copies of a message are put on the one lane before its clerk is summoned.
+    # Both copies of a message are put on the one lane before its consumer is notified.
     summary += ["longest lane 2"]
     expect("what is told at the end", lines[-len(summary) :], summary)
 
