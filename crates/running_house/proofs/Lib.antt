@@ -24,3 +24,5 @@ pub mod Refuted
 pub mod RefusalLaws
 pub mod AloneLaws
 pub mod SinglesLaws
+pub mod Lives
+pub mod Attending

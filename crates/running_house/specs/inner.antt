@@ -1,3 +1,4 @@
 pub mod Agree
 pub mod Begun
 pub mod Refusals
+pub mod Crew

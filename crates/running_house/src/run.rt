@@ -10,7 +10,7 @@ use crate::plan::{Plan, Report, WorkFault, directory_for};
 use crate::report::report_of;
 use house_history::Naming;
 use house_shared::{Opened, Sizes, Started, open};
-use house_threads::run_threads;
+use crate::threads::run_threads;
 use mailbox::{History, Limits};
 use reckoning::abandon;
 use std::alloc::Global;
