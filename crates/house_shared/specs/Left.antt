@@ -1,6 +1,5 @@
 -- What each thread of a house leaves.
-use Rattle.std.specs.Prelude.{◌≡◌, ◌≤◌, ◌+◌, ℕ, List, [], All, Some, length, min, slice_get, Vec, vec_len}
-use Rattle.std.specs.Global.{Global}
+use Rattle.std.specs.Prelude.{◌≡◌, ◌≤◌, ◌+◌, ℕ, List, [], All, Some, length, min, slice_get, vec_len}
 use Rattle.delivery_token.specs.declared.Job.{Job}
 use Rattle.delivery_token.specs.declared.log.Noted.{Noted}
 use Rattle.shard_queue.specs.declared.lane.Entry.{Entry}
@@ -8,16 +7,9 @@ use Rattle.shard_queue.specs.declared.queue.ShardQueue.{ShardQueue}
 use Rattle.lane_work.specs.declared.consumer.Consumed.{Consumed}
 use Rattle.lane_work.specs.Consuming.{IsConsumed}
 use Rattle.house_shared.specs.declared.shared.HouseShared.{HouseShared}
-use Rattle.house_shared.specs.declared.shared.Guest.{Guest}
 use Rattle.house_shared.specs.declared.shared.Post.{Post}
 use Rattle.house_shared.specs.declared.shared.Stand.{Stand}
 use Rattle.house_shared.specs.declared.left.Ran.{Ran}
-
--- what the workers are to serve: of each worker, of each connection, the bytes that come
-abbrev pub Plans : Type 0
-Plans = List (Vec (Vec ℕ Global) Global)
-
--- ---- what is left
 
 -- A session's client may append messages of as many bytes as one that a worker takes may have, as far as a session counts.
 abbrev pub most_of : ℕ → ℕ
@@ -27,13 +19,6 @@ most_of max_message = min max_message 4294967295
 pub record IsServiceOf {B : Type 0} (shared : HouseShared B) (n : ℕ) (c : Consumed B) : Type 0 where
   pub each : (lane : ShardQueue Job) → slice_get shared.intake.lanes.items n ≡ Some lane
       → (before : List (List (Entry Noted))) × All (λ e. e ≡ []) before × IsConsumed lane shared.delivery n before c
-
--- every actor has left what it was to leave, and nothing is left of what was dealt
-pub record LeavesAll {B : Type 0} (shared : HouseShared B) (plans : Plans) (guests : List Guest) (ran : Ran B) : Type 0 where
-  pub consumed : vec_len ran.consumed ≡ length shared.intake.lanes.items
-  pub worked : vec_len ran.worked ≡ length plans + length guests
-  pub stands : ran.stands.items ≡ []
-  pub posts : ran.posts.items ≡ []
 
 -- a post that no thread has had: each permit stands there, or what is left of it
 abbrev pub IsPostLeft : {B : Type 0} → ℕ → Post B → Type 0

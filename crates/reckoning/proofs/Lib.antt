@@ -4,6 +4,5 @@ pub mod Hands
 pub mod Accounts
 pub mod Balanced
 pub mod Spent
-pub mod Abandoned
 mod Numbered
 pub mod Histories

@@ -1,18 +1,13 @@
--- What the producers and consumers promise of themselves, said of their parts in lists of their own.
+-- What the consumers promise of themselves, said of their parts in lists of their own, and elements by their positions.
 use Rattle.std.proofs.Common.{◌≡◌, ◌<◌, ◌+◌, ◌∙◌, ℕ, zero, suc, true, List, [], ◌∷◌, All, Some, length, map, drop, slice_get, refl, sym, ap, subst, arith}
 use Rattle.std.proofs.lemmas.List.Elements.{All-head, All-tail}
-use Rattle.shard_queue.specs.Permits.{numbers}
 use Rattle.shard_queue.specs.Permits.{got}
 use Rattle.lane_work.specs.declared.consumer.Consumed.{Consumed}
-use Rattle.lane_work.specs.declared.worker.Worked.{Worked}
-use Rattle.lane_work.specs.LanePermits.{AreEndedHands}
 use Rattle.lane_work.specs.LanePermits as rows
-use Rattle.lane_work.specs.ChannelPermits.{AreReceivers, AreSenderEndedHands}
+use Rattle.lane_work.specs.ChannelPermits.{AreSenderEndedHands}
 use Rattle.house_shared.specs.Crew.{AllAt}
 use Rattle.house_shared.specs.declared.shared.HouseShared.{HouseShared}
-use Rattle.house_shared.specs.declared.shared.Guest.{Guest}
-use Rattle.house_shared.specs.Left.{IsServiceOf, Plans}
-use Rattle.reckoning.specs.Produced.{IsProduceOf}
+use Rattle.house_shared.specs.Left.{IsServiceOf}
 
 -- an element at each position below the end
 pub some_at : {A : Type 0} (xs : List A) (n : ℕ) → n < length xs → (x : A) × (slice_get xs n ≡ Some x)
@@ -31,22 +26,6 @@ pub past_all : {A : Type 0} (xs : List A) (n : ℕ) → length xs ≡ n → drop
 past_all [] n is = let e : n ≡ 0 = omega (arith, is) in ap (λ k. drop k []) e
 past_all (x ∷ xs) zero is = absurd (cc)
 past_all (x ∷ xs) (suc n) is = past_all xs n (omega (arith, is))
-
-module _ {B : Type 0} (shared : HouseShared B) (plans : Plans) (guests : List Guest) where
-  pub ended_of : (n : ℕ) (ws : List (Worked B)) → AllAt (IsProduceOf shared plans guests) n ws → AreEndedHands shared.intake.lanes.items n (map (λ w. w.ended.items) ws)
-  ended_of n [] all = tt
-  ended_of n (w ∷ ws) all = (all.0.ended, ended_of (suc n) ws all.1)
-
-  pub receivers_of : (n : ℕ) (ws : List (Worked B)) → AllAt (IsProduceOf shared plans guests) n ws → n + length ws ≡ length shared.delivery.channels.items → AreReceivers (drop n shared.delivery.channels.items) (map (λ w. w.receiver) ws)
-  receivers_of n [] all count = subst (λ cs. AreReceivers cs []) (sym (past_all shared.delivery.channels.items n (omega (arith, count)))) tt
-  receivers_of n (w ∷ ws) all count =
-      let channel = some_at shared.delivery.channels.items n (omega (arith, count)) in
-      subst (λ cs. AreReceivers cs (w.receiver ∷ map (λ v. v.receiver) ws)) (sym (from_here shared.delivery.channels.items n channel.0 channel.1))
-      (all.0.receiver channel.0 channel.1, receivers_of (suc n) ws all.1 (omega (arith, count)))
-
-  pub seats_of : (n : ℕ) (ws : List (Worked B)) → AllAt (IsProduceOf shared plans guests) n ws → map (λ w. w.log.seat) ws ≡ numbers n (length ws)
-  seats_of n [] all = refl
-  seats_of n (w ∷ ws) all = ap (λ s. s ∷ map (λ v. v.log.seat) ws) all.0.seat ∙ ap (λ ss. n ∷ ss) (seats_of (suc n) ws all.1)
 
 module _ {B : Type 0} (shared : HouseShared B) where
   pub consumers_of : (n : ℕ) (cs : List (Consumed B)) → AllAt (IsServiceOf shared) n cs → n + length cs ≡ length shared.intake.lanes.items → rows.AreConsumers (drop n shared.intake.lanes.items) (map (λ c. c.permit) cs)

@@ -1,4 +1,3 @@
-pub mod Produced
 pub mod Gathered
 pub mod Closing
 pub mod Balancing

@@ -24,7 +24,7 @@ use Rattle.lane_work.specs.Permits.{put_by}
 use Rattle.shard_queue.specs.Shared.{IsStartOf}
 use Rattle.shard_queue.specs.declared.lane.Entry.{Entry}
 use Rattle.house_shared.specs.Left.{most_of}
-use Rattle.reckoning.specs.Produced.{SessionAccount}
+use Rattle.running_house.specs.Produced.{SessionAccount}
 use Rattle.running_house.specs.inner.Crew.{HasLived}
 
 -- books of the same desk, by its own number and serial

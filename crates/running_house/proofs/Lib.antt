@@ -26,3 +26,5 @@ pub mod AloneLaws
 pub mod SinglesLaws
 pub mod Lives
 pub mod Attending
+pub mod Accounts
+pub mod Abandoned

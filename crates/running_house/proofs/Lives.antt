@@ -21,9 +21,10 @@ use Rattle.shard_queue.specs.declared.reply.ReceiverPermit.{ReceiverPermit}
 use Rattle.house_shared.specs.declared.shared.Guest.{Guest}
 use Rattle.lane_work.specs.Consuming.{IsConsumed}
 use Rattle.house_shared.specs.declared.shared.HouseShared.{HouseShared}
-use Rattle.house_shared.specs.Left.{IsServiceOf, Plans}
+use Rattle.house_shared.specs.Left.{IsServiceOf}
 use Rattle.running_house.specs.inner.Crew.{IsAttended}
-use Rattle.reckoning.specs.Produced.{IsProduceOf, SessionAccount}
+use Rattle.running_house.specs.inner.Produced.{IsProduceOf, Plans}
+use Rattle.running_house.specs.Produced.{SessionAccount}
 use Rattle.house_shared.proofs.Finding.{found_at}
 
 -- what a worker at its position left

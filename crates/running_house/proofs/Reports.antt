@@ -26,7 +26,8 @@ use Rattle.house_shared.specs.Crew.{AllAt}
 use Rattle.house_shared.specs.declared.shared.HouseShared.{HouseShared}
 use Rattle.house_shared.specs.declared.shared.Guest.{Guest}
 use Rattle.house_shared.specs.Left.{IsServiceOf}
-use Rattle.reckoning.specs.Produced.{IsProduceOf, SessionAccount}
+use Rattle.running_house.specs.inner.Produced.{IsProduceOf}
+use Rattle.running_house.specs.Produced.{SessionAccount}
 use Rattle.reckoning.specs.Balancing.{IsBalanced}
 use Rattle.reckoning.specs.declared.balancing.Books.{Books}
 use Rattle.house_history.specs.Legal.{Legal}
@@ -35,8 +36,10 @@ use Rattle.house_history.specs.Events.{accepted_in}
 use Rattle.reckoning.specs.Histories.{IsKnownIn}
 use Rattle.reckoning.specs.Shelves.{HasAccepted}
 use Rattle.reckoning.proofs.Histories.{accepted_at}
-use Rattle.reckoning.proofs.Accounts.{account_of, all_taken, answers_of, backed_by, only_of, mapped_at, session_account_of}
-use Rattle.reckoning.proofs.Parts.{seats_of, some_at}
+use Rattle.running_house.proofs.Accounts.{account_of, backed_by, only_of, session_account_of}
+use Rattle.reckoning.proofs.Accounts.{all_taken, answers_of, mapped_at}
+use Rattle.running_house.proofs.Accounts.{seats_of}
+use Rattle.reckoning.proofs.Parts.{some_at}
 use Rattle.running_house.specs.Agree as report
 use Rattle.running_house.specs.Agree.{Agrees}
 use Rattle.running_house.specs.Agree.{IsEmptied, WasAnswered}

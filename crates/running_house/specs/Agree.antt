@@ -20,7 +20,7 @@ use Rattle.lane_work.specs.Answering.{WereAnswered}
 use Rattle.lane_work.specs.Awaiting.{copies_in, verdicts_in}
 use Rattle.lane_work.specs.Backing.{IsBacked}
 use Rattle.lane_work.specs.Consuming.{items_of}
-use Rattle.reckoning.specs.Produced.{SessionAccount}
+use Rattle.running_house.specs.Produced.{SessionAccount}
 use Rattle.house_shared.specs.declared.shared.Guest.{Guest}
 use Rattle.reckoning.specs.Shelves.{AreToldOnce}
 use Rattle.running_house.specs.Order.{AreInLaneOrder}

@@ -13,5 +13,6 @@ pub mod Refusals
 pub mod Alone
 pub mod Agree
 pub mod Tells
+pub mod Produced
 pub mod inner
 pub mod rows

@@ -2,3 +2,4 @@ pub mod Agree
 pub mod Begun
 pub mod Refusals
 pub mod Crew
+pub mod Produced

@@ -21,7 +21,7 @@ use workers_sync::{Actor, Gate, SyncPoint};
 
 /// What the thread of this shard's consumer is to return: what a consumer's life there leaves.
 #[derive_where(Clone, Copy)]
-pub struct Serves<'a, B: Naming> {
+pub(crate) struct Serves<'a, B: Naming> {
     /// What all threads share.
     pub shared: &'a HouseShared<B>,
     /// The number of its shard, from 0.

@@ -4,7 +4,7 @@
 ghost use Rattle.std.specs.Prelude.{ℕ, ◌≡◌, ◌≤◌, ◌<◌, ◌+◌, [], length, vec_len, vec_capacity};
 ghost use Rattle.std.specs.Mem.{manually_drop_value};
 ghost use Rattle.house_shared.specs.Crew.{AllAt, AreGuests, IsHouse, IsPost};
-ghost use Rattle.reckoning.specs.Produced.{IsProduceOf};
+ghost use Rattle.running_house.specs.inner.Produced.{IsProduceOf};
 ghost use Rattle.running_house.specs.inner.Crew.{IsSpawned};
 
 use crate::aside::stand_down;
@@ -24,7 +24,7 @@ use workers_sync::{Actor, Gate, SyncPoint};
 /// What the thread of this producer is to return: what a worker's life with its connections leaves, or, behind the workers, what a
 /// session's life with its steps does.
 #[derive_where(Clone, Copy)]
-pub struct Produces<'a, B: Naming> {
+pub(crate) struct Produces<'a, B: Naming> {
     /// What all threads share.
     pub shared: &'a HouseShared<B>,
     /// For each worker, for each of its connections, the bytes that come.

@@ -6,8 +6,8 @@ ghost use Rattle.std.specs.Mem.{manually_drop_value};
 ghost use Rattle.std.specs.Thread.{IsSend, IsSync};
 ghost use Rattle.house_shared.specs.Crew.{AllAt, AreGuests, IsCrew, IsHouse, IsPost};
 ghost use Rattle.house_shared.specs.declared.shared.HouseShared.{HouseShared};
-ghost use Rattle.house_shared.specs.Left.{IsPostLeft, IsServiceOf, IsSpendable, LeavesAll};
-ghost use Rattle.reckoning.specs.Produced.{IsProduceOf};
+ghost use Rattle.house_shared.specs.Left.{IsPostLeft, IsServiceOf, IsSpendable};
+ghost use Rattle.running_house.specs.inner.Produced.{IsProduceOf, LeavesAll};
 
 use crate::aside::end_first;
 use crate::common::Common;
@@ -178,7 +178,7 @@ fn in_scope<'s, E, B: Naming + Send + Sync, R: Threads + Wait + Sync, G: Gate + 
 /// Where a thread can't be made `started` is `Spawn`: no producer begins behind a consumer that has none,
 /// none behind a producer that has none, and what is left is to be abandoned. `NoMemory` comes before
 /// anything is started.
-pub fn run_threads<B: Naming + Send + Sync, R: Threads + Wait + Sync, G: Gate + Sync>(
+pub(crate) fn run_threads<B: Naming + Send + Sync, R: Threads + Wait + Sync, G: Gate + Sync>(
     rt: &R,
     shared: &HouseShared<B>,
     gate: &G,

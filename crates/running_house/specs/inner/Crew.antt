@@ -25,8 +25,9 @@ use Rattle.lane_work.specs.Speaking.{premises_of}
 use Rattle.shard_queue.specs.declared.ends.ReplyChannel.{ReplyChannel}
 use Rattle.shard_queue.specs.Reply.{IsReceiver, received}
 use Rattle.shard_queue.specs.Permits.{said}
-use Rattle.house_shared.specs.Left.{Plans, IsServiceOf, most_of}
-use Rattle.reckoning.specs.Produced.{IsProduceOf, SessionAccount}
+use Rattle.house_shared.specs.Left.{IsServiceOf, most_of}
+use Rattle.running_house.specs.inner.Produced.{IsProduceOf, Plans}
+use Rattle.running_house.specs.Produced.{SessionAccount}
 
 -- ---- promises
 

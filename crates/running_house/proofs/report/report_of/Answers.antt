@@ -5,14 +5,15 @@ use Rattle.lane_work.specs.declared.consumer.Consumed.{Consumed}
 use Rattle.lane_work.specs.declared.worker.Worked.{Worked}
 use Rattle.lane_work.specs.LanePermits as rows
 use Rattle.lane_work.specs.ChannelPermits.{AreReceivers, AreSenderEndedHands}
-use Rattle.reckoning.proofs.Parts.{consumers_of, ended_of, receivers_of, sender_hands_of}
+use Rattle.running_house.proofs.Accounts.{ended_of, receivers_of}
+use Rattle.reckoning.proofs.Parts.{consumers_of, sender_hands_of}
 use Rattle.house_shared.specs.Crew.{AllAt}
 use Rattle.house_history.specs.Legal.{Legal}
 use Rattle.reckoning.specs.Histories.{IsKnownIn}
 use Rattle.reckoning.specs.Shelves.{HasAccepted, IsTaught}
 use Rattle.reckoning.proofs.Histories.{taught_later}
 use Rattle.std.proofs.lemmas.List.Elements.{All-weaker}
-use Rattle.reckoning.specs.Produced.{IsProduceOf}
+use Rattle.running_house.specs.inner.Produced.{IsProduceOf}
 use Rattle.running_house.specs.Lists.{ListsAgree}
 use Rattle.running_house.specs.Walk.{ListsMet}
 use Rattle.reckoning.specs.Balancing.{IsBalanced}

@@ -1,5 +1,5 @@
 use Rattle.std.proofs.Common.{◌+◌, length}
-use Rattle.reckoning.proofs.Abandoned.{consumed_for, worked_for}
+use Rattle.running_house.proofs.Abandoned.{consumed_for, worked_for}
 use Rattle.running_house.proofs.Floors.{shared_for, house_of}
 use Rattle.running_house.proofs.run.run_house.Goals as goal
 
