@@ -1,5 +1,5 @@
 #!/usr/bin/env python3
-"""The version. It stands in crates/post_house/src/options.rt; IMAP's answer to ID, its definition, its worked case, a dialogue and a page have it too.
+"""The version. It stands in crates/command_line/src/options.rt; IMAP's answer to ID, its definition, its worked case, a dialogue and a page have it too.
 
     tests/version.py                prints it
     tests/version.py 0.3.0          sets it in all these places; CHANGELOG's heading is written by hand
@@ -15,7 +15,7 @@ import subprocess
 import sys
 
 TOP = os.path.dirname(os.path.dirname(os.path.abspath(__file__)))
-HOME = "crates/post_house/src/options.rt", r'const VERSION: &str = "([0-9.]+),'
+HOME = "crates/command_line/src/options.rt", r'const VERSION: &str = "([0-9.]+),'
 
 # What IMAP's ID tells, as a file of code or of definitions spells it, and as a page or a dialogue does.
 QUOTED = r'\\"version\\" \\"([0-9.]+)\\"'

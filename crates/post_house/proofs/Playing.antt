@@ -10,8 +10,8 @@ use Rattle.settings.specs.declared.config.ConfigFault.TheVariants as config_faul
 use Rattle.script.specs.Promise.{WroteOnce}
 use Rattle.script.specs.Script.{ScriptLine, script_of}
 use Rattle.script.specs.Telling.{RunTells, lines_of}
-use Rattle.script.specs.declared.telling.Form.{Form}
-use Rattle.script.specs.declared.telling.Form.TheVariants.{Json, Text}
+use Rattle.settings.specs.declared.asking.Form.{Form}
+use Rattle.settings.specs.declared.asking.Form.TheVariants.{Json, Text}
 use Rattle.script.specs.declared.run.RunFault.{RunFault}
 use Rattle.script.specs.declared.run.RunFault.TheVariants as run_faults
 use Rattle.script.proofs.Once.{wrote_beginning}

@@ -3,7 +3,7 @@ use Rattle.std.proofs.Common.{lit<, ◌≡◌, ◌⊎◌, ℕ, Bool, true, List,
 use Rattle.std.specs.Io.KnownBytes.{Appends}
 use Rattle.clap.specs.Words.{Text}
 use Rattle.clap.specs.declared.error.kind.ErrorKind.{ErrorKind}
-use Rattle.post_house.specs.Words.{FailsWith, faults_at}
+use Rattle.command_line.specs.Words.{FailsWith, faults_at}
 use Rattle.post_house.specs.inner.Status.{IsStatus}
 use Rattle.post_house.specs.inner.Telling.{HasRefused, HasTold, mistaken, shown, wanting}
 

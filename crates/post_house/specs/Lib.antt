@@ -1,4 +1,2 @@
-pub mod Asking
-pub mod Words
 pub mod Status
 pub mod inner

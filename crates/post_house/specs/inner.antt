@@ -1,5 +1,3 @@
-pub mod Words
 pub mod Playing
 pub mod Status
 pub mod Telling
-pub mod Sizes

@@ -1,10 +1,8 @@
 //! The program: it reads its command line, runs what that asks for, and says how it went by its exit status and on standard error. How
-//! words become settings is told in the module `asked`, how the program may fail in `failure`; what a house does in the crate `house`.
+//! words become settings is told in the crate `command_line`, how the program may fail in `failure`; what a house does in the crate `house`.
 #![tactic(auto)]
 
-mod asked;
 mod failure;
-mod options;
 mod outcome;
 
 ghost use Rattle.std.specs.Prelude.{◌≡◌, ◌⊎◌, ◌↔◌, false, true, ℕ, List, Some, Err, map};
@@ -12,22 +10,22 @@ ghost use Rattle.clap.specs.Words.{kind_of};
 ghost use Rattle.script.specs.Telling.{lines_of};
 ghost use Rattle.settings.specs.Settings.{IsInRange, config_fault};
 ghost use Rattle.settings.specs.declared.config.ConfigFault.{ConfigFault};
-ghost use Rattle.post_house.specs.Asking.{IsAskedInRange};
+ghost use Rattle.command_line.specs.Asking.{IsAskedInRange};
 ghost use Rattle.post_house.specs.inner.Playing.{HasDone, HasRun, WasTold};
 ghost use Rattle.post_house.specs.Status.{status_of};
 ghost use Rattle.post_house.specs.inner.Status.{IsStatus, status_of_done};
 ghost use Rattle.post_house.specs.inner.Telling.{HasTold, IsRequest, Tells};
 
-use crate::asked::{Asked, asked_of};
 use crate::failure::{Failure, device_or_memory};
 use crate::outcome::{Done, Outcome, Ran};
 use clap::Error;
 use clap::error::ErrorKind;
+use command_line::{Asked, asked_of};
 use house::House;
 use line_io::{Sink, Watched, send};
-use script::{Form, drive_as};
+use script::drive_as;
 use serving::serve;
-use settings::Config;
+use settings::{Config, Form};
 use std::alloc::Global;
 use std::convert::AsStr;
 use std::env::{self, Env};

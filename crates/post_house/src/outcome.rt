@@ -1,8 +1,8 @@
 //! What came of a command: what it was asked for and what came of that, or why it was refused.
 
-use crate::asked::Asked;
 use crate::failure::Failure;
 use clap::error::ErrorKind;
+use command_line::Asked;
 use serving::ServeFault;
 
 /// What came of what was asked for.

@@ -33,7 +33,7 @@ use Rattle.script.specs.Leaving.{WritesBeginning, unwritten, LineBegins, LineWan
 use Rattle.std.specs.Prelude.{Bool, IfNone, IfSome, codes, false, true}
 use Rattle.script.specs.inner.Running.{HasRun, IsClipped, IsOver, IsUnread as IsUnreadTurn, IsUnwritten, LineCut, LineDone, LinePlayed, LineTold, LineWritten, SetsHeld, TellWanting, playing, telling, TurnTells, sets, sets_nobody}
 use Rattle.script.specs.Telling.{IsLeftUntold, wanting, untold, LineByLine, TellsAll, TellsBeginning, TellsFirst, asked_by, lines_of, rendered, told}
-use Rattle.script.specs.declared.telling.Form.{Form}
+use Rattle.settings.specs.declared.asking.Form.{Form}
 use Rattle.script.proofs.Once.{script_once}
 use Rattle.script.proofs.ScriptLaws.{first_of_lines}
 use Rattle.script.proofs.TellingLaws.{asked_both, delivers, plays_on, same_front, told_on}

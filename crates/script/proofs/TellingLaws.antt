@@ -11,8 +11,8 @@ use Rattle.script.specs.Script.{LinePlays, Script, ScriptLine, asked, held_after
 use Rattle.script.specs.Promise.{DeliversOnce, WroteOnce}
 use Rattle.script.specs.Leaving.{IsLeft, IsLeftWanting, Writes, WritesBeginning, WritesFirst}
 use Rattle.script.specs.Telling.{IsLeftUntold, wanting, untold, LineByLine, RunTells, TellsAll, TellsBeginning, TellsFirst, asked_by, joined, json_of, lines_of, rendered, told}
-use Rattle.script.specs.declared.telling.Form.{Form}
-use Rattle.script.specs.declared.telling.Form.TheVariants.{Text, Json}
+use Rattle.settings.specs.declared.asking.Form.{Form}
+use Rattle.settings.specs.declared.asking.Form.TheVariants.{Text, Json}
 use Rattle.script.specs.declared.run.RunFault.{RunFault}
 use Rattle.script.specs.declared.run.RunFault.TheVariants as faults
 use Rattle.script.proofs.Once.{script_once, wrote_all, wrote_beginning, wrote_first}

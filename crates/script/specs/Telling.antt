@@ -7,8 +7,8 @@ use Rattle.house.specs.Setup.{Setup}
 use Rattle.house.specs.Scene.{Scene, empty_scene}
 use Rattle.house.specs.Stands.{StandsFor}
 use Rattle.house.specs.House.{House}
-use Rattle.script.specs.declared.telling.Form.{Form}
-use Rattle.script.specs.declared.telling.Form.TheVariants.{Text, Json}
+use Rattle.settings.specs.declared.asking.Form.{Form}
+use Rattle.settings.specs.declared.asking.Form.TheVariants.{Text, Json}
 use Rattle.script.specs.declared.run.RunFault.{RunFault}
 use Rattle.script.specs.declared.run.RunFault.TheVariants as faults
 use Rattle.script.specs.Script.{LinePlays, ScriptLine, asked, held_after, held_by, is_skipped, line_of, most_bytes, none_held, pieces}

@@ -9,4 +9,3 @@ mod telling;
 
 pub use line::ScriptLine;
 pub use run::{RunFault, drive, drive_as};
-pub use telling::Form;

@@ -22,11 +22,12 @@ ghost use Rattle.script.specs.Telling.{RunTells, lines_of};
 
 use crate::line::{ScriptLine, read_line, without_end};
 use crate::reading::read_piece;
-use crate::telling::{Form, Spelled, render};
+use crate::telling::{Spelled, render};
 use hex::{FromHexError, decode};
 use house::{Event, House, HouseFault};
 use itoa::Buffer;
 use line_io::{Sink, append_parts, send};
+use settings::Form;
 use std::alloc::{AllocError, Global};
 use std::io::BufRead;
 use thiserror::Error;

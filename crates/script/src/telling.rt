@@ -6,18 +6,9 @@ ghost use Rattle.script.specs.Telling.{characters, json_of, object_of, rendered,
 
 use crate::line::{MOST_BYTES, is_skipped};
 use json::Writer;
+use settings::Form;
 use std::alloc::{AllocError, Global};
 use std::mem;
-
-/// How a run tells what the lines of its script print.
-#[derive(Clone, Copy, Debug, PartialEq, Eq)]
-pub enum Form {
-    /// As it is printed.
-    Text,
-    /// One JSON object a line of the script, with its number, the line and what it printed. Nothing tells of empty lines and comments,
-    /// unless one prints something.
-    Json,
-}
 
 /// Room for a line and what it printed as JSON spells them, kept from line to line.
 #[derive(Drop)]

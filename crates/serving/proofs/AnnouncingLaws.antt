@@ -9,7 +9,7 @@ use Rattle.house_shared.specs.Users.{is_inbox}
 use Rattle.settings.specs.Settings.{IsFrom, directory_for}
 use Rattle.settings.specs.declared.config.Config.{Config}
 use Rattle.serving.specs.Announcing.{AreUserPorts, HasBegun, IsAnnouncement, IsPageFor, IsPortFor, announcement, imap_lines, ports_from, users_of}
-use Rattle.serving.specs.declared.server.Uidvalidity.{Uidvalidity}
+use Rattle.settings.specs.declared.asking.Uidvalidity.{Uidvalidity}
 
 -- ---- lines
 

@@ -6,8 +6,8 @@ use Rattle.envelope.specs.Directory.{Home}
 use Rattle.house_shared.specs.Users.{is_inbox}
 use Rattle.settings.specs.Settings.{IsFrom, directory_for}
 use Rattle.settings.specs.declared.config.Config.{Config}
-use Rattle.serving.specs.declared.server.Uidvalidity.{Uidvalidity}
-use Rattle.serving.specs.declared.server.Uidvalidity.TheVariants.{Given, Default}
+use Rattle.settings.specs.declared.asking.Uidvalidity.{Uidvalidity}
+use Rattle.settings.specs.declared.asking.Uidvalidity.TheVariants.{Given, Default}
 
 -- the users of these mailboxes, in the order of their numbers: each has one INBOX
 abbrev pub users_of : List Home → List (List ℕ)

@@ -4,11 +4,11 @@ ghost use Rattle.std.specs.Prelude.{ℕ, ◌≡◌, ◌<◌, ◌++◌, ◌∷◌
 ghost use Rattle.std.specs.Io.KnownBytes.{Appends};
 ghost use Rattle.serving.specs.Announcing.{announcement, imap_line, imap_lines, lmtp_line, page_line, page_lines, users_of};
 
-use crate::server::Uidvalidity;
 use crate::sockets::Ports;
 use envelope::Directory;
 use itoa::Buffer;
 use line_io::{Sink, append_parts, send};
+use settings::Uidvalidity;
 use std::alloc::{AllocError, Global};
 
 // The line of the port that mail comes to.

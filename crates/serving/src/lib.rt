@@ -23,5 +23,4 @@ mod visiting;
 mod watch;
 
 pub use fault::ServeFault;
-pub use reporting::Reporting;
-pub use server::{Beginning, Uidvalidity, serve, serve_house};
+pub use server::{Beginning, serve, serve_house};

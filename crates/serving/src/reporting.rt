@@ -8,6 +8,7 @@ use crate::fault::{ServeFault, device_or_memory};
 use crate::site::Site;
 use house_history::Naming;
 use server_report::{Keeps, Log, Scribe};
+use settings::Reporting;
 use shared_consumers::LaneGroup;
 use std::alloc::Global;
 use std::io::Write;
@@ -15,15 +16,6 @@ use std::net::Net;
 use std::sync::Wait;
 use std::thread;
 use std::thread::Threads;
-
-/// What a server is asked to tell, beside its listeners.
-#[derive(Clone, Copy, Debug, PartialEq, Eq)]
-pub struct Reporting {
-    /// Whether a line is written for each thing that happens.
-    pub log: bool,
-    /// The port of its page, where it is to have one; 0 for a free one. With it what happens is counted.
-    pub status: Option<u16>,
-}
 
 // What is kept for that.
 fn keeps_of(report: Reporting) -> Keeps {

@@ -15,7 +15,7 @@ use crate::announcing::announce;
 use crate::client_slots::{client_slots_for, client_slots_of_user, count_users};
 use crate::fault::ServeFault;
 use crate::limit::{ClientLimit, limits_for};
-use crate::reporting::{Records, Reporting, Writing, records_for};
+use crate::reporting::{Records, Writing, records_for};
 use crate::run::{Listeners, Manning, run_house_in};
 use crate::sockets::{Open, open_sockets};
 use envelope::Directory;
@@ -25,7 +25,7 @@ use line_io::Sink;
 use mailbox::{History, Limits};
 use server_report::Log;
 use serving_workers::{Finished, Line, Lines, SocketLine, SocketLines};
-use settings::{Config, ConfigFault, directory_of};
+use settings::{Config, ConfigFault, Reporting, Uidvalidity, directory_of};
 use shared_consumers::copies_at_once;
 use std::alloc::Global;
 use std::io::{Read, Write};
@@ -34,15 +34,6 @@ use std::net::{Net, TcpListener, TcpStream};
 use std::sync::{Arc, Wait};
 use std::thread::Threads;
 use workers_sync::Listening;
-
-/// Whether whoever starts the server said which UIDVALIDITY its mailboxes have.
-#[derive(Clone, Copy, Debug, PartialEq, Eq)]
-pub enum Uidvalidity {
-    /// It was said: nothing is told of it.
-    Given,
-    /// It is the default, and a line warns of that.
-    Default,
-}
 
 // How large the parts of a house of these settings are, which has so many client slots.
 fn sizes_of(config: &Config, client_slots: usize) -> Sizes<'_>

@@ -6,7 +6,8 @@ ghost use Rattle.std.specs.Prelude.{◌≡◌, Some, false};
 use crate::events::house;
 use house::House;
 use line_io::Sink;
-use script::{Form, RunFault, drive, drive_as};
+use script::{RunFault, drive, drive_as};
+use settings::Form;
 use std::alloc::Global;
 use std::io::{BufRead, Error, ErrorKind, Read};
 

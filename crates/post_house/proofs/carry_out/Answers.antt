@@ -1,6 +1,6 @@
 use Rattle.std.proofs.Common.{rules, ◌≡◌, ap, subst, sym}
-use Rattle.post_house.specs.declared.asked.Asked.{Asked}
-use Rattle.post_house.specs.declared.asked.Asked.TheVariants.{Script, Serve}
+use Rattle.command_line.specs.declared.asked.Asked.{Asked}
+use Rattle.command_line.specs.declared.asked.Asked.TheVariants.{Script, Serve}
 use Rattle.post_house.specs.inner.Playing.{HasDone}
 use Rattle.post_house.specs.declared.outcome.Done.TheVariants.{Played, Served}
 use Rattle.post_house.proofs.Playing.{played_not_set, ran_in, served_not_set}

@@ -6,26 +6,26 @@ use Rattle.house.specs.House.{House}
 use Rattle.settings.specs.declared.config.Config.{Config}
 use Rattle.settings.specs.declared.config.ConfigFault.{ConfigFault}
 use Rattle.clap.specs.Words.{Text}
-use Rattle.post_house.specs.Asking.{AsksFor, IsAskedInRange}
-use Rattle.post_house.specs.Words.{faults_at}
+use Rattle.command_line.specs.Asking.{AsksFor, IsAskedInRange}
+use Rattle.command_line.specs.Words.{faults_at}
 use Rattle.post_house.specs.inner.Status.{status_of_done}
 use Rattle.post_house.specs.inner.Telling.{HasRefused}
 use Rattle.post_house.specs.declared.outcome.Done.{Done}
 use Rattle.post_house.specs.declared.outcome.Done.TheVariants.{Played, Served}
 use Rattle.post_house.specs.declared.outcome.Outcome.{Outcome}
 use Rattle.post_house.specs.declared.outcome.Outcome.TheVariants.{Did, Refused}
-use Rattle.post_house.specs.declared.asked.Asked.{Asked}
-use Rattle.post_house.specs.declared.asked.Asked.TheVariants.{Script, Serve}
+use Rattle.command_line.specs.declared.asked.Asked.{Asked}
+use Rattle.command_line.specs.declared.asked.Asked.TheVariants.{Script, Serve}
 use Rattle.post_house.specs.declared.failure.Failure.{Failure}
 use Rattle.post_house.specs.declared.failure.Failure.TheVariants as failures
 use Rattle.script.specs.Promise.{WroteOnce}
 use Rattle.script.specs.Script.{ScriptLine, script_of}
 use Rattle.script.specs.Leaving.{IsLeft, IsLeftWanting, Writes, WritesBeginning, WritesFirst}
 use Rattle.script.specs.Telling.{IsLeftUntold, TellsAll, TellsBeginning, TellsFirst, lines_of}
-use Rattle.script.specs.declared.telling.Form.{Form}
-use Rattle.script.specs.declared.telling.Form.TheVariants as forms
+use Rattle.settings.specs.declared.asking.Form.{Form}
+use Rattle.settings.specs.declared.asking.Form.TheVariants as forms
 use Rattle.serving.specs.Announcing.{HasAnnounced, HasBegun}
-use Rattle.serving.specs.declared.server.Uidvalidity.{Uidvalidity}
+use Rattle.settings.specs.declared.asking.Uidvalidity.{Uidvalidity}
 use Rattle.serving.specs.Producers.{server_fault}
 use Rattle.serving.specs.declared.fault.ServeFault.{ServeFault}
 use Rattle.serving.specs.declared.fault.ServeFault.TheVariants as serve_faults

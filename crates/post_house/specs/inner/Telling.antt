@@ -4,7 +4,7 @@ use Rattle.std.specs.Io.KnownBytes.{Appends}
 use Rattle.clap.specs.Words.{Text}
 use Rattle.clap.specs.declared.error.kind.ErrorKind.{ErrorKind}
 use Rattle.clap.specs.declared.error.kind.ErrorKind.TheVariants as kind
-use Rattle.post_house.specs.Words.{FailsWith, faults_at}
+use Rattle.command_line.specs.Words.{FailsWith, faults_at}
 
 -- help or the version was asked for
 abbrev pub IsRequest : ErrorKind → Type 0

@@ -9,8 +9,8 @@ use Rattle.house.specs.Scene.{Scene}
 use Rattle.script.specs.Script.{LineDoes, LinePlays, ScriptLine, Sends, Vanishes, Enters, Asks, Leaves, Closes, Bad, asked, held_after, held_by, none_held, refusal}
 use Rattle.script.specs.Leaving.{PlayWanting}
 use Rattle.script.specs.Telling.{IsLeftUntold, LineByLine, asked_by, lines_of, rendered, told}
-use Rattle.script.specs.declared.telling.Form.{Form}
-use Rattle.script.specs.declared.telling.Form.TheVariants.{Json}
+use Rattle.settings.specs.declared.asking.Form.{Form}
+use Rattle.settings.specs.declared.asking.Form.TheVariants.{Json}
 use Rattle.house.specs.Stands.{StandsFor}
 use Rattle.script.specs.declared.run.TurnFault.{TurnFault}
 use Rattle.script.specs.declared.run.TurnFault.TheVariants as faults

@@ -4,7 +4,7 @@ use Rattle.hex.specs.Hex.{decode_pairs}
 use Rattle.line_io.specs.Wire.{crlf}
 use Rattle.script.specs.Script.{Sends, Vanishes, Enters, Asks, Leaves, Hold, Free, Closes, Tail, Skip, Bad, asked, line_of, pieces}
 use Rattle.script.specs.Telling.{rendered}
-use Rattle.script.specs.declared.telling.Form.TheVariants.{Json}
+use Rattle.settings.specs.declared.asking.Form.TheVariants.{Json}
 
 an_empty_line_comes : asked (codes "L1") ≡ Sends 1 (codes "" ++ crlf)
 an_empty_line_comes = refl

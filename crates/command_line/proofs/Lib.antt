@@ -1,0 +1,5 @@
+mod AskLaws
+mod GivenLaws
+mod SizeLaws
+mod WordLaws
+mod SizeCases
