@@ -17,8 +17,8 @@ use crate::options::{
 };
 use clap::error::ErrorKind;
 use clap::{ArgMatches, Command, Error};
-use settings::{Config, Form, Reporting, Uidvalidity};
 use settings::numbers::{LEAST_IMAP_PORT, SESSIONS as STANDARD_SESSIONS, sessions_of};
+use settings::{Config, Form, Reporting, Uidvalidity};
 use std::alloc::{AllocError, Global};
 use std::convert::AsStr;
 

@@ -7,7 +7,8 @@ use settings::Config;
 use std::alloc::Global;
 use std::io::{self, Write};
 
-const MAIL: &[u8] = b"LHLO c.example\r\nMAIL FROM:<s@a.example>\r\nRCPT TO:<alice@example.org>\r\nDATA\r\nhi\r\n.\r\n";
+const MAIL: &[u8] =
+    b"LHLO c.example\r\nMAIL FROM:<s@a.example>\r\nRCPT TO:<alice@example.org>\r\nDATA\r\nhi\r\n.\r\n";
 
 /// What happens, in this order: a session is opened for alice, her client waits for changes, and a mail connection brings a message.
 const EVENTS: [Event<'static>; 4] = [

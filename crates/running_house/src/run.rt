@@ -8,9 +8,9 @@ ghost use Rattle.running_house.specs.Plan.{IsFault, most_producers, plan_fault, 
 
 use crate::plan::{Plan, Report, WorkFault, directory_for};
 use crate::report::report_of;
+use crate::threads::run_threads;
 use house_history::Naming;
 use house_shared::{Opened, Sizes, Started, open};
-use crate::threads::run_threads;
 use mailbox::{History, Limits};
 use reckoning::abandon;
 use std::alloc::Global;
