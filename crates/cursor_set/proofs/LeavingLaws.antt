@@ -11,7 +11,7 @@ use Rattle.std.proofs.lemmas.List.Sums.{prefix_len_is, prefix_len-le-length}
 use Rattle.std.proofs.lemmas.List.Kept.{AllPairs-from_increasing}
 use Rattle.cursor_set.specs.Leaving.{counted, AreIn}
 use Rattle.cursor_set.specs.inner.Leaving.{below}
-use Rattle.cursor_set.specs.Lines.{position}
+use Rattle.change_ring.specs.View.{position}
 use Rattle.cursor_set.proofs.Positions.{Rises, Rises-from, Rises-to, Rises-first, all-first, not_falling, position_at}
 
 -- ---- one UID is removed

@@ -1,27 +1,11 @@
 -- The lines that show changes to a client (RFC 9051, 7.4 and 7.5).
-use Rattle.std.specs.Prelude.{ℕ, ◌+◌, ◌==◌, List, [], ◌∷◌, ◌++◌, length, if◌then◌else◌, codes, decimal}
+use Rattle.std.specs.Prelude.{ℕ, ◌+◌, List, [], ◌∷◌, ◌++◌, length, codes, decimal}
 use Rattle.change_ring.specs.declared.change.Flags.{Flags}
 use Rattle.change_ring.specs.declared.change.Change.{Change}
 use Rattle.change_ring.specs.declared.change.Change.TheVariants.{Add, Gone, Flags as SetFlags}
 use Rattle.change_ring.specs.Log.{shown}
-
--- the names of the flags that are set (RFC 9051, 2.3.2)
-abbrev pub flag_words : Flags → List (List ℕ)
-flag_words f =
-    (if f.answered then codes "\\Answered" ∷ [] else []) ++ (if f.flagged then codes "\\Flagged" ∷ [] else [])
-    ++ (if f.deleted then codes "\\Deleted" ∷ [] else [])
-    ++ (if f.seen then codes "\\Seen" ∷ [] else []) ++ (if f.draft then codes "\\Draft" ∷ [] else [])
-
--- the words with a space between two
-abbrev pub spaced : List (List ℕ) → List ℕ
-spaced [] = []
-spaced (w ∷ []) = w
-spaced (w ∷ v ∷ ws) = w ++ 32 ∷ spaced (v ∷ ws)
-
--- a message's sequence number: its position in the view, counted from 1; one past the last where it isn't there
-abbrev pub position : ℕ → List ℕ → ℕ
-position uid [] = 1
-position uid (u ∷ uids) = if u == uid then 1 else position uid uids + 1
+use Rattle.change_ring.specs.View.{position}
+use Rattle.change_ring.specs.Words.{flag_words, spaced}
 
 -- so many messages are there now
 abbrev pub exists_line : ℕ → List ℕ

@@ -8,7 +8,7 @@ ghost use Rattle.std.specs.List.Sorted.{IsStrictlyIncreasing};
 ghost use Rattle.change_ring.specs.Log.{without};
 ghost use Rattle.cursor_set.specs.Leaving.{counted, AreIn};
 ghost use Rattle.cursor_set.specs.inner.Leaving.{below};
-ghost use Rattle.cursor_set.specs.Lines.{position};
+ghost use Rattle.change_ring.specs.View.{position};
 
 use crate::gap::Gap;
 use change_ring::Change;

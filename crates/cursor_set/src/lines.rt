@@ -7,7 +7,8 @@ ghost use Rattle.change_ring.specs.declared.change.Change.{Change};
 ghost use Rattle.change_ring.specs.Log.{Names, added, shown, replay};
 ghost use Rattle.cursor_set.specs.Leaving.{counted, AreIn};
 ghost use Rattle.cursor_set.specs.Legal.{IsLegalOn};
-ghost use Rattle.cursor_set.specs.Lines.{flag_words, spaced, fetch_line, line, lines};
+ghost use Rattle.cursor_set.specs.Lines.{fetch_line, line, lines};
+ghost use Rattle.change_ring.specs.Words.{flag_words, spaced};
 
 use crate::leaving::Leaving;
 use change_ring::{Change, Flags};

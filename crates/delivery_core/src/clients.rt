@@ -16,8 +16,8 @@ ghost use Rattle.delivery_core.specs.Stands.{StandsFor};
 
 use crate::client::Client;
 use crate::steps::DeliveryCore;
-use change_ring::{FlagOp, Flags};
-use mailbox::{MailFault, Mailbox, Opening, Row, Status, View, answer_of};
+use change_ring::{FlagOp, Flags, View};
+use mailbox::{MailFault, Mailbox, Opening, Row, Status, answer_of};
 
 // How many changes a mailbox has logged.
 fn total(mailbox: &Mailbox) -> u128

@@ -7,7 +7,9 @@ use Rattle.change_ring.specs.declared.change.Change.{Change}
 use Rattle.change_ring.specs.declared.change.Change.TheVariants.{Add, Gone, Flags as SetFlags}
 use Rattle.change_ring.specs.declared.change.Flags.{Flags}
 use Rattle.change_ring.specs.Log.{shown}
-use Rattle.cursor_set.specs.Lines.{lines, line, position, flag_words, spaced}
+use Rattle.cursor_set.specs.Lines.{lines, line}
+use Rattle.change_ring.specs.View.{position}
+use Rattle.change_ring.specs.Words.{flag_words, spaced}
 use Rattle.line_io.specs.Wire.{crlf}
 use Rattle.mailbox.specs.declared.clients.MailFault.{MailFault}
 use Rattle.mailbox.specs.declared.clients.MailFault.TheVariants.{Stranger, Lapped, Spent, NoMemory}

@@ -2,7 +2,7 @@
 use Rattle.std.specs.Prelude.{◌≡◌, ℕ, List, ◌∷◌, [], ◌++◌, length, drop, flat_map, codes, decimal, Some}
 use Rattle.change_ring.specs.declared.change.Change.{Change}
 use Rattle.change_ring.specs.declared.change.Change.TheVariants.{Add, Gone, Flags as SetFlags}
-use Rattle.cursor_set.specs.Lines.{flag_words, spaced}
+use Rattle.change_ring.specs.Words.{flag_words, spaced}
 use Rattle.world.specs.World.{Box}
 use Rattle.envelope.specs.Names.{number_of}
 use Rattle.house.specs.Setup.{Setup}

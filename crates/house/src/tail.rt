@@ -6,7 +6,7 @@ ghost use Rattle.envelope.specs.Names.{number_of};
 ghost use Rattle.house.specs.Setup.{Setup};
 ghost use Rattle.house.specs.Scene.{Scene};
 ghost use Rattle.house.specs.Stands.{StandsFor};
-ghost use Rattle.cursor_set.specs.Lines.{flag_words, spaced};
+ghost use Rattle.change_ring.specs.Words.{flag_words, spaced};
 ghost use Rattle.house.specs.Window.{PrintsWindow, change_text, tail_line, tail_text};
 
 use crate::event::HouseFault;

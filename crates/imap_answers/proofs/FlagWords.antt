@@ -2,7 +2,7 @@
 use Rattle.std.proofs.Common.{◌≡◌, ℕ, ◌+◌, ◌≤◌, Bool, true, false, cond, List, [], ◌∷◌, ◌++◌, length, length-append, drop, arith, refl, ap, sym, ◌∙◌, append_assoc, append-nil}
 use Rattle.std.specs.Prelude.{codes, not, ◌&&◌}
 use Rattle.change_ring.specs.declared.change.Flags.{Flags}
-use Rattle.cursor_set.specs.Lines.{flag_words, spaced}
+use Rattle.change_ring.specs.Words.{flag_words, spaced}
 use Rattle.imap_answers.specs.Answers.{flags_text}
 use Rattle.imap_answers.specs.inner.Joined.{joined}
 use Rattle.imap_answers.proofs.JoinedLaws.{spaced_joined}

@@ -3,7 +3,7 @@ use Rattle.std.proofs.Common.{◌≡◌, ℕ, ◌+◌, ◌≤◌, Bool, true, fa
 use Rattle.std.specs.Prelude.{Result, Ok, Err, OnErr, Option, Some, None, MatchOption, ◌&&◌, map}
 use Rattle.std.specs.Io.{StartsWith}
 use Rattle.std.proofs.lemmas.List.{take-take, take_at, map-append}
-use Rattle.cursor_set.specs.Lines.{spaced}
+use Rattle.change_ring.specs.Words.{spaced}
 use Rattle.imap_answers.specs.inner.Joined.{lead, joined, is_none, whole}
 
 others_joined : (w : List ℕ) (ws : List (List ℕ)) → spaced (w ∷ ws) ≡ w ++ joined false ws

@@ -4,7 +4,7 @@ use Rattle.std.specs.Prelude.{codes, decimal, Option, Some, None, if◌then◌el
 use Rattle.std.specs.List.{sum, sum_by, list_any}
 use Rattle.std.proofs.lemmas.List.Sums.{sum-map, sum_by-cons, sum_by-append}
 use Rattle.std.proofs.Math.Nat.{min-le_left, min-le_right, le-min}
-use Rattle.cursor_set.specs.Lines.{spaced}
+use Rattle.change_ring.specs.Words.{spaced}
 use Rattle.mailbox.specs.declared.clients.Row.{Row}
 use Rattle.imap_grammar.specs.Grammar.{rfc822_word, section_word}
 use Rattle.imap_grammar.specs.declared.items.Section.{Section}

@@ -6,7 +6,7 @@ use Rattle.change_ring.specs.declared.change.Flags.{Flags}
 use Rattle.mailbox.specs.declared.clients.Opening.{Opening}
 use Rattle.mailbox.specs.declared.clients.Row.{Row}
 use Rattle.mailbox.specs.declared.mailbox.Status.{Status}
-use Rattle.cursor_set.specs.Lines.{flag_words, spaced}
+use Rattle.change_ring.specs.Words.{flag_words, spaced}
 use Rattle.envelope.specs.Bytes.{is_not_slash}
 use Rattle.envelope.specs.Grammar.{Many}
 use Rattle.envelope.specs.Reading.{first_is}

@@ -1,7 +1,7 @@
 -- How many bytes the answer to a FETCH has at most, told without writing it: a text has its length, what stands around it a fixed number.
 use Rattle.std.specs.Prelude.{ℕ, ◌+◌, min, List, length, map, Option, Some, None}
 use Rattle.std.specs.List.{sum}
-use Rattle.cursor_set.specs.Lines.{spaced}
+use Rattle.change_ring.specs.Words.{spaced}
 use Rattle.mailbox.specs.declared.clients.Row.{Row}
 use Rattle.imap_grammar.specs.declared.items.Section.{Section}
 use Rattle.imap_grammar.specs.declared.items.Section.TheVariants as sections

@@ -3,7 +3,7 @@
 
 ghost use Rattle.std.specs.Prelude.{◌≡◌, ◌++◌, ◌+◌, ◌<◌, ◌≤◌, ◌^◌, ◌⊎◌, true, map, length, OnOk, OnErr, ◌&&◌};
 ghost use Rattle.std.specs.List.{list_any};
-ghost use Rattle.cursor_set.specs.Lines.{spaced};
+ghost use Rattle.change_ring.specs.Words.{spaced};
 ghost use Rattle.imap_answers.specs.Answers.{item_text, uid_first, flags_last, answered, is_uid, is_flags, row_answer};
 ghost use Rattle.imap_answers.specs.Room.{row_most};
 ghost use Rattle.imap_answers.specs.inner.Joined.{lead, joined, is_none};

@@ -1,7 +1,7 @@
 //! The flags of a message as an answer prints them, put or appended all or none.
 
 ghost use Rattle.std.specs.Prelude.{◌≡◌, ◌++◌, ◌+◌, ◌<◌, ◌≤◌, [], drop, flat_map, length, if◌then◌else◌, OnOk, OnErr, vec_capacity};
-ghost use Rattle.cursor_set.specs.Lines.{flag_words, spaced};
+ghost use Rattle.change_ring.specs.Words.{flag_words, spaced};
 ghost use Rattle.imap_answers.specs.Answers.{flags_text};
 
 use crate::words::put_parts;

@@ -3,7 +3,7 @@
 
 ghost use Rattle.std.specs.Prelude.{◌≡◌, ◌++◌, ◌≤◌, map, OnOk, OnErr, vec_capacity};
 ghost use Rattle.std.specs.Io.{StartsWith};
-ghost use Rattle.cursor_set.specs.Lines.{spaced};
+ghost use Rattle.change_ring.specs.Words.{spaced};
 ghost use Rattle.imap_grammar.specs.Grammar.{status_word};
 ghost use Rattle.imap_answers.specs.Answers.{status_number, status_text, status_answer};
 ghost use Rattle.imap_answers.specs.inner.Joined.{lead};

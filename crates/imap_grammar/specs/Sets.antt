@@ -1,7 +1,7 @@
 -- Sets of messages: how they are spelled, and which messages they name (RFC 9051, 9: sequence-set).
 use Rattle.std.specs.Prelude.{ℕ, ◌+◌, ◌-◌, Bool, true, false, List, [], ◌∷◌, length, filter, Option, Some, None, map, option_map, min, max, nat_le, nat_lt, is_some, ◌==◌, ◌&&◌, ◌||◌, if◌then◌else◌, slice_index}
 use Rattle.std.specs.List.{list_all, list_any, slice_split, filter_map}
-use Rattle.cursor_set.specs.Lines.{position}
+use Rattle.change_ring.specs.View.{position}
 use Rattle.envelope.specs.Reading.{◌>>=◌, first_is}
 use Rattle.imap_grammar.specs.Bytes.{is_comma}
 use Rattle.imap_grammar.specs.Numbers.{number_up_to}

@@ -508,7 +508,7 @@ fn first_status_item(text: &[u8]) -> Option<(StatusItem, &[u8])>
 impl<'a> FieldNames<'a> {
     ghost use Rattle.std.specs.Prelude.{◌≡◌};
     ghost use Rattle.std.specs.List.{slice_split};
-    ghost use Rattle.cursor_set.specs.Lines.{spaced};
+    ghost use Rattle.change_ring.specs.Words.{spaced};
     ghost use Rattle.envelope.specs.Bytes.{is_space};
 
     /// The names as they were spelled, with a space between two of them.

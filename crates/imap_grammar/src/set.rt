@@ -13,7 +13,7 @@ use crate::ranges::{
     is_number_named, is_one_named, is_one_too_high, positions_in, ranges_in, uids_in,
 };
 use crate::view::{Named, with_positions};
-use mailbox::View;
+use change_ring::View;
 use std::alloc::{AllocError, Global};
 use std::marker::Model;
 

@@ -3,7 +3,7 @@
 
 ghost use Rattle.std.specs.Prelude.{◌≡◌, ◌+◌, ◌<◌, IfOk, length, map, true};
 ghost use Rattle.std.specs.List.Sorted.{IsNonDecreasing};
-ghost use Rattle.cursor_set.specs.Lines.{position};
+ghost use Rattle.change_ring.specs.View.{position};
 ghost use Rattle.imap_grammar.specs.Sets.{named_at};
 
 use std::alloc::{AllocError, Global};

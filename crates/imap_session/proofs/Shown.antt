@@ -3,7 +3,8 @@ use Rattle.std.proofs.Common.{◌≡◌, inl, inr, ℕ, is_some, ◌++◌, appen
 use Rattle.std.specs.Prelude.{◌&&◌, length, nat_le}
 use Rattle.change_ring.specs.declared.change.Flags.{Flags}
 use Rattle.mailbox.specs.declared.clients.Row.{Row}
-use Rattle.cursor_set.specs.Lines.{position, flag_words, spaced}
+use Rattle.change_ring.specs.View.{position}
+use Rattle.change_ring.specs.Words.{flag_words, spaced}
 use Rattle.std.specs.Prelude.{decimal, map}
 use Rattle.imap_answers.specs.Answers.{answered, fetch_answer, item_text, status_text, flags_answer}
 use Rattle.imap_grammar.specs.Reading.{is_done}

@@ -5,7 +5,8 @@ use Rattle.std.specs.List.{list_any}
 use Rattle.std.specs.Str.{bytes_eq}
 use Rattle.mailbox.specs.declared.clients.Opening.{Opening}
 use Rattle.mailbox.specs.declared.clients.Row.{Row}
-use Rattle.cursor_set.specs.Lines.{lines, position}
+use Rattle.cursor_set.specs.Lines.{lines}
+use Rattle.change_ring.specs.View.{position}
 use Rattle.mailbox.specs.declared.clients.MailFault.TheVariants.{Lapped, Stranger}
 use Rattle.change_ring.specs.declared.change.Flags.{Flags}
 use Rattle.mail_date.specs.declared.stamp.Stamp.{Stamp}

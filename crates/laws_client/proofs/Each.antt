@@ -3,7 +3,7 @@ use Rattle.std.proofs.Common.{◌⊎◌, inl, inr, eq-eqb, ◌≡◌, ℕ, zero,
 use Rattle.std.specs.Prelude.{Some}
 use Rattle.std.proofs.lemmas.Bool.{false≢true, eqb-true, le-leb}
 use Rattle.change_ring.specs.Log.{without}
-use Rattle.cursor_set.specs.Lines.{position}
+use Rattle.change_ring.specs.View.{position}
 use Rattle.cursor_set.proofs.Positions.{position_pos}
 use Rattle.laws_client.specs.Client.{Known, unknown, more, exists, expunged, fetched, put_first}
 use Rattle.laws_client.specs.Beliefs.{Each}

@@ -3,7 +3,8 @@ use Rattle.std.proofs.Common.{◌≡◌, append-nil, ℕ, ◌+◌, ◌^◌, ◌<
 use Rattle.std.specs.Prelude.{decimal, codes, Some, ◌&&◌, not, if◌then◌else◌}
 use Rattle.std.specs.List.{list_any}
 use Rattle.change_ring.specs.declared.change.Flags.{Flags}
-use Rattle.cursor_set.specs.Lines.{flag_words, position, spaced}
+use Rattle.change_ring.specs.View.{position}
+use Rattle.change_ring.specs.Words.{flag_words, spaced}
 use Rattle.mailbox.specs.declared.clients.Row.{Row}
 use Rattle.delivery_token.specs.Text.{undated}
 use Rattle.imap_answers.specs.Answers.{answered, fetch_answer, flags_last, is_flags, is_uid, item_text, row_answer, uid_first, flags_answer}

@@ -5,7 +5,7 @@ use Rattle.std.proofs.lemmas.List.{length-drop}
 use Rattle.change_ring.specs.declared.change.Change.{Change}
 use Rattle.change_ring.specs.declared.flag_op.FlagOp.{FlagOp}
 use Rattle.change_ring.specs.Log.{IsLegalLog}
-use Rattle.cursor_set.specs.Lines.{flag_words}
+use Rattle.change_ring.specs.Words.{flag_words}
 use Rattle.imap_session.specs.Exchange.{Call, Answer, Event, Entered, Found, Altered, Left, Read, Alter}
 use Rattle.laws_client.specs.ListTurns.{Sees}
 use Rattle.laws_client.specs.Flags.{FlagsOf, Point, counted}

@@ -7,7 +7,7 @@ use Rattle.change_ring.specs.declared.change.Change.{Change}
 use Rattle.change_ring.specs.declared.change.Change.TheVariants.{Add, Gone, Flags as SetFlags}
 use Rattle.change_ring.specs.declared.change.Flags.{Flags}
 use Rattle.change_ring.specs.Log.{no_flags}
-use Rattle.cursor_set.specs.Lines.{flag_words}
+use Rattle.change_ring.specs.Words.{flag_words}
 use Rattle.imap_session.specs.Exchange.{Alter, Altered, Fed, Feed}
 use Rattle.imap_session.specs.Commands.{unlimited}
 use Rattle.change_ring.specs.declared.flag_op.FlagOp.{FlagOp}

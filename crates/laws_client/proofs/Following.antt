@@ -11,7 +11,9 @@ use Rattle.change_ring.specs.declared.change.Change.TheVariants.{Add, Gone, Flag
 use Rattle.change_ring.specs.declared.change.Flags.{Flags}
 use Rattle.change_ring.specs.Log.{FitsView, Names, added, replay, shown, view_at, without}
 use Rattle.change_ring.proofs.LogLaws.{replay-append}
-use Rattle.cursor_set.specs.Lines.{flag_words, line, lines, position}
+use Rattle.cursor_set.specs.Lines.{line, lines}
+use Rattle.change_ring.specs.View.{position}
+use Rattle.change_ring.specs.Words.{flag_words}
 use Rattle.laws_client.specs.Client.{Client, Known, knowing, reads}
 use Rattle.laws_client.specs.Beliefs.{ArePrinted, Each, Follows}
 use Rattle.laws_client.proofs.Bytes.{reads-append}

@@ -5,7 +5,8 @@ use Rattle.std.proofs.lemmas.Option.{none-some}
 use Rattle.change_ring.specs.declared.change.Change.{Change}
 use Rattle.change_ring.specs.declared.change.Change.TheVariants.{Add, Gone, Flags as SetFlags}
 use Rattle.change_ring.specs.Log.{shown, replay, without, Names, FitsView}
-use Rattle.cursor_set.specs.Lines.{line, lines, position}
+use Rattle.cursor_set.specs.Lines.{line, lines}
+use Rattle.change_ring.specs.View.{position}
 use Rattle.laws_client.specs.Client.{Known, Client, knowing, unknown, reads, exists}
 use Rattle.laws_client.specs.Beliefs.{Each, IsOf, ArePrinted, Follows}
 use Rattle.laws_client.proofs.Bytes.{reads-append}

@@ -4,7 +4,7 @@ use Rattle.std.specs.Prelude.{Option, Some, codes, decimal, ◌&&◌, ◌||◌}
 use Rattle.std.specs.List.{list_all, list_any}
 use Rattle.std.proofs.lemmas.Bool.{false≢true}
 use Rattle.change_ring.specs.declared.change.Flags.{Flags}
-use Rattle.cursor_set.specs.Lines.{spaced}
+use Rattle.change_ring.specs.Words.{spaced}
 use Rattle.mailbox.specs.declared.clients.Row.{Row}
 use Rattle.delivery_token.specs.Text.{date_of}
 use Rattle.imap_answers.specs.Answers.{answered, flags_last, is_uid, part, part_bytes, section, uid_first}

@@ -5,7 +5,8 @@ use Rattle.std.specs.List.{list_any}
 use Rattle.std.proofs.lemmas.Bool.{false≢true}
 use Rattle.change_ring.specs.declared.change.Change.{Change}
 use Rattle.change_ring.specs.Log.{IsLegalLog, added}
-use Rattle.cursor_set.specs.Lines.{flag_words, position, spaced}
+use Rattle.change_ring.specs.View.{position}
+use Rattle.change_ring.specs.Words.{flag_words, spaced}
 use Rattle.mailbox.specs.declared.clients.Row.{Row}
 use Rattle.imap_answers.specs.Answers.{answered, fetch_answer, flags_last, is_flags, item_text, row_answer, uid_first}
 use Rattle.imap_grammar.specs.declared.items.FetchItem.{FetchItem}

@@ -6,7 +6,7 @@ use Rattle.std.proofs.lemmas.Bool.{false≢true}
 use Rattle.std.proofs.lemmas.List.{append-nil}
 use Rattle.std.proofs.lemmas.List.Folds.{list_all-append}
 use Rattle.change_ring.specs.declared.change.Flags.{Flags}
-use Rattle.cursor_set.specs.Lines.{flag_words, spaced}
+use Rattle.change_ring.specs.Words.{flag_words, spaced}
 use Rattle.mailbox.specs.declared.clients.Row.{Row}
 use Rattle.mail_date.proofs.Plain.{date_plain, is_date_byte, time_digit_first, time_plain, zone_plain}
 use Rattle.mail_date.specs.Dates.{is_date}

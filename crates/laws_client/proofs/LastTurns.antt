@@ -9,7 +9,9 @@ use Rattle.change_ring.specs.declared.change.Change.{Change}
 use Rattle.change_ring.specs.declared.change.Change.TheVariants.{Add, Gone, Flags as SetFlags}
 use Rattle.change_ring.specs.declared.change.Flags.{Flags}
 use Rattle.change_ring.specs.Log.{shown}
-use Rattle.cursor_set.specs.Lines.{flag_words, line, lines, position, spaced}
+use Rattle.cursor_set.specs.Lines.{line, lines}
+use Rattle.change_ring.specs.View.{position}
+use Rattle.change_ring.specs.Words.{flag_words, spaced}
 use Rattle.delivery_token.specs.declared.Verdict.{Verdict}
 use Rattle.delivery_token.specs.Text.{Text}
 use Rattle.delivery_token.specs.declared.Verdict.TheVariants as verdicts

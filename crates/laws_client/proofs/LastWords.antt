@@ -1,7 +1,8 @@
 -- Whatever a client sends but a message that is stored, its answer tells no UID in its last line.
 use Rattle.std.proofs.Common.{◌≡◌, inl, inr, ℕ, Bool, true, false, List, [], ◌∷◌, ◌++◌, map, length, refl, sym, subst, append-nil, Option, Some, None, Result, Ok, Err, ap, ◌∙◌}
 use Rattle.std.specs.Prelude.{codes, IfSome, nat_lt, ◌==◌, if◌then◌else◌, ◌||◌}
-use Rattle.cursor_set.specs.Lines.{position, spaced}
+use Rattle.change_ring.specs.View.{position}
+use Rattle.change_ring.specs.Words.{spaced}
 use Rattle.imap_grammar.specs.Reading.{is_done, read}
 use Rattle.imap_grammar.specs.Sets.{named_in, last_uid, named_at}
 use Rattle.imap_grammar.specs.declared.command.Append.{Append}

@@ -7,7 +7,8 @@ use Rattle.std.proofs.lemmas.Bool.{false≢true, eqb-true}
 use Rattle.std.proofs.lemmas.List.{reverse-append}
 use Rattle.std.proofs.lemmas.List.Folds.{list_all-append}
 use Rattle.change_ring.specs.declared.change.Flags.{Flags}
-use Rattle.cursor_set.specs.Lines.{flag_words, spaced, exists_line, expunge_line, fetch_line}
+use Rattle.cursor_set.specs.Lines.{exists_line, expunge_line, fetch_line}
+use Rattle.change_ring.specs.Words.{flag_words, spaced}
 use Rattle.laws_client.specs.Client.{Known, Messages, knowing, reads, literal_of, told, words, in_words, with_number, numbered, is_digit, number, closing, items, with_flags, with_uid, on_list, exists, expunged, fetched}
 use Rattle.laws_client.specs.ListTurns.{is_inner}
 use Rattle.laws_client.proofs.Bytes.{whole_line, words_cut, words_are_inner, decimal_word, decimal_says, decimal_digits, first_of, rest_of}

@@ -10,7 +10,7 @@ use Rattle.change_ring.specs.declared.change.Change.TheVariants.{Add, Gone, Flag
 use Rattle.change_ring.specs.declared.change.Flags.{Flags}
 use Rattle.change_ring.specs.Log.{Row, row_change, rows_of, with_flags, without_row, replay}
 use Rattle.change_ring.proofs.LogLaws.{rows_after-append, uids-rows_after}
-use Rattle.cursor_set.specs.Lines.{flag_words}
+use Rattle.change_ring.specs.Words.{flag_words}
 use Rattle.delivery_core.specs.Clients.{row_with}
 use Rattle.laws_client.proofs.Each.{IsIn}
 use Rattle.laws_client.specs.Flags.{FlagsOf, flags_at}

@@ -8,7 +8,7 @@ use Rattle.change_ring.specs.declared.change.Flags.{Flags}
 use Rattle.change_ring.specs.Log as change
 use Rattle.change_ring.specs.Log.{IsLegalLog, rows_of, view_at}
 use Rattle.cursor_set.specs.Cursors.{CursorHandle}
-use Rattle.cursor_set.specs.Lines.{flag_words}
+use Rattle.change_ring.specs.Words.{flag_words}
 use Rattle.delivery_core.specs.Clients.{row_with}
 use Rattle.mailbox.specs.declared.clients.Row.{Row}
 use Rattle.mailbox.specs.Mailbox.{Message, message_with, row_of}

@@ -6,7 +6,7 @@ use Rattle.std.proofs.lemmas.List.Elements.{All-head, All-tail}
 use Rattle.change_ring.specs.declared.change.Change.{Change}
 use Rattle.change_ring.specs.declared.change.Change.TheVariants.{Add, Gone, Flags as SetFlags}
 use Rattle.change_ring.specs.Log.{added}
-use Rattle.cursor_set.specs.Lines.{position}
+use Rattle.change_ring.specs.View.{position}
 use Rattle.cursor_set.proofs.Positions.{position_pos}
 use Rattle.mailbox.specs.declared.clients.Row.{Row}
 use Rattle.imap_answers.specs.Answers.{answered, fetch_answer, item_text, row_answer}
@@ -22,7 +22,7 @@ use Rattle.laws_client.proofs.Follows.{TellsEach, follows, position_most}
 use Rattle.laws_client.proofs.Heard.{Asks, HasUid, answered_asks, items_lead, opened_lead, opened_learns}
 use Rattle.laws_client.proofs.Kept.{IsSmall, item_kept}
 use Rattle.laws_client.proofs.LinesRead.{reads_fetch, told_of}
-use Rattle.cursor_set.specs.Lines.{spaced}
+use Rattle.change_ring.specs.Words.{spaced}
 use Rattle.std.proofs.Common.{◌++◌}
 
 -- ---- at a message's position

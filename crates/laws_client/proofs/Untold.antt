@@ -3,7 +3,7 @@ use Rattle.std.proofs.Common.{◌≡◌, ℕ, ◌^◌, ◌<◌, ◌==◌, Bool, 
 use Rattle.std.specs.Prelude.{decimal, codes, flat_map, IfSome, Some, if◌then◌else◌}
 use Rattle.std.specs.List.{list_all}
 use Rattle.std.proofs.lemmas.List.Folds.{list_all-append}
-use Rattle.cursor_set.specs.Lines.{spaced}
+use Rattle.change_ring.specs.Words.{spaced}
 use Rattle.mailbox.specs.declared.mailbox.Status.{Status}
 use Rattle.imap_answers.specs.Answers.{asks_for_root, is_listed, list_answer, listed, name_answer, root_answer, status_answer, status_number, status_text}
 use Rattle.imap_grammar.specs.Grammar.{status_word}

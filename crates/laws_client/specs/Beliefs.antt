@@ -3,7 +3,7 @@ use Rattle.std.specs.Prelude.{◌≡◌, ℕ, zero, suc, ◌<◌, ◌^◌, ◌+�
 use Rattle.change_ring.specs.declared.change.Change.{Change}
 use Rattle.change_ring.specs.declared.change.Change.TheVariants.{Add, Gone, Flags as SetFlags}
 use Rattle.change_ring.specs.Log.{FitsView}
-use Rattle.cursor_set.specs.Lines.{position}
+use Rattle.change_ring.specs.View.{position}
 use Rattle.laws_client.specs.Client.{Known, Messages, knowing, reads}
 
 -- the list is as long as the view, and this holds of each message of the view and of what is known of it

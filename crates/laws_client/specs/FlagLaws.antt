@@ -5,7 +5,9 @@ use Rattle.change_ring.specs.declared.change.Change.{Change}
 use Rattle.change_ring.specs.declared.change.Change.TheVariants.{Flags as SetFlags}
 use Rattle.change_ring.specs.declared.change.Flags.{Flags}
 use Rattle.change_ring.specs.Log.{IsLegalLog}
-use Rattle.cursor_set.specs.Lines.{flag_words, line, lines, position}
+use Rattle.cursor_set.specs.Lines.{line, lines}
+use Rattle.change_ring.specs.View.{position}
+use Rattle.change_ring.specs.Words.{flag_words}
 use Rattle.delivery_token.specs.declared.Verdict.{Verdict}
 use Rattle.mailbox.specs.declared.clients.Row.{Row}
 use Rattle.imap_answers.specs.Answers.{is_flags, row_answer, flags_answer}

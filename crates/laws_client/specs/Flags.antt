@@ -3,7 +3,7 @@ use Rattle.std.specs.Prelude.{◌≡◌, ℕ, ◌≤◌, List, length, take, Opt
 use Rattle.change_ring.specs.declared.change.Change.{Change}
 use Rattle.change_ring.specs.declared.change.Flags.{Flags}
 use Rattle.change_ring.specs.Log.{Row, rows_of, view_at}
-use Rattle.cursor_set.specs.Lines.{flag_words}
+use Rattle.change_ring.specs.Words.{flag_words}
 use Rattle.delivery_core.specs.Clients.{row_with}
 use Rattle.laws_client.specs.Beliefs.{Each}
 use Rattle.laws_client.specs.Client.{Known}

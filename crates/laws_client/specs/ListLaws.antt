@@ -5,7 +5,8 @@ use Rattle.change_ring.specs.declared.change.Change.{Change}
 use Rattle.change_ring.specs.declared.change.Change.TheVariants.{Flags as SetFlags}
 use Rattle.change_ring.specs.declared.change.Flags.{Flags}
 use Rattle.change_ring.specs.Log.{added, replay}
-use Rattle.cursor_set.specs.Lines.{line, lines, position}
+use Rattle.cursor_set.specs.Lines.{line, lines}
+use Rattle.change_ring.specs.View.{position}
 use Rattle.mailbox.specs.declared.clients.Opening.{Opening}
 use Rattle.mailbox.specs.declared.clients.Row.{Row}
 use Rattle.mailbox.specs.declared.clients.MailFault.{MailFault}

@@ -2,7 +2,7 @@
 use Rattle.std.specs.Prelude.{◌≡◌, ℕ, List, [], Option, Some, None}
 use mathlib.Core.List.{IsPrefix}
 use Rattle.change_ring.specs.declared.change.Change.{Change}
-use Rattle.cursor_set.specs.Lines.{flag_words}
+use Rattle.change_ring.specs.Words.{flag_words}
 use Rattle.house_history.specs.declared.event.Event as house
 use Rattle.house_history.specs.Events.{changes_in}
 use Rattle.house_history.specs.Legal.{Legal}

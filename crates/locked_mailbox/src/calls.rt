@@ -16,10 +16,10 @@ ghost use Rattle.house_history.specs.Legal.{HasText};
 ghost use Rattle.locked_mailbox.specs.Locking.{Knows, on_ok};
 
 use crate::locked::LockedMailbox;
-use change_ring::{FlagOp, Flags};
+use change_ring::{FlagOp, Flags, View};
 use cursor_set::{CursorHandle, Stranger};
 use house_history::{Front, Naming};
-use mailbox::{MailFault, Opening, Row, Status, View};
+use mailbox::{MailFault, Opening, Row, Status};
 
 impl<B: Naming> LockedMailbox<B> {
     /// What a client counts, as `workers_sync::view` has it.

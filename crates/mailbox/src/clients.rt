@@ -15,8 +15,7 @@ ghost use Rattle.mailbox.specs.Stands.{Stands, next_of};
 
 use crate::logging::log_change;
 use crate::mailbox::Mailbox;
-use crate::shown::View;
-use change_ring::{Change, FlagOp, Flags, MOST_CHANGES, Spent};
+use change_ring::{Change, FlagOp, Flags, MOST_CHANGES, Spent, View};
 use cursor_set::{CursorHandle, FeedFault, Stranger};
 use delivery_token::Text;
 use std::alloc::AllocError;

@@ -12,11 +12,9 @@ mod logging;
 mod mailbox;
 mod messages;
 mod removal;
-mod shown;
 
 pub use answers::{answer_of, verdict_of};
 pub use clients::{MailFault, Opening, Row};
 pub use history::History;
 pub use laws::every_mailbox_keeps;
 pub use mailbox::{Limits, Mailbox, Receipt, Status};
-pub use shown::View;

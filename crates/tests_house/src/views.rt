@@ -1,6 +1,6 @@
 //! Which UIDs are a view.
 
-use mailbox::View;
+use change_ring::View;
 
 #[test]
 fn uids_that_do_not_rise_are_no_view(rt: HostRuntime) {

@@ -6,7 +6,8 @@ use Rattle.change_ring.specs.declared.change.Change.{Change}
 use Rattle.change_ring.specs.declared.change.Change.TheVariants.{Add, Gone, Flags as SetFlags}
 use Rattle.change_ring.specs.declared.change.Flags.{Flags}
 use Rattle.change_ring.specs.Log.{no_flags}
-use Rattle.cursor_set.specs.Lines.{flag_words, lines}
+use Rattle.cursor_set.specs.Lines.{lines}
+use Rattle.change_ring.specs.Words.{flag_words}
 use Rattle.imap_session.specs.Exchange.{Altered, Fed}
 use Rattle.imap_answers.specs.Answers.{flags_answer}
 use Rattle.laws_client.specs.Client.{knowing, reads, unknown}

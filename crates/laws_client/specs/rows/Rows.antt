@@ -1,7 +1,7 @@
 -- What a client knows after the lines of worked cases, and what it may not conclude.
 use Rattle.std.specs.Prelude.{◌≡◌, ℕ, Bool, true, false, List, [], ◌∷◌, ◌++◌, codes, length, Option, Some, None}
 use Rattle.std.proofs.Common.{refl, ap, sym, subst, arith}
-use Rattle.cursor_set.specs.Lines.{position}
+use Rattle.change_ring.specs.View.{position}
 use Rattle.laws_client.specs.Client.{Client, Known, Messages, reads, fresh, knowing, unknown}
 use Rattle.laws_client.specs.Beliefs.{Each, HearsUid, HoldsOf, IsKnownTo, IsOf, Follows, KeepsUids}
 

@@ -1,5 +1,5 @@
 use Rattle.std.proofs.Common.{codes, decimal}
-use Rattle.cursor_set.specs.Lines.{flag_words, spaced}
+use Rattle.change_ring.specs.Words.{flag_words, spaced}
 use Rattle.cursor_set.proofs.Numbers.{seven_parts}
 use Rattle.cursor_set.proofs.lines.put_fetch.Goals as goal
 

@@ -1,7 +1,7 @@
 use Rattle.std.specs.Prelude.{◌≤◌, map, vec_capacity}
 use Rattle.std.proofs.Common.{◌≡◌, ◌++◌, length}
 use Rattle.std.specs.Io.{StartsWith}
-use Rattle.cursor_set.specs.Lines.{spaced}
+use Rattle.change_ring.specs.Words.{spaced}
 use Rattle.imap_answers.specs.Answers.{status_text}
 use Rattle.imap_answers.specs.inner.Joined.{joined, whole}
 use Rattle.imap_answers.proofs.status.put_status_items.Given as goal

@@ -2,7 +2,7 @@ use Rattle.std.proofs.Common.{◌≡◌, ◌<◌, ◌-◌, ◌+◌, ◌∙◌, �
 use Rattle.std.specs.Prelude.{remove}
 use Rattle.std.specs.List.Sorted.{IsStrictlyIncreasing}
 use Rattle.cursor_set.specs.Leaving.{counted, AreIn}
-use Rattle.cursor_set.specs.Lines.{position}
+use Rattle.change_ring.specs.View.{position}
 use Rattle.cursor_set.proofs.LeavingLaws.{IsFound, in_view, found}
 use Rattle.cursor_set.proofs.Positions.{remove_position}
 use Rattle.cursor_set.proofs.leaving.Leaving.take_out.Goals as goal

@@ -50,8 +50,8 @@ impl<'a> View<'a> {
         }
     }
 
-    // The view of UIDs that rise.
-    pub(crate) fn rising(uids: &'a [u32]) -> View<'a>
+    /// The view of UIDs that rise, which costs nothing.
+    pub fn rising(uids: &'a [u32]) -> View<'a>
         requires { IsStrictlyIncreasing uids.now }
         ensures { result ≡ uids.now }
     {
