@@ -6,6 +6,8 @@ use Rattle.post_house.specs.declared.failure.Failure.{Failure}
 use Rattle.post_house.specs.declared.failure.Failure.TheVariants.{Config, Device, NoMemory, Torn}
 use Rattle.script.specs.declared.run.RunFault.{RunFault}
 use Rattle.script.specs.declared.run.RunFault.TheVariants as run_faults
+use Rattle.script.specs.declared.program.ScriptFault.{ScriptFault}
+use Rattle.script.specs.declared.program.ScriptFault.TheVariants as script_faults
 use Rattle.serving.specs.declared.fault.ServeFault.{ServeFault}
 use Rattle.serving.specs.declared.fault.ServeFault.TheVariants as serve_faults
 
@@ -28,6 +30,10 @@ abbrev pub run_failure : RunFault → Failure
 run_failure run_faults.Read = Device
 run_failure (run_faults.Write sent) = Device
 run_failure run_faults.NoMemory = NoMemory
+
+abbrev pub script_failure : ScriptFault → Failure
+script_failure (script_faults.Config fault) = config_failure fault
+script_failure (script_faults.Run fault) = run_failure fault
 
 abbrev pub serve_failure : ServeFault → Failure
 serve_failure (serve_faults.Config fault) = config_failure fault

@@ -1,9 +1,9 @@
 //! How the program may fail, with the exit status of each and the text that is said of it. Mistakes of the command line are clap's.
 
 ghost use Rattle.std.specs.Prelude.{◌≡◌};
-ghost use Rattle.post_house.specs.Status.{config_failure, run_failure, serve_failure, status_of};
+ghost use Rattle.post_house.specs.Status.{config_failure, run_failure, script_failure, serve_failure, status_of};
 
-use script::RunFault;
+use script::{RunFault, ScriptFault};
 use serving::ServeFault;
 use settings::ConfigFault;
 use thiserror::Error;
@@ -37,6 +37,17 @@ impl From<ConfigFault> for Failure {
     }
 }
 
+impl From<ScriptFault> for Failure {
+    ghost from_gives = { λ fault failure. failure ≡ script_failure fault };
+
+    fn from(fault: ScriptFault) -> Failure {
+        match fault {
+            ScriptFault::Config(fault) => Failure::from(fault),
+            ScriptFault::Run(fault) => device_or_memory(fault),
+        }
+    }
+}
+
 impl From<ServeFault> for Failure {
     ghost from_gives = { λ fault failure. failure ≡ serve_failure fault };
 
@@ -50,8 +61,8 @@ impl From<ServeFault> for Failure {
     }
 }
 
-/// What a run that ended early comes to: a device that failed, or want of memory.
-pub fn device_or_memory(fault: RunFault) -> Failure
+// What a run that ended early comes to: a device that failed, or want of memory.
+fn device_or_memory(fault: RunFault) -> Failure
     ensures { result ≡ run_failure fault }
 {
     match fault {

@@ -5,27 +5,22 @@
 mod failure;
 mod outcome;
 
-ghost use Rattle.std.specs.Prelude.{◌≡◌, ◌⊎◌, ◌↔◌, false, true, ℕ, List, Some, Err, map};
+ghost use Rattle.std.specs.Prelude.{◌≡◌, ◌⊎◌, ◌↔◌, false, true, map};
 ghost use Rattle.clap.specs.Words.{kind_of};
-ghost use Rattle.script.specs.Telling.{lines_of};
-ghost use Rattle.settings.specs.Settings.{IsInRange, config_fault};
-ghost use Rattle.settings.specs.declared.config.ConfigFault.{ConfigFault};
 ghost use Rattle.command_line.specs.Asking.{IsAskedInRange};
-ghost use Rattle.post_house.specs.inner.Playing.{HasDone, HasRun, WasTold};
+ghost use Rattle.post_house.specs.inner.Playing.{HasDone, HasRun};
 ghost use Rattle.post_house.specs.Status.{status_of};
 ghost use Rattle.post_house.specs.inner.Status.{IsStatus, status_of_done};
 ghost use Rattle.post_house.specs.inner.Telling.{HasTold, IsRequest, Tells};
 
-use crate::failure::{Failure, device_or_memory};
+use crate::failure::Failure;
 use crate::outcome::{Done, Outcome, Ran};
 use clap::Error;
 use clap::error::ErrorKind;
 use command_line::{Asked, asked_of};
-use house::House;
 use line_io::{Sink, Watched, send};
-use script::drive_as;
+use script::run_script;
 use serving::serve;
-use settings::{Config, Form};
 use std::alloc::Global;
 use std::convert::AsStr;
 use std::env::{self, Env};
@@ -95,35 +90,6 @@ fn tell<W: Sink, F: Write>(alloc: Global, error: &Error, output: &mut W, faults:
     NOT_ASKED_RIGHT
 }
 
-// Runs the script from the input on a house of these settings, and tells in this form what it prints. Where the settings are wrong, their
-// first fault is told.
-fn play<R: BufRead, W: Sink>(
-    alloc: Global,
-    config: &Config,
-    form: Form,
-    input: &mut R,
-    output: &mut W,
-) -> Result<(), Failure>
-    requires range { IsInRange config.now }
-    requires live { W.failed output.old ≡ false }
-    ensures told { (bytes : List ℕ) → R.remaining input.old ≡ Some bytes →
-        WasTold form config.now (lines_of bytes) (W.failed output.new) result (W.taken output.old)
-        (W.taken output.new) }
-    ensures fault { (fault : ConfigFault) → result ≡ Err (Failure.Config fault)
-        → config_fault config.now ≡ Some fault }
-    ensures not_set { (fault : ConfigFault) → result ≡ Err (Failure.Config fault)
-        → output.new ≡ output.old }
-{
-    let mut house = match House::new(alloc, config) {
-        Ok(house) => house,
-        Err(fault) => return Err(Failure::from(fault)),
-    };
-    match drive_as(form, alloc, &mut house, input, output) {
-        Ok(()) => Ok(()),
-        Err(fault) => Err(device_or_memory(fault)),
-    }
-}
-
 // Does what is asked for, and hands out what came of it. A server's log goes to `log`, where it is asked for.
 fn carry_out<
     R: Net<Listener = TcpListener, Stream = TcpStream> + Threads + Wait + Sync,
@@ -139,7 +105,7 @@ fn carry_out<
 {
     match asked {
         Asked::Script { config, form } => {
-            Done::Played(play(alloc, config, *form, input, output))
+            Done::Played(run_script(*form, alloc, config, input, output))
         }
         Asked::Serve {
             config,
@@ -155,7 +121,7 @@ fn finish<F: Write>(done: Done, faults: &mut F) -> u8
 {
     match done {
         Done::Played(Ok(())) | Done::Served(Ok(())) => DONE,
-        Done::Played(Err(failure)) => fail(failure, faults),
+        Done::Played(Err(fault)) => fail(Failure::from(fault), faults),
         Done::Served(Err(fault)) => fail(Failure::from(fault), faults),
     }
 }

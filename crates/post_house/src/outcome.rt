@@ -1,15 +1,15 @@
 //! What came of a command: what it was asked for and what came of that, or why it was refused.
 
-use crate::failure::Failure;
 use clap::error::ErrorKind;
 use command_line::Asked;
+use script::ScriptFault;
 use serving::ServeFault;
 
 /// What came of what was asked for.
 #[derive(Clone, Copy)]
 pub enum Done {
     /// A script was played, or why it wasn't, or not to its end.
-    Played(Result<(), Failure>),
+    Played(Result<(), ScriptFault>),
     /// A server served until it was stopped, or why it didn't.
     Served(Result<(), ServeFault>),
 }

@@ -6,6 +6,7 @@ pub mod SessionLaws
 pub mod EventLaws
 pub mod Once
 pub mod TellingLaws
+pub mod Programs
 pub mod ObjectLaws
 pub mod Parts
 pub mod Refuted

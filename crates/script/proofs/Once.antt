@@ -216,10 +216,10 @@ script_once k lines t printed s =
 -- ---- of a run
 
 pub wrote_all : (k : Setup) (lines : List ScriptLine) (h : House) (old new : Option (List ℕ)) → Writes k lines h old new → WroteOnce k lines old new
-wrote_all k lines h old new w = w.wrote
+wrote_all k lines h old new w = w.writes.wrote
 
 pub wrote_first : (k : Setup) (lines : List ScriptLine) (sent : ℕ) (h : House) (old new : Option (List ℕ)) → WritesFirst k lines sent h old new → WroteOnce k lines old new
-wrote_first k lines sent h old new w = w.wrote
+wrote_first k lines sent h old new w = w.writes.wrote
 
 pub wrote_beginning : (k : Setup) (lines : List ScriptLine) (Left : ℕ → List Bool → List ScriptLine → Scene → Type 0) (old new : Option (List ℕ)) → WritesBeginning k lines Left old new → WroteOnce k lines old new
-wrote_beginning k lines Left old new w = w.wrote
+wrote_beginning k lines Left old new w = w.writes.wrote

@@ -1,6 +1,6 @@
 -- From what the house promises of its calls to what a run promises of a line, of a turn and of all its turns.
 use Rattle.std.proofs.Common.{◌≡◌, ℕ, zero, suc, ◌+◌, ◌*◌, ◌<◌, ◌≤◌, ◌⊎◌, inl, inr, List, [], ◌∷◌, ◌++◌, length, take, get_or, length-set, refl, sym, ap, ◌∙◌, subst, arith, append_assoc, append-nil, length-append, le_refl, Option, Some, None, Result, Ok, Err}
-use Rattle.std.proofs.Math.Seq.{take-append-add, take-suc}
+use Rattle.std.proofs.Math.Seq.{take-append-add, take-length, take-suc}
 use Rattle.std.proofs.lemmas.Int.Digits.{digits_value_push}
 use Rattle.std.specs.Char.{digit_value}
 use Rattle.std.specs.Str.Parse.{digits_value}
@@ -32,7 +32,7 @@ use Rattle.script.specs.Script.{IsAway, IsNoConnection, IsOwing, LinePlays, Nobo
 use Rattle.script.specs.Leaving.{WritesBeginning, unwritten, LineBegins, LineWanting, undone, begun, PlayWanting, settling}
 use Rattle.std.specs.Prelude.{Bool, IfNone, IfSome, codes, false, true}
 use Rattle.script.specs.inner.Running.{HasRun, IsClipped, IsOver, IsUnread as IsUnreadTurn, IsUnwritten, LineCut, LineDone, LinePlayed, LineTold, LineWritten, SetsHeld, TellWanting, playing, telling, TurnTells, sets, sets_nobody}
-use Rattle.script.specs.Telling.{IsLeftUntold, wanting, untold, LineByLine, TellsAll, TellsBeginning, TellsFirst, asked_by, lines_of, rendered, told}
+use Rattle.script.specs.Telling.{IsLeftUntold, wanting, untold, TellsAll, TellsBeginning, TellsFirst, ToldOnce, ToldSome, asked_by, lines_of, rendered, told}
 use Rattle.settings.specs.declared.asking.Form.{Form}
 use Rattle.script.proofs.Once.{script_once}
 use Rattle.script.proofs.ScriptLaws.{first_of_lines}
@@ -286,26 +286,10 @@ run_more form k input count g h held holds before left old mid new sent more sta
       total = (let a = r.total in let b = w.count in let l = length-append (told form 1 r.lines r.texts) (rendered form (count + 1) w.line w.printed) in let m = ap length tells_on in omega (arith, a, b, l, m));
     }
 
-pub run_over : (form : Form) (k : Setup) (input : List ℕ) (count : ℕ) (g h : House) (held holds : List Bool) (before left old mid new : Option (List ℕ)) (sent : ℕ)
-    → (r : HasRun form k input count g held before old mid sent (empty_scene k)) → (o : Option ℕ) → o ≡ None → TurnTells form k (count + 1) held r.after r.rest h holds left mid new (Ok o)
-    → TellsAll form k (lines_of input) h old new
-run_over form k input count g h held holds before left old mid new sent r o is tells =
-    let over : IsOver k r.after r.rest h mid new = subst (λ (x : Option ℕ). TurnTells form k (count + 1) held r.after r.rest h holds left mid new (Ok x)) is tells in
-    let whole : r.lines ≡ lines_of input = sym (r.split ∙ ap (λ (x : List ℕ). r.lines ++ lines_of x) over.ended ∙ append-nil r.lines) in
-    let played = subst (λ (ls : List (List ℕ)). LineByLine k 1 (none_held k) (asked_by ls) (empty_scene k) r.after r.texts) whole r.plays in
-    record {
-      after = r.after;
-      texts = r.texts;
-      plays = played;
-      once = delivers k (lines_of input) r.after r.texts played;
-      stands = over.stands;
-      out = subst (λ (ls : List (List ℕ)). Appends old new (told form 1 ls r.texts)) whole (subst (λ (x : Option (List ℕ)). Appends old x (told form 1 r.lines r.texts)) (sym over.silent) r.out);
-    }
-
-pub run_stops : (form : Form) (k : Setup) (input : List ℕ) (count : ℕ) (h : House) (held : List Bool) (left old mid new : Option (List ℕ)) (sent : ℕ) (Left : ℕ → List Bool → List ScriptLine → Scene → Type 0)
-    → (r : HasRun form k input count h held left old mid sent (empty_scene k)) → Left (count + 1) held (asked_by (lines_of r.rest)) r.after → new ≡ mid
-    → TellsBeginning form k (lines_of input) Left old new
-run_stops form k input count h held left old mid new sent Left r is same = record {
+-- all that tells of the lines that were read was written
+abbrev pub whole_front : (form : Form) (k : Setup) (input : List ℕ) (count : ℕ) (h : House) (held : List Bool) (left old mid new : Option (List ℕ)) (sent : ℕ)
+    → (r : HasRun form k input count h held left old mid sent (empty_scene k)) → new ≡ mid → ToldOnce form k (lines_of input) old new
+whole_front form k input count h held left old mid new sent r same = record {
   some = r.lines;
   others = lines_of r.rest;
   split = r.split;
@@ -313,44 +297,77 @@ run_stops form k input count h held left old mid new sent Left r is same = recor
   texts = r.texts;
   plays = r.plays;
   once = delivers k r.lines r.after r.texts r.plays;
+  sent = length (told form 1 r.lines r.texts);
+  within = le_refl (length (told form 1 r.lines r.texts));
+  out = subst (Appends old new) (sym (take-length (told form 1 r.lines r.texts)))
+      (subst (λ (x : Option (List ℕ)). Appends old x (told form 1 r.lines r.texts)) (sym same) r.out);
+}
+
+pub run_over : (form : Form) (k : Setup) (input : List ℕ) (count : ℕ) (g h : House) (held holds : List Bool) (before left old mid new : Option (List ℕ)) (sent : ℕ)
+    → (r : HasRun form k input count g held before old mid sent (empty_scene k)) → (o : Option ℕ) → o ≡ None → TurnTells form k (count + 1) held r.after r.rest h holds left mid new (Ok o)
+    → TellsAll form k (lines_of input) h old new
+run_over form k input count g h held holds before left old mid new sent r o is tells =
+    let over : IsOver k r.after r.rest h mid new = subst (λ (x : Option ℕ). TurnTells form k (count + 1) held r.after r.rest h holds left mid new (Ok x)) is tells in
+    record {
+      tells = record {
+        tells = whole_front form k input count g held before old mid new sent r over.silent;
+        all = ap (λ (x : List ℕ). lines_of x) over.ended;
+        whole = refl;
+      };
+      stands = over.stands;
+    }
+
+pub run_stops : (form : Form) (k : Setup) (input : List ℕ) (count : ℕ) (h : House) (held : List Bool) (left old mid new : Option (List ℕ)) (sent : ℕ) (Left : ℕ → List Bool → List ScriptLine → Scene → Type 0)
+    → (r : HasRun form k input count h held left old mid sent (empty_scene k)) → Left (count + 1) held (asked_by (lines_of r.rest)) r.after → new ≡ mid
+    → TellsBeginning form k (lines_of input) Left old new
+run_stops form k input count h held left old mid new sent Left r is same = record {
+  tells = record { tells = whole_front form k input count h held left old mid new sent r same; whole = refl };
   left = subst (λ (n : ℕ). Left (n + 1) (held_by (none_held k) (asked_by r.lines)) (asked_by (lines_of r.rest)) r.after) (sym r.counted)
       (subst (λ (x : List Bool). Left (count + 1) x (asked_by (lines_of r.rest)) r.after) r.holds_now is);
-  out = subst (λ (x : Option (List ℕ)). Appends old x (told form 1 r.lines r.texts)) (sym same) r.out;
 }
 
 -- nothing was read or written yet
 pub run_unbegun : (k : Setup) (lines : List ScriptLine) (old : Option (List ℕ)) (Left : ℕ → List Bool → List ScriptLine → Scene → Type 0) → Left 1 (none_held k) lines (empty_scene k) → WritesBeginning k lines Left old old
 run_unbegun k lines old Left is = record {
-  wrote = record {
+  writes = record {
+    wrote = record {
+      some = [];
+      others = lines;
+      split = refl;
+      after = empty_scene k;
+      printed = [];
+      script = (refl, refl);
+      once = script_once k [] (empty_scene k) [] (refl, refl);
+      sent = 0;
+      within = le_refl 0;
+      out = Appends-nil old;
+    };
+    whole = refl;
+  };
+  left = is;
+}
+
+-- the same, in any form
+abbrev pub nothing_told : (form : Form) (k : Setup) (lines : List (List ℕ)) (old : Option (List ℕ)) → ToldSome form k lines old old
+nothing_told form k lines old = record {
+  tells = record {
     some = [];
     others = lines;
     split = refl;
     after = empty_scene k;
-    printed = [];
-    script = (refl, refl);
-    once = script_once k [] (empty_scene k) [] (refl, refl);
+    texts = [];
+    plays = (refl, refl);
+    once = delivers k [] (empty_scene k) [] (refl, refl);
     sent = 0;
     within = le_refl 0;
     out = Appends-nil old;
   };
   whole = refl;
-  left = is;
 }
 
--- the same, in any form
 pub told_unbegun : (form : Form) (k : Setup) (lines : List (List ℕ)) (old : Option (List ℕ)) (Left : ℕ → List Bool → List ScriptLine → Scene → Type 0)
     → Left 1 (none_held k) (asked_by lines) (empty_scene k) → TellsBeginning form k lines Left old old
-told_unbegun form k lines old Left is = record {
-  some = [];
-  others = lines;
-  split = refl;
-  after = (empty_scene k);
-  texts = [];
-  plays = (refl, refl);
-  once = delivers k [] (empty_scene k) [] (refl, refl);
-  left = is;
-  out = Appends-nil old;
-}
+told_unbegun form k lines old Left is = record { tells = nothing_told form k lines old; left = is }
 
 pub run_cut : (form : Form) (k : Setup) (input : List ℕ) (count : ℕ) (g h : House) (held holds : List Bool) (before left old mid new : Option (List ℕ)) (sent more : ℕ)
     → (r : HasRun form k input count g held before old mid sent (empty_scene k)) → (f : TurnFault) → f ≡ turn_faults.Write more → TurnTells form k (count + 1) held r.after r.rest h holds left mid new (Err f)
@@ -362,18 +379,27 @@ run_cut form k input count g h held holds before left old mid new sent more r f 
     let tells_on = told_on form k count r.lines w.line (empty_scene k) r.after r.texts w.printed r.counted r.plays in
     let played = plays_on k count r.lines w.line (empty_scene k) r.after w.after r.texts w.printed r.counted r.plays
     (subst (λ (x : List Bool). LinePlays k (count + 1) x (asked w.line) r.after w.after w.printed) r.holds_now w.plays) in
+    let less : sent + more < length (told form 1 (r.lines ++ w.line ∷ []) (r.texts ++ w.printed ∷ [])) =
+    (let a = r.total in let b = w.within in let l = length-append front last in let m = ap length tells_on in omega (arith, a, b, l, m)) in
     record {
-      some = r.lines ++ w.line ∷ [];
-      others = w.others;
-      split = r.split ∙ ap (λ (x : List (List ℕ)). r.lines ++ x) w.first ∙ sym (append_assoc r.lines (w.line ∷ []) w.others);
-      after = w.after;
-      texts = r.texts ++ w.printed ∷ [];
-      plays = played;
-      once = delivers k (r.lines ++ w.line ∷ []) w.after (r.texts ++ w.printed ∷ []) played;
+      tells = record {
+        tells = record {
+          some = r.lines ++ w.line ∷ [];
+          others = w.others;
+          split = r.split ∙ ap (λ (x : List (List ℕ)). r.lines ++ x) w.first ∙ sym (append_assoc r.lines (w.line ∷ []) w.others);
+          after = w.after;
+          texts = r.texts ++ w.printed ∷ [];
+          plays = played;
+          once = delivers k (r.lines ++ w.line ∷ []) w.after (r.texts ++ w.printed ∷ []) played;
+          sent = sent + more;
+          within = omega (arith, less);
+          out = subst (λ (x : List ℕ). Appends old new (take (sent + more) x)) (sym tells_on)
+              (subst (Appends old new) (sym (take-append-add front last more) ∙ ap (λ (n : ℕ). take (n + more) (front ++ last)) (sym r.total)) (Appends-trans old mid new front (take more last) r.out w.out));
+        };
+        stopped = refl;
+        within = less;
+      };
       stands = w.stands;
-      within = (let a = r.total in let b = w.within in let l = length-append front last in let m = ap length tells_on in omega (arith, a, b, l, m));
-      out = subst (λ (x : List ℕ). Appends old new (take (sent + more) x)) (sym tells_on)
-          (subst (Appends old new) (sym (take-append-add front last more) ∙ ap (λ (n : ℕ). take (n + more) (front ++ last)) (sym r.total)) (Appends-trans old mid new front (take more last) r.out w.out));
     }
 
 -- a turn failed before it read anything

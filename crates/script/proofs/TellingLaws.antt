@@ -1,16 +1,15 @@
 -- From what each line prints to what all of them print, and what tells of that.
-use Rattle.std.proofs.Common.{◌≡◌, ◌∙◌, ℕ, suc, ◌+◌, Bool, List, [], ◌∷◌, ◌++◌, length, map, take, ◌<◌, refl, sym, ap, subst, arith, add-zero, append_assoc, append-nil, le_refl, Option, Result, Ok, Err}
+use Rattle.std.proofs.Common.{◌≡◌, ◌∙◌, ℕ, suc, ◌+◌, Bool, List, [], ◌∷◌, ◌++◌, length, map, take, ◌<◌, ◌≤◌, refl, sym, ap, subst, arith, add-zero, append_assoc, append-nil, Option, Result, Ok, Err}
 use Rattle.std.specs.Prelude.{OnOk}
-use Rattle.std.proofs.Math.Seq.{take-length}
 use Rattle.std.proofs.lemmas.List.{length-map}
 use Rattle.std.specs.Io.KnownBytes.{Appends}
 use Rattle.house.specs.House.{House}
 use Rattle.house.specs.Setup.{Setup}
 use Rattle.house.specs.Scene.{Scene, empty_scene}
 use Rattle.script.specs.Script.{LinePlays, Script, ScriptLine, asked, held_after, held_by, line_of, most_bytes, none_held, pieces, script_of}
-use Rattle.script.specs.Promise.{DeliversOnce, WroteOnce}
+use Rattle.script.specs.Promise.{DeliversOnce, RunWrote, WroteAll, WroteFirst, WroteOnce, WroteSome}
 use Rattle.script.specs.Leaving.{IsLeft, IsLeftWanting, Writes, WritesBeginning, WritesFirst}
-use Rattle.script.specs.Telling.{IsLeftUntold, wanting, untold, LineByLine, RunTells, TellsAll, TellsBeginning, TellsFirst, asked_by, joined, json_of, lines_of, rendered, told}
+use Rattle.script.specs.Telling.{IsLeftUntold, wanting, untold, LineByLine, RunTells, RunTold, TellsAll, TellsBeginning, TellsFirst, ToldAll, ToldFirst, ToldOnce, ToldSome, asked_by, joined, json_of, lines_of, rendered, told}
 use Rattle.settings.specs.declared.asking.Form.{Form}
 use Rattle.settings.specs.declared.asking.Form.TheVariants.{Text, Json}
 use Rattle.script.specs.declared.run.RunFault.{RunFault}
@@ -105,76 +104,86 @@ text_is : (k : Setup) (lines : List (List ℕ)) (t : Scene) (texts : List (List 
     → told Text 1 lines texts ≡ joined texts
 text_is k lines t texts p = told_text 1 lines texts (text_for_each k 1 (none_held k) lines (empty_scene k) t texts p)
 
-pub all_written : (k : Setup) (input : List ℕ) (h : House) (old new : Option (List ℕ)) → TellsAll Text k (lines_of input) h old new → Writes k (script_of input) h old new
-all_written k input h old new w =
-    let played = subst (λ (ls : List ScriptLine). Script k 1 (none_held k) ls (empty_scene k) w.after (joined w.texts)) (asked_as_script input)
-    (as_script k 1 (none_held k) (asked_by (lines_of input)) (empty_scene k) w.after w.texts w.plays) in
-    record {
-      wrote = record {
-        some = script_of input;
-        others = [];
-        split = sym (append-nil (script_of input));
-        after = w.after;
-        printed = joined w.texts;
-        script = played;
-        once = script_once k (script_of input) w.after (joined w.texts) played;
-        sent = length (joined w.texts);
-        within = le_refl (length (joined w.texts));
-        out = subst (Appends old new) (sym (take-length (joined w.texts))) (subst (Appends old new) (text_is k (lines_of input) w.after w.texts w.plays) w.out);
-      };
-      all = refl;
-      whole = refl;
-      stands = w.stands;
-    }
-
 split_of : (input : List ℕ) (some others : List (List ℕ)) → lines_of input ≡ some ++ others → script_of input ≡ asked_by some ++ asked_by others
 split_of input some others e = sym (asked_as_script input) ∙ ap asked_by e ∙ asked_both some others
 
+text_of_lines : (k : Setup) (input : List ℕ) (old new : Option (List ℕ)) (t : ToldOnce Text k (lines_of input) old new) → told Text 1 t.some t.texts ≡ joined t.texts
+text_of_lines k input old new t = text_is k t.some t.after t.texts t.plays
+
+-- what was told as text is what the script prints
+abbrev pub once_written : (k : Setup) (input : List ℕ) (old new : Option (List ℕ)) → ToldOnce Text k (lines_of input) old new → WroteOnce k (script_of input) old new
+once_written k input old new t = record {
+  some = asked_by t.some;
+  others = asked_by t.others;
+  split = split_of input t.some t.others t.split;
+  after = t.after;
+  printed = joined t.texts;
+  script = as_script k 1 (none_held k) (asked_by t.some) (empty_scene k) t.after t.texts t.plays;
+  once = script_once k (asked_by t.some) t.after (joined t.texts) (as_script k 1 (none_held k) (asked_by t.some) (empty_scene k) t.after t.texts t.plays);
+  sent = t.sent;
+  within = subst (λ (x : List ℕ). t.sent ≤ length x) (text_of_lines k input old new t) t.within;
+  out = subst (λ (x : List ℕ). Appends old new (take t.sent x)) (text_of_lines k input old new t) t.out;
+}
+
+abbrev pub all_wrote : (k : Setup) (input : List ℕ) (old new : Option (List ℕ)) → ToldAll Text k (lines_of input) old new → WroteAll k (script_of input) old new
+all_wrote k input old new w = record {
+  wrote = once_written k input old new w.tells;
+  all = ap asked_by w.all;
+  whole = w.whole ∙ ap (λ (x : List ℕ). length x) (text_of_lines k input old new w.tells);
+}
+
+abbrev pub first_wrote : (k : Setup) (input : List ℕ) (old new : Option (List ℕ)) (sent : ℕ) → ToldFirst Text k (lines_of input) old new sent → WroteFirst k (script_of input) old new sent
+first_wrote k input old new sent w = record {
+  wrote = once_written k input old new w.tells;
+  stopped = w.stopped;
+  within = subst (λ (x : List ℕ). sent < length x) (text_of_lines k input old new w.tells) w.within;
+}
+
+abbrev pub some_wrote : (k : Setup) (input : List ℕ) (old new : Option (List ℕ)) → ToldSome Text k (lines_of input) old new → WroteSome k (script_of input) old new
+some_wrote k input old new w = record {
+  wrote = once_written k input old new w.tells;
+  whole = w.whole ∙ ap (λ (x : List ℕ). length x) (text_of_lines k input old new w.tells);
+}
+
+-- by how the run ended
+pub run_wrote : (k : Setup) (input : List ℕ) (r : Result (Unit {0}) RunFault) (old new : Option (List ℕ)) → RunTold Text k (lines_of input) r old new → RunWrote k (script_of input) r old new
+run_wrote k input (Ok done) old new w = all_wrote k input old new w
+run_wrote k input (Err (faults.Write sent)) old new w = first_wrote k input old new sent w
+run_wrote k input (Err faults.NoMemory) old new w = some_wrote k input old new w
+run_wrote k input (Err faults.Read) old new w = some_wrote k input old new w
+
+pub run_wrote_once : (k : Setup) (input : List ℕ) (r : Result (Unit {0}) RunFault) (old new : Option (List ℕ)) → RunTold Text k (lines_of input) r old new → WroteOnce k (script_of input) old new
+run_wrote_once k input (Ok done) old new w = once_written k input old new w.tells
+run_wrote_once k input (Err (faults.Write sent)) old new w = once_written k input old new w.tells
+run_wrote_once k input (Err faults.NoMemory) old new w = once_written k input old new w.tells
+run_wrote_once k input (Err faults.Read) old new w = once_written k input old new w.tells
+
+-- a run tells so whatever house it leaves
+pub run_told : (form : Form) (k : Setup) (lines : List (List ℕ)) (h : House) (r : Result (Unit {0}) RunFault) (old new : Option (List ℕ)) → RunTells form k lines h r old new
+    → RunTold form k lines r old new
+run_told form k lines h (Ok done) old new w = w.tells
+run_told form k lines h (Err (faults.Write sent)) old new w = w.tells
+run_told form k lines h (Err faults.NoMemory) old new w = w.tells
+run_told form k lines h (Err faults.Read) old new w = w.tells
+
+-- ---- with the house that is left
+
+pub all_written : (k : Setup) (input : List ℕ) (h : House) (old new : Option (List ℕ)) → TellsAll Text k (lines_of input) h old new → Writes k (script_of input) h old new
+all_written k input h old new w = record { writes = all_wrote k input old new w.tells; stands = w.stands }
+
 first_written : (k : Setup) (input : List ℕ) (sent : ℕ) (h : House) (old new : Option (List ℕ)) → TellsFirst Text k (lines_of input) sent h old new
     → WritesFirst k (script_of input) sent h old new
-first_written k input sent h old new w =
-    let played = as_script k 1 (none_held k) (asked_by w.some) (empty_scene k) w.after w.texts w.plays in
-    let is = text_is k w.some w.after w.texts w.plays in
-    let less = subst (λ (x : List ℕ). sent < length x) is w.within in
-    record {
-      wrote = record {
-        some = asked_by w.some;
-        others = asked_by w.others;
-        split = split_of input w.some w.others w.split;
-        after = w.after;
-        printed = joined w.texts;
-        script = played;
-        once = script_once k (asked_by w.some) w.after (joined w.texts) played;
-        sent = sent;
-        within = omega (arith, less);
-        out = subst (λ (x : List ℕ). Appends old new (take sent x)) is w.out;
-      };
-      stopped = refl;
-      within = less;
-      stands = w.stands;
-    }
+first_written k input sent h old new w = record { writes = first_wrote k input old new sent w.tells; stands = w.stands }
 
 beginning_written : (k : Setup) (input : List ℕ) (Told Left : ℕ → List Bool → List ScriptLine → Scene → Type 0) (old new : Option (List ℕ))
     → ((n : ℕ) (held : List Bool) (others : List ScriptLine) (s : Scene) → Told n held others s → Left n held others s)
     → TellsBeginning Text k (lines_of input) Told old new → WritesBeginning k (script_of input) Left old new
 beginning_written k input Told Left old new weaker w =
-    let played = as_script k 1 (none_held k) (asked_by w.some) (empty_scene k) w.after w.texts w.plays in
+    let t = w.tells.tells in
     record {
-      wrote = record {
-        some = asked_by w.some;
-        others = asked_by w.others;
-        split = split_of input w.some w.others w.split;
-        after = w.after;
-        printed = joined w.texts;
-        script = played;
-        once = script_once k (asked_by w.some) w.after (joined w.texts) played;
-        sent = length (joined w.texts);
-        within = le_refl (length (joined w.texts));
-        out = subst (Appends old new) (sym (take-length (joined w.texts))) (subst (Appends old new) (text_is k w.some w.after w.texts w.plays) w.out);
-      };
-      whole = refl;
-      left = subst (λ (n : ℕ). Left (n + 1) (held_by (none_held k) (asked_by w.some)) (asked_by w.others) w.after) (sym (length-map w.some asked))
-          (weaker (length w.some + 1) (held_by (none_held k) (asked_by w.some)) (asked_by w.others) w.after w.left);
+      writes = some_wrote k input old new w.tells;
+      left = subst (λ (n : ℕ). Left (n + 1) (held_by (none_held k) (asked_by t.some)) (asked_by t.others) t.after) (sym (length-map t.some asked))
+          (weaker (length t.some + 1) (held_by (none_held k) (asked_by t.some)) (asked_by t.others) t.after w.left);
     }
 
 -- as text nothing is wanted to tell of a line

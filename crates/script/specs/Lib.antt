@@ -2,5 +2,6 @@ pub mod Script
 pub mod Promise
 pub mod Leaving
 pub mod Telling
+pub mod Runs
 pub mod inner
 pub mod rows

@@ -1,5 +1,5 @@
 -- What a run of a script promises of all that it wrote: exactly-once delivery.
-use Rattle.std.specs.Prelude.{◌≡◌, ℕ, ◌<◌, ◌≤◌, All, AllPairs, List, [], ◌∷◌, ◌++◌, codes, filter_map, flat_map, length, take, Option, Some, None}
+use Rattle.std.specs.Prelude.{◌≡◌, ℕ, ◌<◌, ◌≤◌, All, AllPairs, List, [], ◌∷◌, ◌++◌, codes, filter_map, flat_map, length, take, Option, Some, None, Result, Ok, Err}
 use Rattle.std.specs.Io.KnownBytes.{Appends}
 use Rattle.envelope.specs.Names.{number_of}
 use Rattle.world.specs.World.{Box, Event, IsWorld}
@@ -9,6 +9,8 @@ use Rattle.exactly_once.specs.Promise.{Entry, IsEntry, TellsOnce, text_of}
 use Rattle.house.specs.Scene.{Scene, empty_scene}
 use Rattle.house.specs.Window.{window_text}
 use Rattle.script.specs.Script.{Script, ScriptLine, none_held, refusal}
+use Rattle.script.specs.declared.run.RunFault.{RunFault}
+use Rattle.script.specs.declared.run.RunFault.TheVariants as faults
 
 -- why a line can't be done
 pub data Why : Type 0 where
@@ -92,3 +94,28 @@ pub record WroteOnce (k : Setup) (lines : List ScriptLine) (old new : Option (Li
   pub sent : ℕ
   pub within : sent ≤ length printed
   pub out : Appends old new (take sent printed)
+
+module _ (k : Setup) (lines : List ScriptLine) (old new : Option (List ℕ)) where
+  -- All lines were played, and all that they print was written.
+  pub record WroteAll : Type 0 where
+    pub wrote : WroteOnce k lines old new
+    pub all : wrote.others ≡ []
+    pub whole : wrote.sent ≡ length wrote.printed
+
+  -- Of what the lines print that were played the first `sent` bytes were written, and not all.
+  pub record WroteFirst (sent : ℕ) : Type 0 where
+    pub wrote : WroteOnce k lines old new
+    pub stopped : wrote.sent ≡ sent
+    pub within : sent < length wrote.printed
+
+  -- All that the lines print that were played was written.
+  pub record WroteSome : Type 0 where
+    pub wrote : WroteOnce k lines old new
+    pub whole : wrote.sent ≡ length wrote.printed
+
+-- what a run wrote of these lines, by how it ended
+abbrev pub RunWrote : Setup → List ScriptLine → Result (Unit {0}) RunFault → (old new : Option (List ℕ)) → Type 0
+RunWrote k lines (Ok done) old new = WroteAll k lines old new
+RunWrote k lines (Err (faults.Write sent)) old new = WroteFirst k lines old new sent
+RunWrote k lines (Err faults.NoMemory) old new = WroteSome k lines old new
+RunWrote k lines (Err faults.Read) old new = WroteSome k lines old new

@@ -1,5 +1,5 @@
 -- How a run tells what its lines print, as it is printed or as JSON (RFC 8259), and what a run that tells it so leaves.
-use Rattle.std.specs.Prelude.{◌≡◌, ℕ, ◌+◌, ◌<◌, ◌==◌, ◌&&◌, Bool, if◌then◌else◌, List, [], ◌∷◌, ◌++◌, codes, decimal, encode_utf8, flat_map, length, map, take, Option, Result, Ok, Err}
+use Rattle.std.specs.Prelude.{◌≡◌, ℕ, ◌+◌, ◌<◌, ◌≤◌, ◌==◌, ◌&&◌, Bool, if◌then◌else◌, List, [], ◌∷◌, ◌++◌, codes, decimal, encode_utf8, flat_map, length, map, take, Option, Result, Ok, Err}
 use Rattle.std.specs.Io.KnownBytes.{Appends}
 use Rattle.json.specs.Print.{print}
 use Rattle.json.specs.Token.{begin_object, end_object, key, string, number}
@@ -71,43 +71,63 @@ abbrev pub joined : List (List ℕ) → List ℕ
 joined [] = []
 joined (text ∷ texts) = text ++ joined texts
 
--- ---- what a run leaves
+-- ---- what a run tells, and what it leaves
 
--- What tells of these lines was written. What they print delivers exactly once, and the house that is left stands for the scene that they lead to.
-pub record TellsAll (form : Form) (k : Setup) (lines : List (List ℕ)) (h : House) (old new : Option (List ℕ)) : Type 0 where
-  pub after : Scene
-  pub texts : List (List ℕ)
-  pub plays : LineByLine k 1 (none_held k) (asked_by lines) (empty_scene k) after texts
-  pub once : DeliversOnce k (length lines) after (joined texts)
-  pub stands : StandsFor k h after
-  pub out : Appends old new (told form 1 lines texts)
+module _ (form : Form) (k : Setup) (lines : List (List ℕ)) (old new : Option (List ℕ)) where
+  -- Some of the first lines were played, and what was written is a beginning of what tells of them. What they print delivers exactly once.
+  pub record ToldOnce : Type 0 where
+    pub some : List (List ℕ)
+    pub others : List (List ℕ)
+    pub split : lines ≡ some ++ others
+    pub after : Scene
+    pub texts : List (List ℕ)
+    pub plays : LineByLine k 1 (none_held k) (asked_by some) (empty_scene k) after texts
+    pub once : DeliversOnce k (length some) after (joined texts)
+    pub sent : ℕ
+    pub within : sent ≤ length (told form 1 some texts)
+    pub out : Appends old new (take sent (told form 1 some texts))
 
--- Of what tells of some of the first lines the first `sent` bytes were written, and not all. The house stands for the scene that these lines lead to.
-pub record TellsFirst (form : Form) (k : Setup) (lines : List (List ℕ)) (sent : ℕ) (h : House) (old new : Option (List ℕ)) : Type 0 where
-  pub some : List (List ℕ)
-  pub others : List (List ℕ)
-  pub split : lines ≡ some ++ others
-  pub after : Scene
-  pub texts : List (List ℕ)
-  pub plays : LineByLine k 1 (none_held k) (asked_by some) (empty_scene k) after texts
-  pub once : DeliversOnce k (length some) after (joined texts)
-  pub stands : StandsFor k h after
-  pub within : sent < length (told form 1 some texts)
-  pub out : Appends old new (take sent (told form 1 some texts))
+  -- All lines were played, and all that tells of them was written.
+  pub record ToldAll : Type 0 where
+    pub tells : ToldOnce
+    pub all : tells.others ≡ []
+    pub whole : tells.sent ≡ length (told form 1 tells.some tells.texts)
 
--- What tells of some of the first lines was written, whole, and of the house that is left, by the shards that are held then, what the lines behind
--- them ask for and the scene that these lead to, this holds.
-pub record TellsBeginning (form : Form) (k : Setup) (lines : List (List ℕ)) (Left : ℕ → (held : List Bool) → List ScriptLine → Scene → Type 0)
-    (old new : Option (List ℕ)) : Type 0 where
-  pub some : List (List ℕ)
-  pub others : List (List ℕ)
-  pub split : lines ≡ some ++ others
-  pub after : Scene
-  pub texts : List (List ℕ)
-  pub plays : LineByLine k 1 (none_held k) (asked_by some) (empty_scene k) after texts
-  pub once : DeliversOnce k (length some) after (joined texts)
-  pub left : Left (length some + 1) (held_by (none_held k) (asked_by some)) (asked_by others) after
-  pub out : Appends old new (told form 1 some texts)
+  -- Of what tells of the lines that were played the first `sent` bytes were written, and not all.
+  pub record ToldFirst (sent : ℕ) : Type 0 where
+    pub tells : ToldOnce
+    pub stopped : tells.sent ≡ sent
+    pub within : sent < length (told form 1 tells.some tells.texts)
+
+  -- All that tells of the lines that were played was written.
+  pub record ToldSome : Type 0 where
+    pub tells : ToldOnce
+    pub whole : tells.sent ≡ length (told form 1 tells.some tells.texts)
+
+-- what a run told of these lines, by how it ended
+abbrev pub RunTold : Form → Setup → (lines : List (List ℕ)) → Result (Unit {0}) RunFault → (old new : Option (List ℕ)) → Type 0
+RunTold form k lines (Ok done) old new = ToldAll form k lines old new
+RunTold form k lines (Err (faults.Write sent)) old new = ToldFirst form k lines old new sent
+RunTold form k lines (Err faults.NoMemory) old new = ToldSome form k lines old new
+RunTold form k lines (Err faults.Read) old new = ToldSome form k lines old new
+
+module _ (form : Form) (k : Setup) (lines : List (List ℕ)) where
+  -- All was told, and the house that is left stands for the scene that the lines lead to.
+  pub record TellsAll (h : House) (old new : Option (List ℕ)) : Type 0 where
+    pub tells : ToldAll form k lines old new
+    pub stands : StandsFor k h tells.tells.after
+
+  -- The first `sent` bytes were told, and the house stands for the scene that the lines lead to that were played.
+  pub record TellsFirst (sent : ℕ) (h : House) (old new : Option (List ℕ)) : Type 0 where
+    pub tells : ToldFirst form k lines old new sent
+    pub stands : StandsFor k h tells.tells.after
+
+  -- All was told of the lines that were played. Of the house that is left, by the shards that are held then, what the lines behind them ask for and
+  -- the scene that these lead to, this holds.
+  pub record TellsBeginning (Left : ℕ → (held : List Bool) → List ScriptLine → Scene → Type 0) (old new : Option (List ℕ)) : Type 0 where
+    pub tells : ToldSome form k lines old new
+    pub left : Left (length tells.tells.some + 1) (held_by (none_held k) (asked_by tells.tells.some)) (asked_by tells.tells.others)
+        tells.tells.after
 
 -- Memory was wanting before the next line was played to its end, as in any form, or, in JSON alone, behind that: what it printed isn't told.
 pub data IsLeftUntold (form : Form) (k : Setup) (h : House) (n : ℕ) (held : List Bool) (others : List ScriptLine) (s : Scene) : Type 0 where
@@ -115,7 +135,7 @@ pub data IsLeftUntold (form : Form) (k : Setup) (h : House) (n : ℕ) (held : Li
   untold : (line : ScriptLine) (more : List ScriptLine) (after : Scene) (printed : List ℕ) → form ≡ Json → others ≡ line ∷ more
       → LinePlays k n held line s after printed → StandsFor k h after → IsLeftUntold form k h n held others s
 
--- what a run tells of these lines, by how it ended
+-- what a run tells of these lines and leaves, by how it ended
 abbrev pub RunTells : Form → Setup → (lines : List (List ℕ)) → House → Result (Unit {0}) RunFault → (old new : Option (List ℕ)) → Type 0
 RunTells form k lines h (Ok done) old new = TellsAll form k lines h old new
 RunTells form k lines h (Err (faults.Write sent)) old new = TellsFirst form k lines sent h old new

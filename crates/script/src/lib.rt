@@ -3,9 +3,11 @@
 #![tactic(auto)]
 
 mod line;
+mod program;
 mod reading;
 mod run;
 mod telling;
 
 pub use line::ScriptLine;
+pub use program::{ScriptFault, run_script};
 pub use run::{RunFault, drive, drive_as};

@@ -3,15 +3,21 @@ use Rattle.command_line.specs.declared.asked.Asked.{Asked}
 use Rattle.command_line.specs.declared.asked.Asked.TheVariants.{Script, Serve}
 use Rattle.post_house.specs.inner.Playing.{HasDone}
 use Rattle.post_house.specs.declared.outcome.Done.TheVariants.{Played, Served}
-use Rattle.post_house.proofs.Playing.{played_not_set, ran_in, served_not_set}
+use Rattle.post_house.proofs.Playing.{played_not_set, served_not_set}
 use Rattle.post_house.proofs.carry_out.Goals as goal
 
 pub returns-in-Script-clause-done : goal.returns-in-Script-clause-done
 returns-in-Script-clause-done g c =
     let is : c.args.asked.now ≡ Script c.in-Script.config c.in-Script.form = search rules in
-    subst (λ (a : Asked). HasDone a (Played c.play.result) (g.I.Read.remaining c.args.input.now) (g.W.Sink.failed c.play.new.output) (g.W.Sink.taken c.args.output.now) (g.W.Sink.taken c.play.new.output)) (sym is)
-    (λ bytes e. ran_in c.in-Script.form c.in-Script.config bytes (g.W.Sink.failed c.play.new.output) c.play.result (g.W.Sink.taken c.args.output.now) (g.W.Sink.taken c.play.new.output)
-    c.play.ensures.fault (c.play.ensures.told bytes e))
+    subst (λ (a : Asked). HasDone a (Played c.run_script.result) (g.I.Read.remaining c.args.input.now) (g.W.Sink.failed c.run_script.new.writer) (g.W.Sink.taken c.args.output.now) (g.W.Sink.taken c.run_script.new.writer)) (sym is)
+    (λ bytes e. record {
+      wrong = c.run_script.ensures.wrong;
+      right = c.run_script.ensures.right;
+      told = c.run_script.ensures.told bytes e;
+      wrote = λ text. c.run_script.ensures.wrote text bytes e;
+      once = λ text. c.run_script.ensures.once text bytes e;
+      failing = c.run_script.ensures.failed;
+    })
 
 pub returns-in-Serve-clause-done : goal.returns-in-Serve-clause-done
 returns-in-Serve-clause-done g c =
@@ -26,7 +32,7 @@ returns-in-Serve-clause-done g c =
     })
 
 pub returns-in-Script-clause-not_set : goal.returns-in-Script-clause-not_set
-returns-in-Script-clause-not_set g c = played_not_set c.args.output.now c.play.new.output c.play.result c.play.ensures.not_set
+returns-in-Script-clause-not_set g c = played_not_set c.args.output.now c.run_script.new.writer c.run_script.result (λ x e. (c.run_script.ensures.not_set x e).1)
 
 pub returns-in-Serve-clause-not_set : goal.returns-in-Serve-clause-not_set
 returns-in-Serve-clause-not_set g c = served_not_set c.args.output.now c.serve.new.output c.serve.result c.serve.ensures.not_set
