@@ -24,7 +24,7 @@ import sys
 TOP = os.path.dirname(os.path.dirname(os.path.abspath(__file__)))
 
 # Who carries the promise: the law over every list of events, a run of a script, a run of threads.
-ROOTS = ["exactly_once::exactly_once_delivery", "script::drive", "running_house::run_house"]
+ROOTS = ["exactly_once::exactly_once_delivery", "script::run_script", "running_house::run_house"]
 
 # README's two sentences, of a house on one thread: what a relay may conclude, and what a client may.
 TO_A_RELAY = ["laws_relay::relays_may_conclude_over_any"]
@@ -60,7 +60,7 @@ PARTS = [
 # The parts that README's two sentences rest on, whatever the dialogues are.
 SENTENCES = ["The headline", "To a relay", "To a client"]
 
-# A program's own function hands on what `drive` and `serve` say; no other crate can cite it.
+# A program's own function hands on what `run_script` and `serve` say; no other crate can cite it.
 OF_A_PROGRAM = {"post_house::command"}
 
 # What the tables of worked examples begin with stands with the other words of its file.

@@ -7,12 +7,10 @@ ghost use Rattle.std.specs.Option.{option_copied};
 ghost use Rattle.std.specs.Vec.{vec_capacity};
 ghost use Rattle.workers_sync.specs.Holds.{Counts, DoesAlter, DoesDeliver, DoesDiscard, DoesEnter, DoesExpunge, DoesFeed, DoesLeave, DoesLook, DoesRead};
 
-use change_ring::{FlagOp, Flags};
+use change_ring::{FlagOp, Flags, View};
 use cursor_set::{CursorHandle, FeedFault, Stranger};
 use delivery_token::{Job, Refusal};
-use mailbox::{
-    MailFault, Mailbox, Opening, Receipt, Row, Status, View, answer_of, every_mailbox_keeps,
-};
+use mailbox::{MailFault, Mailbox, Opening, Receipt, Row, Status, answer_of, every_mailbox_keeps};
 
 /// Delivers a copy: its message is added under the next UID, with the copy's flags (RFC 9051,
 /// 2.3.1.1 and 6.3.12), which is one event, of one change or, where it has a flag, of two. This copy
