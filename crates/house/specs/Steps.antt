@@ -37,9 +37,12 @@ abbrev pub IsEmptySeat : House → ℕ → Type 0
 IsEmptySeat h connection = slice_index_or h.callers (seat_of connection) None ≡ None
 
 -- somebody stands at this seat or place, and the peer is gone
+abbrev pub is_gone_at : {P : Type 0} → (P → Bool) → Option P → Bool
+is_gone_at gone None = false
+is_gone_at gone (Some p) = gone p
+
 abbrev pub is_unread : Option HouseConnection → Bool
-is_unread None = false
-is_unread (Some l) = l.gone
+is_unread l = is_gone_at (λ (h : HouseConnection). h.gone) l
 
 -- somebody stands at the connection's seat whose peer is gone
 pub record IsUnread (h : House) (connection : ℕ) : Type 0 where
@@ -67,8 +70,7 @@ pub record IsTakenPlace (h : House) (session : ℕ) : Type 0 where
 
 -- a session is at this place, and its client is gone
 abbrev pub is_left : Option SeatedSession → Bool
-is_left None = false
-is_left (Some p) = p.gone
+is_left p = is_gone_at (λ (q : SeatedSession). q.gone) p
 
 -- a session is at its place whose client is gone
 pub record IsLeft (h : House) (session : ℕ) : Type 0 where

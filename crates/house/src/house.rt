@@ -1,11 +1,8 @@
 //! The house: who stands at each seat, over the delivery core. Each call is one event, and what it appends to `out` is what the event
 //! prints. No script and no socket is known here.
 
-ghost use Rattle.std.specs.Prelude.{true, false, IsTrue, ◌≡◌, ◌≢◌, ◌≤◌, ◌<◌, ◌+◌, ◌-◌, ◌⊎◌, ◌↔◌, ℕ, List, length, None, Some, Err, OnOk, OnErr, IfOk, IfErr, IfSome, IsSomeAnd, MatchOption, option_map};
+ghost use Rattle.std.specs.Prelude.{true, false, IsTrue, ◌≡◌, ◌≢◌, ◌≤◌, ◌<◌, ◌+◌, ◌-◌, ◌⊎◌, ◌↔◌, ℕ, List, length, None, Some, Err, OnOk, OnErr, IfOk, IfErr, IfSome};
 ghost use Rattle.delivery_token.specs.Keys.{AtLeast};
-ghost use Rattle.house_peers.specs.HouseConnection.{HouseConnection};
-ghost use Rattle.house_peers.specs.Taking.{HearsVerdict, due, noted_put, with_more, with_nobody_there};
-ghost use Rattle.delivery_token.specs.inner.Verdicts.{heard_verdict};
 ghost use Rattle.delivery_token.specs.declared.CopyKey.{CopyKey};
 ghost use Rattle.delivery_token.specs.declared.log.Noted.{Noted};
 ghost use Rattle.house_peers.specs.ConnectionStands.{StandsForConnection};
@@ -16,17 +13,17 @@ ghost use Rattle.house_peers.specs.Caller.{Terms, greeted, more_waits};
 ghost use Rattle.house.specs.Setup.{Setup};
 ghost use Rattle.house.specs.Stands.{StandsFor};
 ghost use Rattle.house.specs.Effort.{MakesLess, caller_effort};
-ghost use Rattle.delivery_core.specs.Load.{load};
-ghost use Rattle.house.specs.Steps.{CallerWants, CannotNote, CorePuts, Follows, FollowsInPart, HasNoRoom, IsBusy, IsEmptySeat, ChangesNothing, IsNoNumber, IsNoSeat, IsNobody, KeepsMarks, Led, MayFindNothing, MayWant, PutsNext, is_unread};
-ghost use Rattle.house.specs.inner.Steps.{CallerWentOn, HasSeat, IsNoNext, IsOpen, IsRead, MayNotPut, StandsForMaybe, fault_of, job_of};
+ghost use Rattle.house.specs.Steps.{CallerWants, Follows, FollowsInPart, IsBusy, IsEmptySeat, ChangesNothing, IsNoNumber, IsNoSeat, IsNobody, KeepsMarks, Led, MayFindNothing, MayWant};
+ghost use Rattle.house.specs.inner.Steps.{CallerWentOn, HasSeat, IsOpen, IsRead, StandsForMaybe, fault_of};
 ghost use Rattle.house.specs.declared.event.Event.TheVariants as events;
 
 use crate::core_store::CoreStore;
 use crate::event::{Event, HouseFault};
+use crate::peer::{append_to, hears, is_left, notes_put, put_next, vanishes};
 use crate::printing::proceed;
 use budget::Budget;
-use delivery_core::{DeliveryCore, Fault, HearFault};
-use delivery_token::{NextCopy, Noted, Refusal, Verdict};
+use delivery_core::{Fault, HearFault};
+use delivery_token::Noted;
 use envelope::Directory;
 use house_peers::{HouseConnection, SeatedSession};
 use lmtp_machine::{Limits, What};
@@ -128,102 +125,6 @@ fn opened(
     Ok(caller)
 }
 
-// Bytes more wait for the caller at a seat.
-fn append_to_caller(occupant: &mut Option<HouseConnection>, piece: &[u8]) -> Result<(), AllocError>
-    ensures ok { OnOk result (occupant.new ≡ option_map (with_more piece.now) occupant.old) }
-    ensures err { OnErr result (occupant.new ≡ occupant.old) }
-    ensures asks { OnErr result (0 < length piece.now) }
-{
-    match occupant {
-        Some(caller) => caller.append(piece),
-        None => Ok(()),
-    }
-}
-
-// Whether somebody stands at a seat whose peer is gone.
-fn is_unread(occupant: &Option<HouseConnection>) -> bool
-    ensures { result ≡ is_unread occupant.now }
-{
-    match occupant {
-        Some(caller) => caller.is_gone(),
-        None => false,
-    }
-}
-
-// The peer of the caller at a seat is gone.
-fn caller_vanishes(occupant: &mut Option<HouseConnection>)
-    ensures { occupant.new ≡ option_map with_nobody_there occupant.old }
-{
-    if let Some(caller) = occupant {
-        caller.vanish();
-    }
-}
-
-// Puts a copy, where it may be put.
-pub(crate) fn put_copy(
-    core: &mut DeliveryCore,
-    copy: NextCopy<'_>,
-) -> Result<Option<Refusal>, HouseFault>
-    ensures nobody { result ≢ Err HouseFault.Nobody }
-    ensures busy { result ≢ Err HouseFault.Busy }
-    ensures nothing { result ≡ Err HouseFault.Nothing → IsNoNext core.old (job_of copy.entry) }
-    ensures memory { result ≡ Err HouseFault.NoMemory → HasNoRoom core.old copy.entry.key.seat }
-    ensures puts { IfOk result (λ why. CorePuts core.old (job_of copy.entry) core.new why) }
-    ensures load { OnOk result (load core.new ≤ load core.old + 4) }
-    ensures refused { OnErr result (core.new ≡ core.old) }
-{
-    if !core.may_put(copy.key, copy.mailbox) {
-        return Err(HouseFault::Nothing);
-    }
-    Ok(core.put(copy.key, copy.mailbox, copy.text, copy.flags)?)
-}
-
-// Puts the next copy of the caller at a seat.
-fn put_next(
-    core: &mut DeliveryCore,
-    occupant: &Option<HouseConnection>,
-) -> Result<Option<Refusal>, HouseFault>
-    ensures nobody { (result ≡ Err HouseFault.Nobody) ↔ (occupant.now ≡ None) }
-    ensures busy { result ≢ Err HouseFault.Busy }
-    ensures nothing { result ≡ Err HouseFault.Nothing
-        → (h : HouseConnection) × (occupant.now ≡ Some h) × MayNotPut core.old (due h) }
-    ensures memory { result ≡ Err HouseFault.NoMemory
-        → (h : HouseConnection) × (occupant.now ≡ Some h) × CannotNote core.old (due h) }
-    ensures puts { IfOk result (λ why. (h : HouseConnection) × (occupant.now ≡ Some h)
-        × PutsNext core.old (due h) core.new why) }
-    ensures load { OnOk result (load core.new ≤ load core.old + 4) }
-    ensures refused { OnErr result (core.new ≡ core.old) }
-{
-    let Some(caller) = occupant else {
-        return Err(HouseFault::Nobody);
-    };
-    let Some(copy) = caller.next_copy() else {
-        return Err(HouseFault::Nothing);
-    };
-    put_copy(core, copy)
-}
-
-// The next copy of the caller at a seat was put, and this was heard of it at once.
-fn caller_notes_put(occupant: &mut Option<HouseConnection>, why: Option<Refusal>)
-    requires { IfSome occupant.old (λ h. 0 < length (due h)) }
-    ensures { occupant.new ≡ option_map (noted_put (heard_verdict why)) occupant.old }
-{
-    let verdict = why.map(Verdict::Refused);
-    if let Some(caller) = occupant {
-        caller.note_put(verdict);
-    }
-}
-
-// The caller at a seat hears a verdict.
-fn caller_hears(occupant: &mut Option<HouseConnection>, noted: &Noted)
-    ensures { MatchOption occupant.old (occupant.new
-        ≡ None) (λ h. IsSomeAnd occupant.new (HearsVerdict h noted.now)) }
-{
-    if let Some(caller) = occupant {
-        caller.hear(noted);
-    }
-}
-
 impl House {
     // Bytes came for a connection that stands at its seat.
     fn receive(&mut self, connection: u8, piece: &[u8], out: &mut Vec<u8>) -> Result<(), HouseFault>
@@ -239,7 +140,7 @@ impl House {
             (MayWant (events.Bytes connection piece.entry) self.old self.new) }
     {
         let occupant = &mut self.callers[index_of(connection)];
-        append_to_caller(occupant, piece)?;
+        append_to(occupant, piece)?;
         caller_goes_on(occupant, connection, &self.directory, out)?;
         Ok(())
     }
@@ -249,7 +150,7 @@ impl House {
         ensures { Follows self.old (events.Vanish connection) self.new out.old.items out.new.items }
     {
         let occupant = &mut self.callers[index_of(connection)];
-        caller_vanishes(occupant);
+        vanishes(occupant);
         // Nobody is told anything any more, so this asks for no memory.
         let _ = caller_goes_on(occupant, connection, &self.directory, out);
     }
@@ -309,7 +210,7 @@ impl House {
         let seat = index_of(connection);
         let why = put_next(&mut self.store.core, &self.callers[seat])?;
         let occupant = &mut self.callers[seat];
-        caller_notes_put(occupant, why);
+        notes_put(occupant, why);
         caller_goes_on(occupant, connection, &self.directory, out)?;
         Ok(())
     }
@@ -344,7 +245,7 @@ impl House {
             Err(HearFault::Nobody) => return Err(HouseFault::Nobody),
         };
         let occupant = &mut self.callers[seat];
-        caller_hears(occupant, &noted);
+        hears(occupant, &noted);
         caller_goes_on(occupant, connection, &self.directory, out)?;
         Ok(())
     }
@@ -502,7 +403,7 @@ impl House {
             return Err(HouseFault::Nobody);
         }
         let seat = index_of(connection);
-        if is_unread(&self.callers[seat]) {
+        if is_left(&self.callers[seat]) {
             return Err(HouseFault::Busy);
         }
         if self.callers[seat].is_some() {
@@ -532,7 +433,7 @@ impl House {
         if self.callers[seat].is_none() {
             return Err(HouseFault::Nobody);
         }
-        if is_unread(&self.callers[seat]) {
+        if is_left(&self.callers[seat]) {
             return Err(HouseFault::Busy);
         }
         self.lose(connection, out);

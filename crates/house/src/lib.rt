@@ -8,6 +8,7 @@ mod event;
 mod house;
 mod idling;
 mod make;
+mod peer;
 mod printing;
 mod sessions;
 mod settle;

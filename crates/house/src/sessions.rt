@@ -1,9 +1,8 @@
 //! What happens to sessions: users enter, their clients say something and leave, and the messages that they append are put and heard of. What a
 //! session answers is its own matter, over the mailboxes of the delivery core.
 
-ghost use Rattle.std.specs.Prelude.{◌≡◌, ◌≢◌, ◌↔◌, ◌⊎◌, ◌+◌, ◌-◌, ◌<◌, ◌≤◌, ℕ, List, length, true, false, None, Some, Err, OnOk, OnErr, IfErr, IfOk, IfSome, IsSomeAnd, IsTrue, MatchOption, option_map};
+ghost use Rattle.std.specs.Prelude.{◌≡◌, ◌≢◌, ◌↔◌, ◌⊎◌, ◌+◌, ◌-◌, ◌<◌, ◌≤◌, ℕ, List, length, true, false, None, Some, Err, OnOk, OnErr, IfErr, IfOk, IsTrue};
 ghost use Rattle.delivery_core.specs.Changes.{SameDelivery};
-ghost use Rattle.delivery_core.specs.Load.{load};
 ghost use Rattle.delivery_core.specs.Stands as core;
 ghost use Rattle.delivery_token.specs.Keys.{AtLeast};
 ghost use Rattle.delivery_token.specs.declared.CopyKey.{CopyKey};
@@ -12,34 +11,23 @@ ghost use Rattle.house.specs.Effort.{MakesLess, visitor_effort};
 ghost use Rattle.house.specs.Scene as scene;
 ghost use Rattle.house.specs.Setup.{Setup, session_seat};
 ghost use Rattle.house.specs.Stands.{StandsFor, first_of};
-ghost use Rattle.house.specs.Steps.{CannotNote, Follows, FollowsInPart, IsBusy, ChangesNothing, IsNobody, IsNoPlace, IsVacant, Led, MayWant, PutsNext, VisitorWants, is_left};
-ghost use Rattle.house.specs.inner.Steps.{CanEnter, HasLingered, IsSession, IsTalking, MayNotPut, PlaceTalked, PlaceVisited, StandsForSomebody, with_more_came};
+ghost use Rattle.house.specs.Steps.{Follows, FollowsInPart, IsBusy, ChangesNothing, IsNobody, IsNoPlace, IsVacant, Led, MayWant, VisitorWants, is_left};
+ghost use Rattle.house.specs.inner.Steps.{CanEnter, HasLingered, IsSession, IsTalking, PlaceTalked, PlaceVisited, StandsForSomebody};
 ghost use Rattle.house.specs.declared.event.Event.TheVariants as events;
 ghost use Rattle.house_peers.specs.SeatedVisitor as spec;
-ghost use Rattle.house_peers.specs.SeatedSession.{HearsVerdict, SeatedSession, StandsForSeated, due, noted_put, with_nobody_there};
-ghost use Rattle.delivery_token.specs.inner.Verdicts.{heard_verdict};
+ghost use Rattle.house_peers.specs.SeatedSession.{StandsForSeated};
 ghost use Rattle.world.specs.World.{World};
 
 use crate::core_store::CoreStore;
 use crate::event::HouseFault;
-use crate::house::{House, index_of, put_copy};
+use crate::house::{House, index_of};
+use crate::peer::{append_to, hears, is_left, notes_put, put_next, vanishes};
 use crate::printing::go_on;
 use budget::Budget;
-use delivery_core::{DeliveryCore, HearFault};
-use delivery_token::{Noted, Refusal, Verdict};
+use delivery_core::HearFault;
 use house_peers::SeatedSession;
 use imap_session::{Admission, Folder, Store, admission_of, folders_of, has_user};
 use std::alloc::{AllocError, Global};
-
-// Whether a session is at a place whose client is gone.
-pub(crate) fn is_left(place: &Option<SeatedSession>) -> bool
-    ensures { result ≡ is_left place.now }
-{
-    match place {
-        Some(visitor) => visitor.is_gone(),
-        None => false,
-    }
-}
 
 // The session at a place, whose client is there, goes on, and leaves its mailbox and its place where it has ended.
 fn visitor_talks(
@@ -145,73 +133,6 @@ fn admitted(
     SeatedSession::open(alloc, seat, serial, folders, admission)
 }
 
-// Bytes more wait for the session at a place.
-fn append_to_visitor(place: &mut Option<SeatedSession>, piece: &[u8]) -> Result<(), AllocError>
-    ensures ok { OnOk result (place.new ≡ option_map (with_more_came piece.now) place.old) }
-    ensures err { OnErr result (place.new ≡ place.old) }
-    ensures asks { OnErr result (0 < length piece.now) }
-{
-    match place {
-        Some(visitor) => visitor.append(piece),
-        None => Ok(()),
-    }
-}
-
-// The client of the session at a place is gone.
-fn visitor_vanishes(place: &mut Option<SeatedSession>)
-    ensures { place.new ≡ option_map with_nobody_there place.old }
-{
-    if let Some(visitor) = place {
-        visitor.vanish();
-    }
-}
-
-// Puts the copy of the message of the session at a place.
-fn put_next(
-    core: &mut DeliveryCore,
-    place: &Option<SeatedSession>,
-) -> Result<Option<Refusal>, HouseFault>
-    ensures nobody { (result ≡ Err HouseFault.Nobody) ↔ (place.now ≡ None) }
-    ensures busy { result ≢ Err HouseFault.Busy }
-    ensures nothing { result ≡ Err HouseFault.Nothing
-        → (p : SeatedSession) × (place.now ≡ Some p) × MayNotPut core.old (due p) }
-    ensures memory { result ≡ Err HouseFault.NoMemory
-        → (p : SeatedSession) × (place.now ≡ Some p) × CannotNote core.old (due p) }
-    ensures puts { IfOk result (λ why. (p : SeatedSession) × (place.now ≡ Some p)
-        × PutsNext core.old (due p) core.new why) }
-    ensures load { OnOk result (load core.new ≤ load core.old + 4) }
-    ensures refused { OnErr result (core.new ≡ core.old) }
-{
-    let Some(visitor) = place else {
-        return Err(HouseFault::Nobody);
-    };
-    let Some(copy) = visitor.next_copy() else {
-        return Err(HouseFault::Nothing);
-    };
-    put_copy(core, copy)
-}
-
-// The copy of the session at a place was put, and this was heard of it at once.
-fn visitor_notes_put(place: &mut Option<SeatedSession>, why: Option<Refusal>)
-    requires { IfSome place.old (λ p. 0 < length (due p)) }
-    ensures { place.new ≡ option_map (noted_put (heard_verdict why)) place.old }
-{
-    let verdict = why.map(Verdict::Refused);
-    if let Some(visitor) = place {
-        visitor.note_put(verdict);
-    }
-}
-
-// The session at a place hears a verdict.
-fn visitor_hears(place: &mut Option<SeatedSession>, noted: &Noted)
-    ensures { MatchOption place.old (place.new
-        ≡ None) (λ p. IsSomeAnd place.new (HearsVerdict p noted.now)) }
-{
-    if let Some(visitor) = place {
-        visitor.hear(noted);
-    }
-}
-
 impl House {
     // Whether there is no such session.
     pub(crate) fn has_no_place(&self, session: u8) -> bool
@@ -302,7 +223,7 @@ impl House {
         ensures asks { OnErr result (MayWant (events.Say session piece.entry) self.old self.new) }
     {
         let place = &mut self.visitors[index_of(session)];
-        append_to_visitor(place, piece)?;
+        append_to(place, piece)?;
         let alloc = *self.host.allocator();
         visitor_talks(place, alloc, session, &mut self.store, out)?;
         Ok(())
@@ -353,7 +274,7 @@ impl House {
         self.store.session = session - 1;
         let _ = self.store.leave(false);
         let place = &mut self.visitors[index_of(session)];
-        visitor_vanishes(place);
+        vanishes(place);
         visitor_lingers(place);
     }
 
@@ -404,7 +325,7 @@ impl House {
         let place = index_of(session);
         let why = put_next(&mut self.store.core, &self.visitors[place])?;
         let here = &mut self.visitors[place];
-        visitor_notes_put(here, why);
+        notes_put(here, why);
         let alloc = *self.host.allocator();
         visitor_goes_on(here, alloc, session, &mut self.store, out)?;
         Ok(())
@@ -445,7 +366,7 @@ impl House {
             Err(HearFault::Nobody) => return Err(HouseFault::Nobody),
         };
         let here = &mut self.visitors[place];
-        visitor_hears(here, &noted);
+        hears(here, &noted);
         let alloc = *self.host.allocator();
         visitor_goes_on(here, alloc, session, &mut self.store, out)?;
         Ok(())

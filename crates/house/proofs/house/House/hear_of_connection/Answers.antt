@@ -27,7 +27,7 @@ returns-in_err-caller_goes_on-clause-no_memory c e k s st =
     let lt : c.index_of-seat.result < length i.callers.items = let m = c.requires.seat.seat in omega (arith, number, m, many) in
     let g = there c.index.result.now (c.is_none.ensures ∙ ap not c.if-is_none.false) in
     let some = get_or-any i.callers.items c.index_of-seat.result None c.index.result.now lt ∙ sym c.index.ensures ∙ g.1 in
-    let q = heard_at c.index_mut-occupant.result.now c.caller_hears.new.occupant c.in-Ok.noted g.0 (c.index_mut-occupant.ensures.value ∙ get_or-any i.callers.items c.index_of-seat.result _ None lt ∙ some) c.caller_hears.ensures in
+    let q = heard_at c.index_mut-occupant.result.now c.hears.new.occupant c.in-Ok.noted g.0 (c.index_mut-occupant.ensures.value ∙ get_or-any i.callers.items c.index_of-seat.result _ None lt ∙ some) c.hears.ensures in
     let f = c.in-Ok.ensures in
     let r = heard_led k h s c.args.connection c.index_of-seat.result i.directory g.0 c.hear.new.self c.in-Ok.noted q.0 c.caller_goes_on.new.occupant false c.args.out.now.items c.caller_goes_on.new.out.items
     st1 number refl lt some (subst (λ (n : ℕ). (x : world.Config) → core.Follows x i.store.core (world.Hear n ∷ []) c.hear.new.self) (sym e1) f.follows) (subst (λ (n : ℕ). Hears i.store.core c.hear.new.self n (c.in-Ok.noted ∷ [])) (sym e1) f.heard) f.next q.2
@@ -45,7 +45,7 @@ returns-clause-follows c k s st =
     let lt : c.index_of-seat.result < length i.callers.items = let m = c.requires.seat.seat in omega (arith, number, m, many) in
     let g = there c.index.result.now (c.is_none.ensures ∙ ap not c.if-is_none.false) in
     let some = get_or-any i.callers.items c.index_of-seat.result None c.index.result.now lt ∙ sym c.index.ensures ∙ g.1 in
-    let q = heard_at c.index_mut-occupant.result.now c.caller_hears.new.occupant c.in-Ok.noted g.0 (c.index_mut-occupant.ensures.value ∙ get_or-any i.callers.items c.index_of-seat.result _ None lt ∙ some) c.caller_hears.ensures in
+    let q = heard_at c.index_mut-occupant.result.now c.hears.new.occupant c.in-Ok.noted g.0 (c.index_mut-occupant.ensures.value ∙ get_or-any i.callers.items c.index_of-seat.result _ None lt ∙ some) c.hears.ensures in
     let f = c.in-Ok.ensures in
     let r = heard_led k h s c.args.connection c.index_of-seat.result i.directory g.0 c.hear.new.self c.in-Ok.noted q.0 c.caller_goes_on.new.occupant true c.args.out.now.items c.caller_goes_on.new.out.items
     st1 number refl lt some (subst (λ (n : ℕ). (x : world.Config) → core.Follows x i.store.core (world.Hear n ∷ []) c.hear.new.self) (sym e1) f.follows) (subst (λ (n : ℕ). Hears i.store.core c.hear.new.self n (c.in-Ok.noted ∷ [])) (sym e1) f.heard) f.next q.2

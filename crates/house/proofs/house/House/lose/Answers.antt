@@ -28,8 +28,8 @@ returns c k s st =
     let read = subst (λ (n : ℕ). is_unread (get_or i.callers.items n None) ≡ false) (sym e) (subst (λ (x : House). is_unread (get_or x.callers (c.args.connection - 1) None) ≡ false) (sym c.self.view_is) c.requires.there.read) in
     let number : c.args.connection ≡ c.index_of.result + 1 = let n = c.requires.there.number in omega (arith, n, e) in
     let lt : c.index_of.result < length i.callers.items = let m = c.requires.there.seat in omega (arith, number, m, many) in
-    let at = c.caller_vanishes.ensures ∙ ap (option_map with_nobody_there) (c.index_mut-occupant.ensures.value ∙ get_or-any i.callers.items c.index_of.result _ None lt) in
+    let at = c.vanishes.ensures ∙ ap (option_map with_nobody_there) (c.index_mut-occupant.ensures.value ∙ get_or-any i.callers.items c.index_of.result _ None lt) in
     let went = sure _ c.caller_goes_on.result _ _ who at c.caller_goes_on.ensures.asks c.caller_goes_on.ensures.ok in
-    let r = vanished k h s c.args.connection c.index_of.result i.directory c.caller_goes_on.new.occupant c.caller_vanishes.new.occupant true c.args.out.now.items c.caller_goes_on.new.out.items st1
+    let r = vanished k h s c.args.connection c.index_of.result i.directory c.caller_goes_on.new.occupant c.vanishes.new.occupant true c.args.out.now.items c.caller_goes_on.new.out.items st1
     number refl lt who read at went in
     record { after = r.0; printed = r.1; plays = subst (λ (n : ℕ). VanishPlay k true s n r.0 r.1) e r.2; stands = r.3; out = r.4 }

@@ -23,7 +23,7 @@ returns c k s old st =
     let who = subst (λ (x : House). IsSome (get_or x.visitors (c.args.session - 1) None)) (sym c.self.view_is) c.requires.there.who in
     let read = subst (λ (x : House). is_left (get_or x.visitors (c.args.session - 1) None) ≡ false) (sym c.self.view_is) c.requires.there.read in
     let g = somebody (get_or i.visitors.items (c.args.session - 1) None) who read in
-    let at = c.visitor_vanishes.ensures ∙ ap (option_map with_nobody_there) (c.index_mut-place.ensures.value ∙ get_or-any i.visitors.items c.index_of.result _ None (subst (λ (n : ℕ). n < length i.visitors.items) (sym e1) lt) ∙ subst (λ (n : ℕ). ◌≡◌ {A = Option SeatedSession} (get_or i.visitors.items n None) (Some g.0)) (sym e1) g.1) in
+    let at = c.vanishes.ensures ∙ ap (option_map with_nobody_there) (c.index_mut-place.ensures.value ∙ get_or-any i.visitors.items c.index_of.result _ None (subst (λ (n : ℕ). n < length i.visitors.items) (sym e1) lt) ∙ subst (λ (n : ℕ). ◌≡◌ {A = Option SeatedSession} (get_or i.visitors.items n None) (Some g.0)) (sym e1) g.1) in
     let r = left_place k h s (c.args.session - 1) g.0 c.visitor_lingers.new.place c.leave.new.self (answer Left c.leave.result) st1 lt g.1 g.2 c.leave.ensures
     (λ seat next heard b is. c.visitor_lingers.ensures.who seat next heard b (subst (λ (o : Option SeatedSession). StandsForSomebody seat next heard o (Some b)) (sym at) is)) in
     record { after = r.0; printed = []; plays = r.1; stands = subst (λ (n : ℕ). StandsFor k (with_visits h c.leave.new.self.core n c.visitor_lingers.new.place i.entered.items) r.0) (sym e1) r.2; out = sym (append-nil old) }

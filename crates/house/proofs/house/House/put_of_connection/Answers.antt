@@ -24,8 +24,8 @@ returns-in_err-caller_goes_on-clause-no_memory c e k s st =
     let lt : c.index_of-seat.result < length i.callers.items = let m = c.requires.seat.seat in omega (arith, number, m, many) in
     let p = c.in_ok-why.ensures.puts in
     let some = get_or-any i.callers.items c.index_of-seat.result None c.index.result.now lt ∙ sym c.index.ensures ∙ p.1 in
-    let at = c.caller_notes_put.ensures ∙ ap (option_map (noted_put (heard_verdict c.in_ok-why.why))) (c.index_mut-occupant.ensures.value ∙ get_or-any i.callers.items c.index_of-seat.result _ None lt ∙ some) in
-    let r = put_led k h s c.args.connection c.index_of-seat.result i.directory p.0 c.put_next.new.core c.in_ok-why.why c.caller_notes_put.new.occupant c.caller_goes_on.new.occupant false c.args.out.now.items c.caller_goes_on.new.out.items
+    let at = c.notes_put.ensures ∙ ap (option_map (noted_put (heard_verdict c.in_ok-why.why))) (c.index_mut-occupant.ensures.value ∙ get_or-any i.callers.items c.index_of-seat.result _ None lt ∙ some) in
+    let r = put_led k h s c.args.connection c.index_of-seat.result i.directory p.0 c.put_next.new.core c.in_ok-why.why c.notes_put.new.occupant c.caller_goes_on.new.occupant false c.args.out.now.items c.caller_goes_on.new.out.items
     st1 number refl lt some p.2 at c.in_err-caller_goes_on.ensures.err in
     inl (record { after = r.0; printed = r.1; plays = subst (λ (n : ℕ). PutPlay k false s n r.0 r.1) e1 (connection_puts (let b = st1.connections in omega (arith, lt, b)) r.2); stands = r.3; out = r.4 })
 
@@ -40,8 +40,8 @@ returns-clause-follows c k s st =
     let lt : c.index_of-seat.result < length i.callers.items = let m = c.requires.seat.seat in omega (arith, number, m, many) in
     let p = c.in_ok-why.ensures.puts in
     let some = get_or-any i.callers.items c.index_of-seat.result None c.index.result.now lt ∙ sym c.index.ensures ∙ p.1 in
-    let at = c.caller_notes_put.ensures ∙ ap (option_map (noted_put (heard_verdict c.in_ok-why.why))) (c.index_mut-occupant.ensures.value ∙ get_or-any i.callers.items c.index_of-seat.result _ None lt ∙ some) in
-    let r = put_led k h s c.args.connection c.index_of-seat.result i.directory p.0 c.put_next.new.core c.in_ok-why.why c.caller_notes_put.new.occupant c.caller_goes_on.new.occupant true c.args.out.now.items c.caller_goes_on.new.out.items
+    let at = c.notes_put.ensures ∙ ap (option_map (noted_put (heard_verdict c.in_ok-why.why))) (c.index_mut-occupant.ensures.value ∙ get_or-any i.callers.items c.index_of-seat.result _ None lt ∙ some) in
+    let r = put_led k h s c.args.connection c.index_of-seat.result i.directory p.0 c.put_next.new.core c.in_ok-why.why c.notes_put.new.occupant c.caller_goes_on.new.occupant true c.args.out.now.items c.caller_goes_on.new.out.items
     st1 number refl lt some p.2 at c.in_ok-caller_goes_on.ensures.ok in
     record { after = r.0; printed = r.1; plays = subst (λ (n : ℕ). PutPlay k true s n r.0 r.1) e1 (connection_puts (let b = st1.connections in omega (arith, lt, b)) r.2); stands = r.3; out = r.4 }
 

@@ -24,8 +24,8 @@ returns-in_err-caller_goes_on-clause-no_memory c =
     let read = subst (λ (n : ℕ). is_unread (get_or i.callers.items n None) ≡ false) (sym e) (subst (λ (x : House). is_unread (get_or x.callers (c.args.connection - 1) None) ≡ false) (sym c.self.view_is) c.requires.there.read) in
     let number : c.args.connection ≡ c.index_of.result + 1 = let n = c.requires.there.number in omega (arith, n, e) in
     let lt : c.index_of.result < length i.callers.items = let m = c.requires.there.seat in omega (arith, number, m, many) in
-    let at = c.in_ok-append_to_caller.ensures.ok ∙ ap (option_map (with_more c.args.piece.now)) (c.index_mut-occupant.ensures.value ∙ get_or-any i.callers.items c.index_of.result _ None lt) in
-    let r = received k h s c.args.connection c.index_of.result c.args.piece.now i.directory c.caller_goes_on.new.occupant c.append_to_caller.new.occupant false c.args.out.now.items c.caller_goes_on.new.out.items st1
+    let at = c.in_ok-append_to.ensures.ok ∙ ap (option_map (with_more c.args.piece.now)) (c.index_mut-occupant.ensures.value ∙ get_or-any i.callers.items c.index_of.result _ None lt) in
+    let r = received k h s c.args.connection c.index_of.result c.args.piece.now i.directory c.caller_goes_on.new.occupant c.append_to.new.occupant false c.args.out.now.items c.caller_goes_on.new.out.items st1
     number refl lt who read at c.in_err-caller_goes_on.ensures.err in
     inl (record { after = r.0; printed = r.1; plays = subst (λ (n : ℕ). BytesPlay k false s n c.args.piece.now r.0 r.1) e r.2; stands = r.3; out = r.4 })
 
@@ -40,13 +40,13 @@ returns-clause-follows c k s st =
     let read = subst (λ (n : ℕ). is_unread (get_or i.callers.items n None) ≡ false) (sym e) (subst (λ (x : House). is_unread (get_or x.callers (c.args.connection - 1) None) ≡ false) (sym c.self.view_is) c.requires.there.read) in
     let number : c.args.connection ≡ c.index_of.result + 1 = let n = c.requires.there.number in omega (arith, n, e) in
     let lt : c.index_of.result < length i.callers.items = let m = c.requires.there.seat in omega (arith, number, m, many) in
-    let at = c.in_ok-append_to_caller.ensures.ok ∙ ap (option_map (with_more c.args.piece.now)) (c.index_mut-occupant.ensures.value ∙ get_or-any i.callers.items c.index_of.result _ None lt) in
-    let r = received k h s c.args.connection c.index_of.result c.args.piece.now i.directory c.caller_goes_on.new.occupant c.append_to_caller.new.occupant true c.args.out.now.items c.caller_goes_on.new.out.items st1
+    let at = c.in_ok-append_to.ensures.ok ∙ ap (option_map (with_more c.args.piece.now)) (c.index_mut-occupant.ensures.value ∙ get_or-any i.callers.items c.index_of.result _ None lt) in
+    let r = received k h s c.args.connection c.index_of.result c.args.piece.now i.directory c.caller_goes_on.new.occupant c.append_to.new.occupant true c.args.out.now.items c.caller_goes_on.new.out.items st1
     number refl lt who read at c.in_ok-caller_goes_on.ensures.ok in
     record { after = r.0; printed = r.1; plays = subst (λ (n : ℕ). BytesPlay k true s n c.args.piece.now r.0 r.1) e r.2; stands = r.3; out = r.4 }
 
-pub returns-in_err-append_to_caller-clause-asks : goal.returns-in_err-append_to_caller-clause-asks
-returns-in_err-append_to_caller-clause-asks c = on_err c.from_residual.result _ (inr (inl c.in_err-append_to_caller.ensures.asks))
+pub returns-in_err-append_to-clause-asks : goal.returns-in_err-append_to-clause-asks
+returns-in_err-append_to-clause-asks c = on_err c.from_residual.result _ (inr (inl c.in_err-append_to.ensures.asks))
 
 pub returns-in_err-caller_goes_on-clause-asks : goal.returns-in_err-caller_goes_on-clause-asks
 returns-in_err-caller_goes_on-clause-asks c =
@@ -56,8 +56,8 @@ returns-in_err-caller_goes_on-clause-asks c =
     let n = c.requires.there.number in
     let m = c.requires.there.seat in
     let lt : c.index_of.result < length i.callers.items = omega (arith, n, m, e, many) in
-    let at = c.in_ok-append_to_caller.ensures.ok ∙ ap (option_map (with_more c.args.piece.now)) (c.index_mut-occupant.ensures.value ∙ get_or-any i.callers.items c.index_of.result _ None lt) in
+    let at = c.in_ok-append_to.ensures.ok ∙ ap (option_map (with_more c.args.piece.now)) (c.index_mut-occupant.ensures.value ∙ get_or-any i.callers.items c.index_of.result _ None lt) in
     let now = set i.callers.items c.index_of.result c.caller_goes_on.new.occupant in
     on_err c.from_residual-in_err-caller_goes_on.result _ (inr (subst (λ (x : House). (0 < length c.args.piece.now) ⊎ CallerWants (get_or x.callers (c.args.connection - 1) None) (get_or now (c.args.connection - 1) None)) c.self.view_is
     (subst (λ (n : ℕ). (0 < length c.args.piece.now) ⊎ CallerWants (get_or i.callers.items n None) (get_or now n None)) e
-    (caller_wants i.callers.items c.index_of.result c.args.piece.now c.append_to_caller.new.occupant c.caller_goes_on.new.occupant lt at c.in_err-caller_goes_on.ensures.works))))
+    (caller_wants i.callers.items c.index_of.result c.args.piece.now c.append_to.new.occupant c.caller_goes_on.new.occupant lt at c.in_err-caller_goes_on.ensures.works))))
