@@ -1,4 +1,5 @@
 pub mod Places
+pub mod Occupants
 pub mod Serving
 pub mod Served
 pub mod Seats

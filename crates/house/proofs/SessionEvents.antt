@@ -1,6 +1,5 @@
 -- What happens to sessions, over the whole house: who enters, what is said, who leaves, and the copies that are put and heard of.
 use Rattle.std.proofs.Common.{◌≡◌, ◌≢◌, ℕ, ◌+◌, ◌%◌, ◌<◌, ◌⊎◌, inl, inr, Bool, true, false, List, [], ◌∷◌, ◌++◌, length, refl, ap, sym, ◌∙◌, subst, arith, append_assoc, Option, Some, None, get_or, set, get_or-set_other, get_or-set_same, length-set, IsSome}
-use Rattle.std.specs.Prelude.{IsSomeAnd, MatchOption}
 use Rattle.delivery_token.specs.Keys.{AtLeast, Precedes, past}
 use Rattle.delivery_token.specs.Log.{heard_at_once}
 use Rattle.delivery_token.specs.declared.CopyKey.{CopyKey}
@@ -288,12 +287,6 @@ heard_led k whole h s place g c d r x q old new st lt some follows hears nexts s
 
 pub hear_changes_nothing : (k : Setup) (h : House) (s : Scene) (place : ℕ) (t : Scene) (printed : List ℕ) → StandsFor k h s → ((x : Config) → core.ChangesNothing x h.core (world.Hear (session_seat k place))) → SessionHears k true s place t printed → ⊥
 hear_changes_nothing k h s place t printed st still p = hear_moves s.world (session_seat k place) p.moved p.step (still k.config s.world p.moved st.core p.step)
-
--- the session at a place heard it
-pub heard_at : (o p : Option SeatedSession) (r : Noted) (g : SeatedSession) → o ≡ Some g → MatchOption o (p ≡ None) (λ x. IsSomeAnd p (HearsVerdict x r)) → (q : SeatedSession) × (p ≡ Some q) × HearsVerdict g r q
-heard_at None p r g e m = absurd (let x : None ≡ Some g = e in cc)
-heard_at (Some h) None r g e m = absurd m
-heard_at (Some h) (Some q) r g e m = let x : h ≡ g = cc in (q, refl, subst (λ (z : SeatedSession). HearsVerdict z r q) x m)
 
 -- ---- at a session's seat nobody else puts or hears
 

@@ -1,6 +1,5 @@
 -- A put and a hearing, over the whole house.
 use Rattle.std.proofs.Common.{◌≡◌, ℕ, ◌+◌, ◌%◌, ◌<◌, ◌⊎◌, inl, inr, Bool, true, List, [], ◌∷◌, ◌++◌, length, refl, ap, sym, ◌∙◌, subst, arith, Option, Some, None, get_or, set, length-append, drop, get_or-set_other, get_or-set_same}
-use Rattle.std.specs.Prelude.{IsSomeAnd, MatchOption}
 use Rattle.delivery_token.specs.Keys.{Precedes, AtLeast, past}
 use Rattle.delivery_token.specs.declared.CopyKey.{CopyKey}
 use Rattle.delivery_token.specs.declared.Job.{Job}
@@ -147,12 +146,6 @@ heard_led k h s number seat directory g c r q l whole old new st e dir lt some f
 
 pub hear_changes_nothing : (k : Setup) (h : House) (s : Scene) (seat : ℕ) (t : Scene) (printed : List ℕ) → StandsFor k h s → ((x : Config) → core.ChangesNothing x h.core (world.Hear seat)) → ConnectionHears k true s seat t printed → ⊥
 hear_changes_nothing k h s seat t printed st still p = hear_moves s.world seat p.moved p.step (still k.config s.world p.moved st.core p.step)
-
--- who stands at a seat heard it
-pub heard_at : (o p : Option HouseConnection) (r : Noted) (g : HouseConnection) → o ≡ Some g → MatchOption o (p ≡ None) (λ h. IsSomeAnd p (HearsVerdict h r)) → (q : HouseConnection) × (p ≡ Some q) × HearsVerdict g r q
-heard_at None p r g e m = absurd (let x : None ≡ Some g = e in cc)
-heard_at (Some h) None r g e m = absurd m
-heard_at (Some h) (Some q) r g e m = let x : h ≡ g = cc in (q, refl, subst (λ (z : HouseConnection). HearsVerdict z r q) x m)
 
 -- ---- at a connection's seat nobody else puts or hears
 

@@ -1,7 +1,7 @@
 -- What a session does over the delivery core, as what it does in the scene; and a house whose session at one place went on.
 use Rattle.std.proofs.Common.{◌≡◌, ◌≢◌, ℕ, ◌+◌, ◌-◌, ◌<◌, ◌≤◌, ◌⊎◌, inl, inr, Bool, true, false, eqb, List, [], length, get_or, set, zero, suc, append-nil, length-set, get_or-set_same, get_or-set_other, refl, sym, ap, ◌∙◌, subst, arith, Option, Some, None}
 use Rattle.std.specs.Prelude.{◌↔◌, IsTrue}
-use Rattle.std.specs.Option.{is_some}
+
 use Rattle.std.proofs.lemmas.Bool.{cases_lt}
 use Rattle.std.proofs.lemmas.Bool.Decides.{eqb_tells}
 use Rattle.delivery_token.specs.Keys.{AtLeast}
@@ -255,10 +255,6 @@ at_place k h s place y p st lt e =
     let w = (st.visitors place y 0 None lt).who in
     is_at k s place (get_or h.core.next (session_seat k place) y) p (s.visitor place) refl
     (subst (λ (x : Option SeatedSession). StandsForVisit (session_seat k place) (get_or h.core.next (session_seat k place) y) (s.world.heard (session_seat k place)) (s.entered place) x (s.visitor place)) e w)
-
-pub some_seat : (o : Option SeatedSession) → is_some o ≡ true → (p : SeatedSession) × (o ≡ Some p)
-some_seat None e = absurd (let f : false ≡ true = e in cc)
-some_seat (Some p) e = (p, refl)
 
 -- there is such a session, where the test says so
 pub has_place : (h : House) (session : ℕ) (b : Bool) → (IsTrue b) ↔ IsNoPlace h session → b ≡ false → (0 < session) × (session ≤ length h.visitors)

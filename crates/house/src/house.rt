@@ -19,7 +19,7 @@ ghost use Rattle.house.specs.declared.event.Event.TheVariants as events;
 
 use crate::core_store::CoreStore;
 use crate::event::{Event, HouseFault};
-use crate::peer::{append_to, hears, is_left, notes_put, put_next, vanishes};
+use crate::peer::{Seats, append_to, hears, is_left, notes_put, put_next, vanishes};
 use crate::printing::proceed;
 use budget::Budget;
 use delivery_core::{Fault, HearFault};
@@ -34,10 +34,8 @@ use std::marker::Model;
 #[derive(Drop)]
 pub struct House {
     pub(crate) store: CoreStore,
-    pub(crate) callers: Vec<Option<HouseConnection>>,
-    pub(crate) serials: Vec<u64>,
-    pub(crate) visitors: Vec<Option<SeatedSession>>,
-    pub(crate) entered: Vec<u64>,
+    pub(crate) connections: Seats<HouseConnection>,
+    pub(crate) sessions: Seats<SeatedSession>,
     pub(crate) directory: Directory,
     pub(crate) host: Vec<u8>,
     pub(crate) max_message: usize,
@@ -53,19 +51,22 @@ impl Model for House {
 
     ghost view = { λ h. record {
       core = h.store.core;
-      callers = h.callers.items;
-      serials = h.serials.items;
-      visitors = h.visitors.items;
-      entered = h.entered.items;
+      callers = h.connections.peers.items;
+      serials = h.connections.serials.items;
+      visitors = h.sessions.peers.items;
+      entered = h.sessions.serials.items;
       directory = h.directory;
       host = h.host.items;
       max_message = h.max_message;
       compatible = h.compatible;
     } };
 
-    ghost invariant = { λ h. (length h.serials.items ≡ length h.callers.items) × (length h.host.items < 256)
-        × (length h.callers.items + length h.visitors.items < 256)
-        × (length h.entered.items ≡ length h.visitors.items) × (h.max_message < 4294967296) };
+    ghost invariant = { λ h.
+        (length h.connections.serials.items ≡ length h.connections.peers.items)
+        × (length h.host.items < 256)
+        × (length h.connections.peers.items + length h.sessions.peers.items < 256)
+        × (length h.sessions.serials.items ≡ length h.sessions.peers.items)
+        × (h.max_message < 4294967296) };
 }
 
 // The seat of a connection or the place of a session, which are numbered from 1, among all of its kind.
@@ -139,7 +140,7 @@ impl House {
         ensures asks { OnErr result
             (MayWant (events.Bytes connection piece.entry) self.old self.new) }
     {
-        let occupant = &mut self.callers[index_of(connection)];
+        let occupant = &mut self.connections.peers[index_of(connection)];
         append_to(occupant, piece)?;
         caller_goes_on(occupant, connection, &self.directory, out)?;
         Ok(())
@@ -149,7 +150,7 @@ impl House {
         requires there { IsRead self.old connection }
         ensures { Follows self.old (events.Vanish connection) self.new out.old.items out.new.items }
     {
-        let occupant = &mut self.callers[index_of(connection)];
+        let occupant = &mut self.connections.peers[index_of(connection)];
         vanishes(occupant);
         // Nobody is told anything any more, so this asks for no memory.
         let _ = caller_goes_on(occupant, connection, &self.directory, out);
@@ -169,7 +170,7 @@ impl House {
             (MayWant (events.Bytes connection piece.entry) self.old self.new) }
     {
         let seat = index_of(connection);
-        let serial = self.serials[seat];
+        let serial = self.connections.serials[seat];
         let limits = Limits {
             host: &self.host,
             max_message: self.max_message,
@@ -182,8 +183,8 @@ impl House {
             limits,
             piece,
         )?;
-        self.serials[seat] = serial + 1;
-        let occupant = &mut self.callers[seat];
+        self.connections.serials[seat] = serial + 1;
+        let occupant = &mut self.connections.peers[seat];
         *occupant = Some(caller);
         caller_goes_on(occupant, connection, &self.directory, out)?;
         Ok(())
@@ -208,8 +209,8 @@ impl House {
             → OnErr result ((self.new ≡ self.old) × (out.new.items ≡ out.old.items)) }
     {
         let seat = index_of(connection);
-        let why = put_next(&mut self.store.core, &self.callers[seat])?;
-        let occupant = &mut self.callers[seat];
+        let why = put_next(&mut self.store.core, &self.connections.peers[seat])?;
+        let occupant = &mut self.connections.peers[seat];
         notes_put(occupant, why);
         caller_goes_on(occupant, connection, &self.directory, out)?;
         Ok(())
@@ -235,7 +236,7 @@ impl House {
             → OnErr result ((self.new ≡ self.old) × (out.new.items ≡ out.old.items)) }
     {
         let seat = index_of(connection);
-        if self.callers[seat].is_none() {
+        if self.connections.peers[seat].is_none() {
             return Err(HouseFault::Nobody);
         }
         let noted = match self.store.core.hear(connection - 1) {
@@ -244,7 +245,7 @@ impl House {
             Err(HearFault::Nothing) => return Err(HouseFault::Nothing),
             Err(HearFault::Nobody) => return Err(HouseFault::Nobody),
         };
-        let occupant = &mut self.callers[seat];
+        let occupant = &mut self.connections.peers[seat];
         hears(occupant, &noted);
         caller_goes_on(occupant, connection, &self.directory, out)?;
         Ok(())
@@ -378,7 +379,7 @@ impl House {
     fn has_no_seat(&self, connection: u8) -> bool
         ensures { IsTrue result ↔ IsNoSeat self.now connection }
     {
-        connection == 0 || usize::from(connection) > self.callers.len()
+        connection == 0 || usize::from(connection) > self.connections.peers.len()
     }
 
     // Bytes came from the peer of a connection.
@@ -403,13 +404,13 @@ impl House {
             return Err(HouseFault::Nobody);
         }
         let seat = index_of(connection);
-        if is_left(&self.callers[seat]) {
+        if is_left(&self.connections.peers[seat]) {
             return Err(HouseFault::Busy);
         }
-        if self.callers[seat].is_some() {
+        if self.connections.peers[seat].is_some() {
             return self.receive(connection, piece, out);
         }
-        if self.serials[seat] == u64::MAX {
+        if self.connections.serials[seat] == u64::MAX {
             return Err(HouseFault::Nobody);
         }
         self.welcome(connection, piece, out)
@@ -430,10 +431,10 @@ impl House {
             return Err(HouseFault::Nobody);
         }
         let seat = index_of(connection);
-        if self.callers[seat].is_none() {
+        if self.connections.peers[seat].is_none() {
             return Err(HouseFault::Nobody);
         }
-        if is_left(&self.callers[seat]) {
+        if is_left(&self.connections.peers[seat]) {
             return Err(HouseFault::Busy);
         }
         self.lose(connection, out);
@@ -446,7 +447,7 @@ impl House {
     {
         let number = usize::from(number);
         number == 0
-            || number > self.callers.len() + self.visitors.len()
+            || number > self.connections.peers.len() + self.sessions.peers.len()
             || number > self.store.core.seats()
     }
 
@@ -518,7 +519,7 @@ impl House {
         if self.has_no_number(number) {
             return Err(HouseFault::Nobody);
         }
-        if usize::from(number) > self.callers.len() {
+        if usize::from(number) > self.connections.peers.len() {
             return self.put_of_session(number, out);
         }
         self.put_of_connection(number, out)
@@ -544,7 +545,7 @@ impl House {
         if self.has_no_number(number) {
             return Err(HouseFault::Nobody);
         }
-        if usize::from(number) > self.callers.len() {
+        if usize::from(number) > self.connections.peers.len() {
             return self.hear_of_session(number, out);
         }
         self.hear_of_connection(number, out)

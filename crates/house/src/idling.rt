@@ -102,7 +102,7 @@ impl House {
         if self.has_no_place(session) {
             return Err(HouseFault::Nobody);
         }
-        let place = &mut self.visitors[index_of(session)];
+        let place = &mut self.sessions.peers[index_of(session)];
         let Some(visitor) = place else {
             return Err(HouseFault::Nobody);
         };
@@ -145,7 +145,7 @@ impl House {
             StintsBreakOff k (idle_turns k.config.sessions) s t printed) self.old out.old.items
             self.new out.new.items) }
     {
-        let sessions = self.visitors.len() as u8;
+        let sessions = self.sessions.peers.len() as u8;
         for place in 0..sessions {
             self.idle_out(place + 1, out)?;
         }

@@ -1,7 +1,7 @@
 //! The making of a house from its settings: its parts, each as large as the settings say. What it does then is told in `house`, what
 //! the settings are in the crate `settings`.
 
-ghost use Rattle.std.specs.Prelude.{◌≡◌, ◌⊎◌, max, IfOk, IfSome, IsOkUnless, Err, None, replicate};
+ghost use Rattle.std.specs.Prelude.{◌≡◌, ◌⊎◌, max, IfOk, IfSome, IsOkUnless, Err, None};
 ghost use Rattle.delivery_core.specs.New.{IsNewBox};
 ghost use Rattle.delivery_core.specs.Stands.{EachAt};
 ghost use Rattle.house.specs.Scene.{empty_scene};
@@ -11,39 +11,17 @@ ghost use Rattle.house.specs.Stands.{StandsFor};
 
 use crate::core_store::CoreStore;
 use crate::house::House;
+use crate::peer::Seats;
 use delivery_core::{DeliveryCore, Settings};
-use house_peers::{HouseConnection, SeatedSession};
 use mailbox::Limits;
 use settings::{Config, ConfigFault, directory_of};
-use std::alloc::{AllocError, Global};
+use std::alloc::Global;
 
 /// So many connections may stand at a time. Their seats come first.
 const CONNECTION_SEATS: u8 = 8;
 
 /// So many sessions may be there at a time. Their seats are behind those of connections.
 const PLACES: u8 = 8;
-
-// At each seat nobody.
-fn empty_seats(alloc: Global) -> Result<Vec<Option<HouseConnection>>, AllocError>
-    ensures { IfOk result (λ v. v.items ≡ replicate CONNECTION_SEATS None) }
-{
-    let mut seats = Vec::new(alloc);
-    for _seat in 0..CONNECTION_SEATS {
-        seats.push(None)?;
-    }
-    Ok(seats)
-}
-
-// At each place nobody.
-fn free_places(alloc: Global) -> Result<Vec<Option<SeatedSession>>, AllocError>
-    ensures { IfOk result (λ v. v.items ≡ replicate PLACES None) }
-{
-    let mut places = Vec::new(alloc);
-    for _place in 0..PLACES {
-        places.push(None)?;
-    }
-    Ok(places)
-}
 
 impl House {
     /// A house of these settings, with nobody at its seats and places and nothing in its mailboxes.
@@ -94,10 +72,8 @@ impl House {
                 core: DeliveryCore::new(alloc, settings)?,
                 session: 0,
             },
-            callers: empty_seats(alloc)?,
-            serials: vec![in alloc; 0; usize::from(CONNECTION_SEATS)]?,
-            visitors: free_places(alloc)?,
-            entered: vec![in alloc; 0; usize::from(PLACES)]?,
+            connections: Seats::empty(alloc, CONNECTION_SEATS)?,
+            sessions: Seats::empty(alloc, PLACES)?,
             directory,
             host: Vec::from_slice(alloc, &config.host)?,
             max_message: config.max_message,

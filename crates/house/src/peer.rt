@@ -1,7 +1,7 @@
 //! Who is at a seat: what a connection and a session have in common there. Bytes wait for both, both put copies and hear of them, and the peer of
 //! either may be gone. What each says, and when it leaves, is told in `house` and in `sessions`.
 
-ghost use Rattle.std.specs.Prelude.{◌≡◌, ◌≢◌, ◌↔◌, ◌<◌, ◌≤◌, ◌+◌, ◌∷◌, ℕ, Bool, List, [], Option, None, Some, Err, OnOk, OnErr, IfOk, IfSome, IsSomeAnd, MatchOption, length, option_map};
+ghost use Rattle.std.specs.Prelude.{◌≡◌, ◌≢◌, ◌↔◌, ◌<◌, ◌≤◌, ◌+◌, ◌∷◌, ℕ, Bool, List, [], Option, None, Some, Err, OnOk, OnErr, IfOk, IfSome, IsSomeAnd, MatchOption, length, option_map, replicate};
 ghost use Rattle.delivery_core.specs.Load.{load};
 ghost use Rattle.delivery_token.specs.declared.Job.{Job};
 ghost use Rattle.delivery_token.specs.declared.Verdict.{Verdict};
@@ -16,7 +16,7 @@ use crate::event::HouseFault;
 use delivery_core::DeliveryCore;
 use delivery_token::{NextCopy, Noted, Refusal, Verdict};
 use house_peers::{HouseConnection, SeatedSession};
-use std::alloc::AllocError;
+use std::alloc::{AllocError, Global};
 
 /// Who may be at a seat.
 pub(crate) trait Peer {
@@ -138,6 +138,30 @@ impl Peer for SeatedSession {
 
     fn hear(&mut self, noted: &Noted) {
         SeatedSession::hear(self, noted);
+    }
+}
+
+/// The seats of one kind of peer, which are numbered from 1.
+#[derive(Drop)]
+pub(crate) struct Seats<P> {
+    // Who is at each.
+    pub(crate) peers: Vec<Option<P>>,
+    // The serial of whoever comes next to each.
+    pub(crate) serials: Vec<u64>,
+}
+
+impl<P: Drop> Seats<P> {
+    // So many seats, where nobody was yet.
+    pub(crate) fn empty(alloc: Global, count: u8) -> Result<Seats<P>, AllocError>
+        ensures peers { IfOk result (λ s. s.peers.items ≡ replicate count None) }
+        ensures serials { IfOk result (λ s. s.serials.items ≡ replicate count 0) }
+    {
+        let mut peers = Vec::new(alloc);
+        for _seat in 0..count {
+            peers.push(None)?;
+        }
+        let serials = vec![in alloc; 0; usize::from(count)]?;
+        Ok(Seats { peers, serials })
     }
 }
 

@@ -138,7 +138,7 @@ impl House {
     pub(crate) fn has_no_place(&self, session: u8) -> bool
         ensures { IsTrue result ↔ IsNoPlace self.now session }
     {
-        session == 0 || usize::from(session) > self.visitors.len()
+        session == 0 || usize::from(session) > self.sessions.peers.len()
     }
 
     // The seat of a session: behind those of connections.
@@ -146,7 +146,7 @@ impl House {
         requires there { (0 < session) × (session ≤ length self.now.visitors) }
         ensures { result ≡ length self.now.callers + (session - 1) }
     {
-        self.callers.len() as u8 + (session - 1)
+        self.connections.peers.len() as u8 + (session - 1)
     }
 
     // A user opens a session at a place where nobody is, with the serial that is next there.
@@ -162,15 +162,15 @@ impl House {
     {
         let place = index_of(session);
         let seat = self.session_seat(session);
-        let serial = self.entered[place];
+        let serial = self.sessions.serials[place];
         let alloc = *self.host.allocator();
         let folders = folders_of(alloc, &self.directory, user)?;
         let max_message = Some(self.max_message as u32);
         let budget = Budget::unlimited();
         let admission = admission_of(alloc, self.compatible, max_message, user, budget)?;
         let visitor = admitted(alloc, seat, serial, folders, admission)?;
-        self.entered[place] = serial + 1;
-        let here = &mut self.visitors[place];
+        self.sessions.serials[place] = serial + 1;
+        let here = &mut self.sessions.peers[place];
         *here = Some(visitor);
         visitor_talks(here, alloc, session, &mut self.store, out)?;
         Ok(())
@@ -201,10 +201,10 @@ impl House {
             return Err(HouseFault::Nobody);
         }
         let place = index_of(session);
-        if self.visitors[place].is_some() {
+        if self.sessions.peers[place].is_some() {
             return Err(HouseFault::Busy);
         }
-        if self.entered[place] == u64::MAX {
+        if self.sessions.serials[place] == u64::MAX {
             return Err(HouseFault::Nobody);
         }
         self.admit(session, user, out)
@@ -222,7 +222,7 @@ impl House {
             out.new.items) }
         ensures asks { OnErr result (MayWant (events.Say session piece.entry) self.old self.new) }
     {
-        let place = &mut self.visitors[index_of(session)];
+        let place = &mut self.sessions.peers[index_of(session)];
         append_to(place, piece)?;
         let alloc = *self.host.allocator();
         visitor_talks(place, alloc, session, &mut self.store, out)?;
@@ -256,10 +256,10 @@ impl House {
             return Err(HouseFault::Nobody);
         }
         let place = index_of(session);
-        if self.visitors[place].is_none() {
+        if self.sessions.peers[place].is_none() {
             return Err(HouseFault::Nobody);
         }
-        if is_left(&self.visitors[place]) {
+        if is_left(&self.sessions.peers[place]) {
             return Err(HouseFault::Busy);
         }
         self.listen(session, piece, out)
@@ -273,7 +273,7 @@ impl House {
     {
         self.store.session = session - 1;
         let _ = self.store.leave(false);
-        let place = &mut self.visitors[index_of(session)];
+        let place = &mut self.sessions.peers[index_of(session)];
         vanishes(place);
         visitor_lingers(place);
     }
@@ -293,10 +293,10 @@ impl House {
             return Err(HouseFault::Nobody);
         }
         let place = index_of(session);
-        if self.visitors[place].is_none() {
+        if self.sessions.peers[place].is_none() {
             return Err(HouseFault::Nobody);
         }
-        if is_left(&self.visitors[place]) {
+        if is_left(&self.sessions.peers[place]) {
             return Err(HouseFault::Busy);
         }
         self.part(session);
@@ -321,10 +321,10 @@ impl House {
         ensures refused { result ≢ Err HouseFault.NoMemory
             → OnErr result ((self.new ≡ self.old) × (out.new.items ≡ out.old.items)) }
     {
-        let session = number - self.callers.len() as u8;
+        let session = number - self.connections.peers.len() as u8;
         let place = index_of(session);
-        let why = put_next(&mut self.store.core, &self.visitors[place])?;
-        let here = &mut self.visitors[place];
+        let why = put_next(&mut self.store.core, &self.sessions.peers[place])?;
+        let here = &mut self.sessions.peers[place];
         notes_put(here, why);
         let alloc = *self.host.allocator();
         visitor_goes_on(here, alloc, session, &mut self.store, out)?;
@@ -354,9 +354,9 @@ impl House {
         ensures refused { result ≢ Err HouseFault.NoMemory
             → OnErr result ((self.new ≡ self.old) × (out.new.items ≡ out.old.items)) }
     {
-        let session = number - self.callers.len() as u8;
+        let session = number - self.connections.peers.len() as u8;
         let place = index_of(session);
-        if self.visitors[place].is_none() {
+        if self.sessions.peers[place].is_none() {
             return Err(HouseFault::Nobody);
         }
         let noted = match self.store.core.hear(number - 1) {
@@ -365,7 +365,7 @@ impl House {
             Err(HearFault::Nothing) => return Err(HouseFault::Nothing),
             Err(HearFault::Nobody) => return Err(HouseFault::Nobody),
         };
-        let here = &mut self.visitors[place];
+        let here = &mut self.sessions.peers[place];
         hears(here, &noted);
         let alloc = *self.host.allocator();
         visitor_goes_on(here, alloc, session, &mut self.store, out)?;

@@ -66,7 +66,7 @@ impl House {
             ends k.config.seats shard) self.old out.old.items self.new out.new.items result }
         ensures marks { self.new.directory ≡ self.old.directory }
     {
-        let seats = (self.callers.len() + self.visitors.len()) as u8;
+        let seats = (self.connections.peers.len() + self.sessions.peers.len()) as u8;
         let mut moved = false;
         for seat in 0..seats {
             let one = self.stint(
@@ -117,7 +117,7 @@ impl House {
         ensures came { CameStints (λ k. Unit {0}) (λ k.
             puts k.config.seats) self.old out.old.items self.new out.new.items result }
     {
-        let seats = (self.callers.len() + self.visitors.len()) as u8;
+        let seats = (self.connections.peers.len() + self.sessions.peers.len()) as u8;
         let mut moved = false;
         for seat in 0..seats {
             let one = self.stint(&[Event::Put(seat + 1)], out)?;
@@ -166,7 +166,7 @@ impl House {
         ensures came { CameStints (λ k. Unit {0}) (λ k.
             hears k.config.seats) self.old out.old.items self.new out.new.items result }
     {
-        let seats = (self.callers.len() + self.visitors.len()) as u8;
+        let seats = (self.connections.peers.len() + self.sessions.peers.len()) as u8;
         let mut moved = false;
         for seat in 0..seats {
             let one = self.stint(&[Event::Hear(seat + 1)], out)?;

@@ -12,21 +12,22 @@ use Rattle.house.proofs.SessionEvents.{said, somebody}
 use Rattle.house.proofs.Settlement.{on_err}
 use Rattle.house.specs.Steps.{VisitorWants}
 use Rattle.house.proofs.Wanting.{visitor_wants}
+use Rattle.house.specs.contracts.house.House.{the_view}
 use Rattle.house.proofs.house.House.listen.Goals as goal
 
 pub returns-in_err-visitor_talks-clause-no_memory : goal.returns-in_err-visitor_talks-clause-no_memory
 returns-in_err-visitor_talks-clause-no_memory c =
     on_err c.from_residual-in_err-visitor_talks.result _ λ k s st.
     let i = c.self.inside in
-    let h : House = record { core = i.store.core; callers = i.callers.items; serials = i.serials.items; visitors = i.visitors.items; entered = i.entered.items; directory = i.directory; host = i.host.items; max_message = i.max_message; compatible = i.compatible } in
+    let h : House = the_view i in
     let st1 = subst (λ (x : House). StandsFor k x s) (sym c.self.view_is) st in
     let many = ap (λ (x : House). length x.visitors) c.self.view_is in
     let e1 = c.index_of.ensures in
-    let lt : c.index_of.result < length i.visitors.items = let n = c.requires.there.number in let m = c.requires.there.place in omega (arith, e1, many, n, m) in
-    let who = subst (λ (n : ℕ). IsSome (get_or i.visitors.items n None)) (sym e1) (subst (λ (x : House). IsSome (get_or x.visitors (c.args.session - 1) None)) (sym c.self.view_is) c.requires.there.who) in
-    let read = subst (λ (n : ℕ). is_left (get_or i.visitors.items n None) ≡ false) (sym e1) (subst (λ (x : House). is_left (get_or x.visitors (c.args.session - 1) None) ≡ false) (sym c.self.view_is) c.requires.there.read) in
-    let g = somebody (get_or i.visitors.items c.index_of.result None) who read in
-    let at = c.in_ok-append_to.ensures.ok ∙ ap (option_map (with_more_came c.args.piece.now)) (c.index_mut-place.ensures.value ∙ get_or-any i.visitors.items c.index_of.result _ None lt ∙ g.1) in
+    let lt : c.index_of.result < length i.sessions.peers.items = let n = c.requires.there.number in let m = c.requires.there.place in omega (arith, e1, many, n, m) in
+    let who = subst (λ (n : ℕ). IsSome (get_or i.sessions.peers.items n None)) (sym e1) (subst (λ (x : House). IsSome (get_or x.visitors (c.args.session - 1) None)) (sym c.self.view_is) c.requires.there.who) in
+    let read = subst (λ (n : ℕ). is_left (get_or i.sessions.peers.items n None) ≡ false) (sym e1) (subst (λ (x : House). is_left (get_or x.visitors (c.args.session - 1) None) ≡ false) (sym c.self.view_is) c.requires.there.read) in
+    let g = somebody (get_or i.sessions.peers.items c.index_of.result None) who read in
+    let at = c.in_ok-append_to.ensures.ok ∙ ap (option_map (with_more_came c.args.piece.now)) (c.index_mut-place.ensures.value ∙ get_or-any i.sessions.peers.items c.index_of.result _ None lt ∙ g.1) in
     let r = said k false h s c.index_of.result c.args.piece.now g.0 c.visitor_talks.new.place c.visitor_talks.new.store.core c.args.out.now.items c.visitor_talks.new.out.items st1 lt g.1 g.2 c.visitor_talks.ensures.delivery
     (λ next heard w b stands is. subst (λ (n : ℕ). PlaceTalked k false n next heard w b c.visitor_talks.new.place c.visitor_talks.new.store.core c.args.out.now.items c.visitor_talks.new.out.items) (sym e1)
     (c.in_err-visitor_talks.ensures.err k next heard w b stands (subst (λ (n : ℕ). StandsForSomebody (session_seat k n) next heard c.append_to.new.place (Some b)) e1 (subst (λ (o : Option SeatedSession). StandsForSomebody (session_seat k c.index_of.result) next heard o (Some b)) (sym at) is)))) in
@@ -35,15 +36,15 @@ returns-in_err-visitor_talks-clause-no_memory c =
 pub returns-clause-follows : goal.returns-clause-follows
 returns-clause-follows c k s st =
     let i = c.self.inside in
-    let h : House = record { core = i.store.core; callers = i.callers.items; serials = i.serials.items; visitors = i.visitors.items; entered = i.entered.items; directory = i.directory; host = i.host.items; max_message = i.max_message; compatible = i.compatible } in
+    let h : House = the_view i in
     let st1 = subst (λ (x : House). StandsFor k x s) (sym c.self.view_is) st in
     let many = ap (λ (x : House). length x.visitors) c.self.view_is in
     let e1 = c.index_of.ensures in
-    let lt : c.index_of.result < length i.visitors.items = let n = c.requires.there.number in let m = c.requires.there.place in omega (arith, e1, many, n, m) in
-    let who = subst (λ (n : ℕ). IsSome (get_or i.visitors.items n None)) (sym e1) (subst (λ (x : House). IsSome (get_or x.visitors (c.args.session - 1) None)) (sym c.self.view_is) c.requires.there.who) in
-    let read = subst (λ (n : ℕ). is_left (get_or i.visitors.items n None) ≡ false) (sym e1) (subst (λ (x : House). is_left (get_or x.visitors (c.args.session - 1) None) ≡ false) (sym c.self.view_is) c.requires.there.read) in
-    let g = somebody (get_or i.visitors.items c.index_of.result None) who read in
-    let at = c.in_ok-append_to.ensures.ok ∙ ap (option_map (with_more_came c.args.piece.now)) (c.index_mut-place.ensures.value ∙ get_or-any i.visitors.items c.index_of.result _ None lt ∙ g.1) in
+    let lt : c.index_of.result < length i.sessions.peers.items = let n = c.requires.there.number in let m = c.requires.there.place in omega (arith, e1, many, n, m) in
+    let who = subst (λ (n : ℕ). IsSome (get_or i.sessions.peers.items n None)) (sym e1) (subst (λ (x : House). IsSome (get_or x.visitors (c.args.session - 1) None)) (sym c.self.view_is) c.requires.there.who) in
+    let read = subst (λ (n : ℕ). is_left (get_or i.sessions.peers.items n None) ≡ false) (sym e1) (subst (λ (x : House). is_left (get_or x.visitors (c.args.session - 1) None) ≡ false) (sym c.self.view_is) c.requires.there.read) in
+    let g = somebody (get_or i.sessions.peers.items c.index_of.result None) who read in
+    let at = c.in_ok-append_to.ensures.ok ∙ ap (option_map (with_more_came c.args.piece.now)) (c.index_mut-place.ensures.value ∙ get_or-any i.sessions.peers.items c.index_of.result _ None lt ∙ g.1) in
     let r = said k true h s c.index_of.result c.args.piece.now g.0 c.visitor_talks.new.place c.visitor_talks.new.store.core c.args.out.now.items c.visitor_talks.new.out.items st1 lt g.1 g.2 c.visitor_talks.ensures.delivery
     (λ next heard w b stands is. subst (λ (n : ℕ). PlaceTalked k true n next heard w b c.visitor_talks.new.place c.visitor_talks.new.store.core c.args.out.now.items c.visitor_talks.new.out.items) (sym e1)
     (c.in_ok-visitor_talks.ensures.ok k next heard w b stands (subst (λ (n : ℕ). StandsForSomebody (session_seat k n) next heard c.append_to.new.place (Some b)) e1 (subst (λ (o : Option SeatedSession). StandsForSomebody (session_seat k c.index_of.result) next heard o (Some b)) (sym at) is)))) in
@@ -59,9 +60,9 @@ returns-in_err-visitor_talks-clause-asks c =
     let e = c.index_of.ensures in
     let n = c.requires.there.number in
     let m = c.requires.there.place in
-    let lt : c.index_of.result < length i.visitors.items = omega (arith, n, m, e, many) in
-    let at = c.in_ok-append_to.ensures.ok ∙ ap (option_map (with_more_came c.args.piece.now)) (c.index_mut-place.ensures.value ∙ get_or-any i.visitors.items c.index_of.result _ None lt) in
-    let now = set i.visitors.items c.index_of.result c.visitor_talks.new.place in
+    let lt : c.index_of.result < length i.sessions.peers.items = omega (arith, n, m, e, many) in
+    let at = c.in_ok-append_to.ensures.ok ∙ ap (option_map (with_more_came c.args.piece.now)) (c.index_mut-place.ensures.value ∙ get_or-any i.sessions.peers.items c.index_of.result _ None lt) in
+    let now = set i.sessions.peers.items c.index_of.result c.visitor_talks.new.place in
     on_err c.from_residual-in_err-visitor_talks.result _ (subst (λ (x : House). (0 < length c.args.piece.now) ⊎ VisitorWants (get_or x.visitors (c.args.session - 1) None) (get_or now (c.args.session - 1) None)) c.self.view_is
-    (subst (λ (n : ℕ). (0 < length c.args.piece.now) ⊎ VisitorWants (get_or i.visitors.items n None) (get_or now n None)) e
-    (visitor_wants i.visitors.items c.index_of.result c.args.piece.now c.append_to.new.place c.visitor_talks.new.place lt at c.in_err-visitor_talks.ensures.works)))
+    (subst (λ (n : ℕ). (0 < length c.args.piece.now) ⊎ VisitorWants (get_or i.sessions.peers.items n None) (get_or now n None)) e
+    (visitor_wants i.sessions.peers.items c.index_of.result c.args.piece.now c.append_to.new.place c.visitor_talks.new.place lt at c.in_err-visitor_talks.ensures.works)))

@@ -9,6 +9,7 @@ use Rattle.house.specs.Scene.{VanishPlay}
 use Rattle.house.specs.Stands.{StandsFor}
 use Rattle.house.specs.Steps.{is_unread}
 use Rattle.house.proofs.Events.{vanished}
+use Rattle.house.specs.contracts.house.House.{the_view}
 use Rattle.house.proofs.house.House.lose.Goals as goal
 
 -- a peer that is gone is told nothing, and memory may be asked for only for one that is there
@@ -20,15 +21,15 @@ sure P (Err fault) None after some e asks ok = absurd (true≢false (sym some))
 pub returns : goal.returns
 returns c k s st =
     let i = c.self.inside in
-    let h : House = record { core = i.store.core; callers = i.callers.items; serials = i.serials.items; visitors = i.visitors.items; entered = i.entered.items; directory = i.directory; host = i.host.items; max_message = i.max_message; compatible = i.compatible } in
+    let h : House = the_view i in
     let st1 = subst (λ (x : House). StandsFor k x s) (sym c.self.view_is) st in
     let many = ap (λ (x : House). length x.callers) c.self.view_is in
     let e = c.index_of.ensures in
-    let who = subst (λ (n : ℕ). IsSome (get_or i.callers.items n None)) (sym e) (subst (λ (x : House). IsSome (get_or x.callers (c.args.connection - 1) None)) (sym c.self.view_is) c.requires.there.who) in
-    let read = subst (λ (n : ℕ). is_unread (get_or i.callers.items n None) ≡ false) (sym e) (subst (λ (x : House). is_unread (get_or x.callers (c.args.connection - 1) None) ≡ false) (sym c.self.view_is) c.requires.there.read) in
+    let who = subst (λ (n : ℕ). IsSome (get_or i.connections.peers.items n None)) (sym e) (subst (λ (x : House). IsSome (get_or x.callers (c.args.connection - 1) None)) (sym c.self.view_is) c.requires.there.who) in
+    let read = subst (λ (n : ℕ). is_unread (get_or i.connections.peers.items n None) ≡ false) (sym e) (subst (λ (x : House). is_unread (get_or x.callers (c.args.connection - 1) None) ≡ false) (sym c.self.view_is) c.requires.there.read) in
     let number : c.args.connection ≡ c.index_of.result + 1 = let n = c.requires.there.number in omega (arith, n, e) in
-    let lt : c.index_of.result < length i.callers.items = let m = c.requires.there.seat in omega (arith, number, m, many) in
-    let at = c.vanishes.ensures ∙ ap (option_map with_nobody_there) (c.index_mut-occupant.ensures.value ∙ get_or-any i.callers.items c.index_of.result _ None lt) in
+    let lt : c.index_of.result < length i.connections.peers.items = let m = c.requires.there.seat in omega (arith, number, m, many) in
+    let at = c.vanishes.ensures ∙ ap (option_map with_nobody_there) (c.index_mut-occupant.ensures.value ∙ get_or-any i.connections.peers.items c.index_of.result _ None lt) in
     let went = sure _ c.caller_goes_on.result _ _ who at c.caller_goes_on.ensures.asks c.caller_goes_on.ensures.ok in
     let r = vanished k h s c.args.connection c.index_of.result i.directory c.caller_goes_on.new.occupant c.vanishes.new.occupant true c.args.out.now.items c.caller_goes_on.new.out.items st1
     number refl lt who read at went in

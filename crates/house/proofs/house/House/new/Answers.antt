@@ -1,4 +1,4 @@
-use Rattle.std.proofs.Common.{◌≡◌, ℕ, length, map, replicate, ap, ◌∙◌, refl, sym}
+use Rattle.std.proofs.Common.{◌≡◌, ℕ, length, map, ap, ◌∙◌, refl, sym}
 use Rattle.std.proofs.lemmas.List.{length-map}
 use Rattle.envelope.specs.Directory.{Directory}
 use Rattle.envelope.specs.Names.{home_of}
@@ -18,7 +18,6 @@ returns-clause-stands c =
     new_house config _
     (c.in_ok-new.ensures.stands (setup_of config).config
     (record { seats = refl; shards = refl; mailboxes = many; depth = refl; messages = refl; ring = refl; ring_max = refl; first_uid = refl; uidvalidity = refl; sessions = sym c.from.ensures }))
-    c.in_ok-new.ensures.next c.in_ok-empty_seats.ensures (c.in_ok-vec.ensures.items_if_clones_equal (λ y e. e) ∙ ap (λ (n : ℕ). replicate n 0) c.from-2.ensures) c.in_ok-free_places.ensures
-    (c.in_ok-vec-2.ensures.items_if_clones_equal (λ y e. e) ∙ ap (λ (n : ℕ). replicate n 0) c.from-3.ensures)
+    c.in_ok-new.ensures.next c.in_ok-empty.ensures.peers c.in_ok-empty.ensures.serials c.in_ok-empty-2.ensures.peers c.in_ok-empty-2.ensures.serials
     (c.directory.view_is ∙ made.directory)
     (c.in_ok-from_slice.ensures.items ∙ c.deref.ensures.value) refl refl c.requires.shards.0

@@ -10,21 +10,22 @@ use Rattle.house.proofs.Events.{received}
 use Rattle.house.proofs.Settlement.{on_err}
 use Rattle.house.specs.Steps.{CallerWants}
 use Rattle.house.proofs.Wanting.{caller_wants}
+use Rattle.house.specs.contracts.house.House.{the_view}
 use Rattle.house.proofs.house.House.receive.Goals as goal
 
 pub returns-in_err-caller_goes_on-clause-no_memory : goal.returns-in_err-caller_goes_on-clause-no_memory
 returns-in_err-caller_goes_on-clause-no_memory c =
     on_err c.from_residual-in_err-caller_goes_on.result _ λ k s st.
     let i = c.self.inside in
-    let h : House = record { core = i.store.core; callers = i.callers.items; serials = i.serials.items; visitors = i.visitors.items; entered = i.entered.items; directory = i.directory; host = i.host.items; max_message = i.max_message; compatible = i.compatible } in
+    let h : House = the_view i in
     let st1 = subst (λ (x : House). StandsFor k x s) (sym c.self.view_is) st in
     let many = ap (λ (x : House). length x.callers) c.self.view_is in
     let e = c.index_of.ensures in
-    let who = subst (λ (n : ℕ). IsSome (get_or i.callers.items n None)) (sym e) (subst (λ (x : House). IsSome (get_or x.callers (c.args.connection - 1) None)) (sym c.self.view_is) c.requires.there.who) in
-    let read = subst (λ (n : ℕ). is_unread (get_or i.callers.items n None) ≡ false) (sym e) (subst (λ (x : House). is_unread (get_or x.callers (c.args.connection - 1) None) ≡ false) (sym c.self.view_is) c.requires.there.read) in
+    let who = subst (λ (n : ℕ). IsSome (get_or i.connections.peers.items n None)) (sym e) (subst (λ (x : House). IsSome (get_or x.callers (c.args.connection - 1) None)) (sym c.self.view_is) c.requires.there.who) in
+    let read = subst (λ (n : ℕ). is_unread (get_or i.connections.peers.items n None) ≡ false) (sym e) (subst (λ (x : House). is_unread (get_or x.callers (c.args.connection - 1) None) ≡ false) (sym c.self.view_is) c.requires.there.read) in
     let number : c.args.connection ≡ c.index_of.result + 1 = let n = c.requires.there.number in omega (arith, n, e) in
-    let lt : c.index_of.result < length i.callers.items = let m = c.requires.there.seat in omega (arith, number, m, many) in
-    let at = c.in_ok-append_to.ensures.ok ∙ ap (option_map (with_more c.args.piece.now)) (c.index_mut-occupant.ensures.value ∙ get_or-any i.callers.items c.index_of.result _ None lt) in
+    let lt : c.index_of.result < length i.connections.peers.items = let m = c.requires.there.seat in omega (arith, number, m, many) in
+    let at = c.in_ok-append_to.ensures.ok ∙ ap (option_map (with_more c.args.piece.now)) (c.index_mut-occupant.ensures.value ∙ get_or-any i.connections.peers.items c.index_of.result _ None lt) in
     let r = received k h s c.args.connection c.index_of.result c.args.piece.now i.directory c.caller_goes_on.new.occupant c.append_to.new.occupant false c.args.out.now.items c.caller_goes_on.new.out.items st1
     number refl lt who read at c.in_err-caller_goes_on.ensures.err in
     inl (record { after = r.0; printed = r.1; plays = subst (λ (n : ℕ). BytesPlay k false s n c.args.piece.now r.0 r.1) e r.2; stands = r.3; out = r.4 })
@@ -32,15 +33,15 @@ returns-in_err-caller_goes_on-clause-no_memory c =
 pub returns-clause-follows : goal.returns-clause-follows
 returns-clause-follows c k s st =
     let i = c.self.inside in
-    let h : House = record { core = i.store.core; callers = i.callers.items; serials = i.serials.items; visitors = i.visitors.items; entered = i.entered.items; directory = i.directory; host = i.host.items; max_message = i.max_message; compatible = i.compatible } in
+    let h : House = the_view i in
     let st1 = subst (λ (x : House). StandsFor k x s) (sym c.self.view_is) st in
     let many = ap (λ (x : House). length x.callers) c.self.view_is in
     let e = c.index_of.ensures in
-    let who = subst (λ (n : ℕ). IsSome (get_or i.callers.items n None)) (sym e) (subst (λ (x : House). IsSome (get_or x.callers (c.args.connection - 1) None)) (sym c.self.view_is) c.requires.there.who) in
-    let read = subst (λ (n : ℕ). is_unread (get_or i.callers.items n None) ≡ false) (sym e) (subst (λ (x : House). is_unread (get_or x.callers (c.args.connection - 1) None) ≡ false) (sym c.self.view_is) c.requires.there.read) in
+    let who = subst (λ (n : ℕ). IsSome (get_or i.connections.peers.items n None)) (sym e) (subst (λ (x : House). IsSome (get_or x.callers (c.args.connection - 1) None)) (sym c.self.view_is) c.requires.there.who) in
+    let read = subst (λ (n : ℕ). is_unread (get_or i.connections.peers.items n None) ≡ false) (sym e) (subst (λ (x : House). is_unread (get_or x.callers (c.args.connection - 1) None) ≡ false) (sym c.self.view_is) c.requires.there.read) in
     let number : c.args.connection ≡ c.index_of.result + 1 = let n = c.requires.there.number in omega (arith, n, e) in
-    let lt : c.index_of.result < length i.callers.items = let m = c.requires.there.seat in omega (arith, number, m, many) in
-    let at = c.in_ok-append_to.ensures.ok ∙ ap (option_map (with_more c.args.piece.now)) (c.index_mut-occupant.ensures.value ∙ get_or-any i.callers.items c.index_of.result _ None lt) in
+    let lt : c.index_of.result < length i.connections.peers.items = let m = c.requires.there.seat in omega (arith, number, m, many) in
+    let at = c.in_ok-append_to.ensures.ok ∙ ap (option_map (with_more c.args.piece.now)) (c.index_mut-occupant.ensures.value ∙ get_or-any i.connections.peers.items c.index_of.result _ None lt) in
     let r = received k h s c.args.connection c.index_of.result c.args.piece.now i.directory c.caller_goes_on.new.occupant c.append_to.new.occupant true c.args.out.now.items c.caller_goes_on.new.out.items st1
     number refl lt who read at c.in_ok-caller_goes_on.ensures.ok in
     record { after = r.0; printed = r.1; plays = subst (λ (n : ℕ). BytesPlay k true s n c.args.piece.now r.0 r.1) e r.2; stands = r.3; out = r.4 }
@@ -55,9 +56,9 @@ returns-in_err-caller_goes_on-clause-asks c =
     let e = c.index_of.ensures in
     let n = c.requires.there.number in
     let m = c.requires.there.seat in
-    let lt : c.index_of.result < length i.callers.items = omega (arith, n, m, e, many) in
-    let at = c.in_ok-append_to.ensures.ok ∙ ap (option_map (with_more c.args.piece.now)) (c.index_mut-occupant.ensures.value ∙ get_or-any i.callers.items c.index_of.result _ None lt) in
-    let now = set i.callers.items c.index_of.result c.caller_goes_on.new.occupant in
+    let lt : c.index_of.result < length i.connections.peers.items = omega (arith, n, m, e, many) in
+    let at = c.in_ok-append_to.ensures.ok ∙ ap (option_map (with_more c.args.piece.now)) (c.index_mut-occupant.ensures.value ∙ get_or-any i.connections.peers.items c.index_of.result _ None lt) in
+    let now = set i.connections.peers.items c.index_of.result c.caller_goes_on.new.occupant in
     on_err c.from_residual-in_err-caller_goes_on.result _ (inr (subst (λ (x : House). (0 < length c.args.piece.now) ⊎ CallerWants (get_or x.callers (c.args.connection - 1) None) (get_or now (c.args.connection - 1) None)) c.self.view_is
-    (subst (λ (n : ℕ). (0 < length c.args.piece.now) ⊎ CallerWants (get_or i.callers.items n None) (get_or now n None)) e
-    (caller_wants i.callers.items c.index_of.result c.args.piece.now c.append_to.new.occupant c.caller_goes_on.new.occupant lt at c.in_err-caller_goes_on.ensures.works))))
+    (subst (λ (n : ℕ). (0 < length c.args.piece.now) ⊎ CallerWants (get_or i.connections.peers.items n None) (get_or now n None)) e
+    (caller_wants i.connections.peers.items c.index_of.result c.args.piece.now c.append_to.new.occupant c.caller_goes_on.new.occupant lt at c.in_err-caller_goes_on.ensures.works))))

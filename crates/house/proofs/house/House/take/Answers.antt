@@ -6,12 +6,13 @@ use Rattle.house.specs.House.{House}
 use Rattle.house.specs.Scene.{with_world}
 use Rattle.house.specs.Stands.{StandsFor}
 use Rattle.house.proofs.Worldly.{nothing_changes, is_nothing, moves}
+use Rattle.house.specs.contracts.house.House.{the_view}
 use Rattle.house.proofs.house.House.take.Goals as goal
 
 pub returns-clause-follows : goal.returns-clause-follows
 returns-clause-follows c k s old st =
     let i = c.self.inside in
-    let h : House = record { core = i.store.core; callers = i.callers.items; serials = i.serials.items; visitors = i.visitors.items; entered = i.entered.items; directory = i.directory; host = i.host.items; max_message = i.max_message; compatible = i.compatible } in
+    let h : House = the_view i in
     let st1 = subst (λ (x : House). StandsFor k x s) (sym c.self.view_is) st in
     let e = c.in_default.ensures in
     let m = moves k h c.take.new.self s (world.Take c.args.shard) st1 e.follows e.heard e.next in
@@ -20,7 +21,7 @@ returns-clause-follows c k s old st =
 pub returns-in-Err-clause-changes_nothing : goal.returns-in-Err-clause-changes_nothing
 returns-in-Err-clause-changes_nothing c e k s st t printed m =
     let i = c.self.inside in
-    let h : House = record { core = i.store.core; callers = i.callers.items; serials = i.serials.items; visitors = i.visitors.items; entered = i.entered.items; directory = i.directory; host = i.host.items; max_message = i.max_message; compatible = i.compatible } in
+    let h : House = the_view i in
     let st1 = subst (λ (x : House). StandsFor k x s) (sym c.self.view_is) st in
     let f : c.fault_of.result ≡ house_faults.Nothing = let e1 = e in cc in
     let n = is_nothing c.in-Err.fault (sym c.fault_of.ensures ∙ f) in
