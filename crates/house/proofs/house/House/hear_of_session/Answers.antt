@@ -29,12 +29,12 @@ returns-in_err-visitor_goes_on-clause-no_memory c e k s st =
     let mine : c.args.number - 1 ≡ session_seat k place = at ∙ ap (λ (n : ℕ). n + place) st1.connections in
     let g = somebody_there c.index.result.now (c.is_none.ensures ∙ ap not c.if-is_none.false) in
     let some : ◌≡◌ {A = Option SeatedSession} (get_or i.sessions.peers.items place None) (Some g.0) = get_or-any i.sessions.peers.items place None c.index.result.now lt ∙ sym c.index.ensures ∙ g.1 in
-    let q = heard_at HearsVerdict c.index_mut-here.result.now c.hears.new.place c.in-Ok.noted g.0 (c.index_mut-here.ensures.value ∙ get_or-any i.sessions.peers.items place _ None lt ∙ some) c.hears.ensures in
+    let q = heard_at HearsVerdict c.index_mut-here.result.now c.hears.new.occupant c.in-Ok.noted g.0 (c.index_mut-here.ensures.value ∙ get_or-any i.sessions.peers.items place _ None lt ∙ some) c.hears.ensures in
     let f = c.in-Ok.ensures in
     let r = heard_led k false h s place g.0 c.hear.new.self c.visitor_goes_on.new.store.core c.in-Ok.noted q.0 c.visitor_goes_on.new.place c.args.out.now.items c.visitor_goes_on.new.out.items st1 lt some
     (subst (λ (n : ℕ). (x : world.Config) → core.Follows x i.store.core (world.Hear n ∷ []) c.hear.new.self) mine f.follows) (subst (λ (n : ℕ). Hears i.store.core c.hear.new.self n (c.in-Ok.noted ∷ [])) mine f.heard) f.next q.2 c.visitor_goes_on.ensures.delivery
     (λ next heard w b stands is. subst (λ (n : ℕ). PlaceVisited k false n next heard w b c.visitor_goes_on.new.place c.visitor_goes_on.new.store.core c.args.out.now.items c.visitor_goes_on.new.out.items) (sym number)
-    (c.in_err-visitor_goes_on.ensures.err k next heard w b stands (subst (λ (n : ℕ). StandsForSomebody (session_seat k n) next heard c.hears.new.place (Some b)) number (subst (λ (o : Option SeatedSession). StandsForSomebody (session_seat k place) next heard o (Some b)) (sym q.1) is)))) in
+    (c.in_err-visitor_goes_on.ensures.err k next heard w b stands (subst (λ (n : ℕ). StandsForSomebody (session_seat k n) next heard c.hears.new.occupant (Some b)) number (subst (λ (o : Option SeatedSession). StandsForSomebody (session_seat k place) next heard o (Some b)) (sym q.1) is)))) in
     inl (record { after = r.0; printed = r.1; plays = session_hears place mine r.2; stands = r.3; out = r.4 })
 
 pub returns-clause-follows : goal.returns-clause-follows
@@ -52,12 +52,12 @@ returns-clause-follows c k s st =
     let mine : c.args.number - 1 ≡ session_seat k place = at ∙ ap (λ (n : ℕ). n + place) st1.connections in
     let g = somebody_there c.index.result.now (c.is_none.ensures ∙ ap not c.if-is_none.false) in
     let some : ◌≡◌ {A = Option SeatedSession} (get_or i.sessions.peers.items place None) (Some g.0) = get_or-any i.sessions.peers.items place None c.index.result.now lt ∙ sym c.index.ensures ∙ g.1 in
-    let q = heard_at HearsVerdict c.index_mut-here.result.now c.hears.new.place c.in-Ok.noted g.0 (c.index_mut-here.ensures.value ∙ get_or-any i.sessions.peers.items place _ None lt ∙ some) c.hears.ensures in
+    let q = heard_at HearsVerdict c.index_mut-here.result.now c.hears.new.occupant c.in-Ok.noted g.0 (c.index_mut-here.ensures.value ∙ get_or-any i.sessions.peers.items place _ None lt ∙ some) c.hears.ensures in
     let f = c.in-Ok.ensures in
     let r = heard_led k true h s place g.0 c.hear.new.self c.visitor_goes_on.new.store.core c.in-Ok.noted q.0 c.visitor_goes_on.new.place c.args.out.now.items c.visitor_goes_on.new.out.items st1 lt some
     (subst (λ (n : ℕ). (x : world.Config) → core.Follows x i.store.core (world.Hear n ∷ []) c.hear.new.self) mine f.follows) (subst (λ (n : ℕ). Hears i.store.core c.hear.new.self n (c.in-Ok.noted ∷ [])) mine f.heard) f.next q.2 c.visitor_goes_on.ensures.delivery
     (λ next heard w b stands is. subst (λ (n : ℕ). PlaceVisited k true n next heard w b c.visitor_goes_on.new.place c.visitor_goes_on.new.store.core c.args.out.now.items c.visitor_goes_on.new.out.items) (sym number)
-    (c.in_ok-visitor_goes_on.ensures.ok k next heard w b stands (subst (λ (n : ℕ). StandsForSomebody (session_seat k n) next heard c.hears.new.place (Some b)) number (subst (λ (o : Option SeatedSession). StandsForSomebody (session_seat k place) next heard o (Some b)) (sym q.1) is)))) in
+    (c.in_ok-visitor_goes_on.ensures.ok k next heard w b stands (subst (λ (n : ℕ). StandsForSomebody (session_seat k n) next heard c.hears.new.occupant (Some b)) number (subst (λ (o : Option SeatedSession). StandsForSomebody (session_seat k place) next heard o (Some b)) (sym q.1) is)))) in
     record { after = r.0; printed = r.1; plays = session_hears place mine r.2; stands = r.3; out = r.4 }
 
 pub returns-in-Err-Nothing-clause-changes_nothing : goal.returns-in-Err-Nothing-clause-changes_nothing

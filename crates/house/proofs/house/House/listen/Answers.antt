@@ -30,7 +30,7 @@ returns-in_err-visitor_talks-clause-no_memory c =
     let at = c.in_ok-append_to.ensures.ok ∙ ap (option_map (with_more_came c.args.piece.now)) (c.index_mut-place.ensures.value ∙ get_or-any i.sessions.peers.items c.index_of.result _ None lt ∙ g.1) in
     let r = said k false h s c.index_of.result c.args.piece.now g.0 c.visitor_talks.new.place c.visitor_talks.new.store.core c.args.out.now.items c.visitor_talks.new.out.items st1 lt g.1 g.2 c.visitor_talks.ensures.delivery
     (λ next heard w b stands is. subst (λ (n : ℕ). PlaceTalked k false n next heard w b c.visitor_talks.new.place c.visitor_talks.new.store.core c.args.out.now.items c.visitor_talks.new.out.items) (sym e1)
-    (c.in_err-visitor_talks.ensures.err k next heard w b stands (subst (λ (n : ℕ). StandsForSomebody (session_seat k n) next heard c.append_to.new.place (Some b)) e1 (subst (λ (o : Option SeatedSession). StandsForSomebody (session_seat k c.index_of.result) next heard o (Some b)) (sym at) is)))) in
+    (c.in_err-visitor_talks.ensures.err k next heard w b stands (subst (λ (n : ℕ). StandsForSomebody (session_seat k n) next heard c.append_to.new.occupant (Some b)) e1 (subst (λ (o : Option SeatedSession). StandsForSomebody (session_seat k c.index_of.result) next heard o (Some b)) (sym at) is)))) in
     inl (record { after = r.0; printed = r.1; plays = subst (λ (n : ℕ). SayPlay k false s n c.args.piece.now r.0 r.1) e1 r.2; stands = r.3; out = r.4 })
 
 pub returns-clause-follows : goal.returns-clause-follows
@@ -47,7 +47,7 @@ returns-clause-follows c k s st =
     let at = c.in_ok-append_to.ensures.ok ∙ ap (option_map (with_more_came c.args.piece.now)) (c.index_mut-place.ensures.value ∙ get_or-any i.sessions.peers.items c.index_of.result _ None lt ∙ g.1) in
     let r = said k true h s c.index_of.result c.args.piece.now g.0 c.visitor_talks.new.place c.visitor_talks.new.store.core c.args.out.now.items c.visitor_talks.new.out.items st1 lt g.1 g.2 c.visitor_talks.ensures.delivery
     (λ next heard w b stands is. subst (λ (n : ℕ). PlaceTalked k true n next heard w b c.visitor_talks.new.place c.visitor_talks.new.store.core c.args.out.now.items c.visitor_talks.new.out.items) (sym e1)
-    (c.in_ok-visitor_talks.ensures.ok k next heard w b stands (subst (λ (n : ℕ). StandsForSomebody (session_seat k n) next heard c.append_to.new.place (Some b)) e1 (subst (λ (o : Option SeatedSession). StandsForSomebody (session_seat k c.index_of.result) next heard o (Some b)) (sym at) is)))) in
+    (c.in_ok-visitor_talks.ensures.ok k next heard w b stands (subst (λ (n : ℕ). StandsForSomebody (session_seat k n) next heard c.append_to.new.occupant (Some b)) e1 (subst (λ (o : Option SeatedSession). StandsForSomebody (session_seat k c.index_of.result) next heard o (Some b)) (sym at) is)))) in
     record { after = r.0; printed = r.1; plays = subst (λ (n : ℕ). SayPlay k true s n c.args.piece.now r.0 r.1) e1 r.2; stands = r.3; out = r.4 }
 
 pub returns-in_err-append_to-clause-asks : goal.returns-in_err-append_to-clause-asks
@@ -65,4 +65,4 @@ returns-in_err-visitor_talks-clause-asks c =
     let now = set i.sessions.peers.items c.index_of.result c.visitor_talks.new.place in
     on_err c.from_residual-in_err-visitor_talks.result _ (subst (λ (x : House). (0 < length c.args.piece.now) ⊎ VisitorWants (get_or x.visitors (c.args.session - 1) None) (get_or now (c.args.session - 1) None)) c.self.view_is
     (subst (λ (n : ℕ). (0 < length c.args.piece.now) ⊎ VisitorWants (get_or i.sessions.peers.items n None) (get_or now n None)) e
-    (visitor_wants i.sessions.peers.items c.index_of.result c.args.piece.now c.append_to.new.place c.visitor_talks.new.place lt at c.in_err-visitor_talks.ensures.works)))
+    (visitor_wants i.sessions.peers.items c.index_of.result c.args.piece.now c.append_to.new.occupant c.visitor_talks.new.place lt at c.in_err-visitor_talks.ensures.works)))

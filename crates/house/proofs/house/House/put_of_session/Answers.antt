@@ -31,9 +31,9 @@ returns-in_err-visitor_goes_on-clause-no_memory c e k s st =
     let p = c.in_ok-why.ensures.puts in
     let some : ◌≡◌ {A = Option SeatedSession} (get_or i.sessions.peers.items place None) (Some p.0) = get_or-any i.sessions.peers.items place None c.index.result.now lt ∙ sym c.index.ensures ∙ p.1 in
     let here = c.notes_put.ensures ∙ ap (option_map (noted_put (heard_verdict c.in_ok-why.why))) (c.index_mut-here.ensures.value ∙ get_or-any i.sessions.peers.items place _ None lt ∙ some) in
-    let r = put_led k false h s place p.0 c.put_next.new.core c.visitor_goes_on.new.store.core c.in_ok-why.why c.notes_put.new.place c.visitor_goes_on.new.place c.args.out.now.items c.visitor_goes_on.new.out.items st1 lt some p.2 here c.visitor_goes_on.ensures.delivery
+    let r = put_led k false h s place p.0 c.put_next.new.core c.visitor_goes_on.new.store.core c.in_ok-why.why c.notes_put.new.occupant c.visitor_goes_on.new.place c.args.out.now.items c.visitor_goes_on.new.out.items st1 lt some p.2 here c.visitor_goes_on.ensures.delivery
     (λ next heard w b stands is. subst (λ (n : ℕ). PlaceVisited k false n next heard w b c.visitor_goes_on.new.place c.visitor_goes_on.new.store.core c.args.out.now.items c.visitor_goes_on.new.out.items) (sym number)
-    (c.in_err-visitor_goes_on.ensures.err k next heard w b stands (subst (λ (n : ℕ). StandsForSomebody (session_seat k n) next heard c.notes_put.new.place (Some b)) number is))) in
+    (c.in_err-visitor_goes_on.ensures.err k next heard w b stands (subst (λ (n : ℕ). StandsForSomebody (session_seat k n) next heard c.notes_put.new.occupant (Some b)) number is))) in
     inl (record { after = r.0; printed = r.1; plays = session_puts place mine r.2; stands = r.3; out = r.4 })
 
 pub returns-clause-follows : goal.returns-clause-follows
@@ -52,9 +52,9 @@ returns-clause-follows c k s st =
     let p = c.in_ok-why.ensures.puts in
     let some : ◌≡◌ {A = Option SeatedSession} (get_or i.sessions.peers.items place None) (Some p.0) = get_or-any i.sessions.peers.items place None c.index.result.now lt ∙ sym c.index.ensures ∙ p.1 in
     let here = c.notes_put.ensures ∙ ap (option_map (noted_put (heard_verdict c.in_ok-why.why))) (c.index_mut-here.ensures.value ∙ get_or-any i.sessions.peers.items place _ None lt ∙ some) in
-    let r = put_led k true h s place p.0 c.put_next.new.core c.visitor_goes_on.new.store.core c.in_ok-why.why c.notes_put.new.place c.visitor_goes_on.new.place c.args.out.now.items c.visitor_goes_on.new.out.items st1 lt some p.2 here c.visitor_goes_on.ensures.delivery
+    let r = put_led k true h s place p.0 c.put_next.new.core c.visitor_goes_on.new.store.core c.in_ok-why.why c.notes_put.new.occupant c.visitor_goes_on.new.place c.args.out.now.items c.visitor_goes_on.new.out.items st1 lt some p.2 here c.visitor_goes_on.ensures.delivery
     (λ next heard w b stands is. subst (λ (n : ℕ). PlaceVisited k true n next heard w b c.visitor_goes_on.new.place c.visitor_goes_on.new.store.core c.args.out.now.items c.visitor_goes_on.new.out.items) (sym number)
-    (c.in_ok-visitor_goes_on.ensures.ok k next heard w b stands (subst (λ (n : ℕ). StandsForSomebody (session_seat k n) next heard c.notes_put.new.place (Some b)) number is))) in
+    (c.in_ok-visitor_goes_on.ensures.ok k next heard w b stands (subst (λ (n : ℕ). StandsForSomebody (session_seat k n) next heard c.notes_put.new.occupant (Some b)) number is))) in
     record { after = r.0; printed = r.1; plays = session_puts place mine r.2; stands = r.3; out = r.4 }
 
 pub returns-in_err-why-clause-changes_nothing : goal.returns-in_err-why-clause-changes_nothing
