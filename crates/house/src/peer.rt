@@ -8,9 +8,10 @@ ghost use Rattle.delivery_token.specs.declared.Verdict.{Verdict};
 ghost use Rattle.delivery_token.specs.declared.log.Noted.{Noted};
 ghost use Rattle.delivery_token.specs.inner.Verdicts.{heard_verdict};
 ghost use Rattle.house.specs.Steps.{CannotNote, CorePuts, HasNoRoom, PutsNext, is_gone_at};
-ghost use Rattle.house.specs.inner.Steps.{IsNoNext, MayNotPut, job_of, with_more_came};
+ghost use Rattle.house.specs.inner.Steps.{IsNoNext, MayNotPut, job_of};
 ghost use Rattle.house_peers.specs.Taking as line;
 ghost use Rattle.house_peers.specs.SeatedSession as seat;
+ghost use Rattle.house_peers.specs.HouseSession as place;
 
 use crate::event::HouseFault;
 use delivery_core::DeliveryCore;
@@ -104,7 +105,7 @@ impl Peer for HouseConnection {
 }
 
 impl Peer for SeatedSession {
-    ghost with_more = { with_more_came };
+    ghost with_more = { λ piece p. seat.with_place (place.with_more piece p.place) p };
 
     ghost gone = { λ p. p.gone };
 
