@@ -24,13 +24,14 @@ import sys
 TOP = os.path.dirname(os.path.dirname(os.path.abspath(__file__)))
 
 # Who carries the promise: the law over every list of events, a run of a script, a run of threads.
-ROOTS = ["exactly_once::exactly_once_delivery", "script::run_script", "running_house::run_house"]
+ROOTS = ["exactly_once::exactly_once_delivery", "script::run_script.once", "running_house::run_house.agrees"]
 
 # README's two sentences, of a house on one thread: what a relay may conclude, and what a client may.
 TO_A_RELAY = ["laws_relay::relays_may_conclude_over_any"]
 TO_A_CLIENT = ["laws_client::clients_keep_up", "laws_client::clients_know_flags", "laws_client::uids_stay"]
 
-# The parts of the page, each with how the heads of its sections begin and the functions whose clauses cite it. The last one has all other sections.
+# The parts of the page, each with how the heads of its sections begin and the functions whose clauses cite it. The last one has all other sections. Where
+# clauses are named behind a function (`crate::function.clause+clause`), what it ensures besides is no part of the promise.
 PARTS = [
     ("The headline", ["exactly_once::exactly_once_over_any"]),
     ("LMTP", ["exactly_once::connections_may_speak_lmtp"]),
@@ -41,8 +42,8 @@ PARTS = [
     (
         "Of a server",
         [
-            "lane_work::books_stand",
-            "lane_work::converse",
+            "lane_work::books_stand.stand",
+            "lane_work::converse.played+backed",
             "laws_relay::served_relays_conclude",
             "laws_relay::servers_conclude",
             "laws_relay::lines_conclude",
@@ -51,7 +52,7 @@ PARTS = [
             "laws_client::served_visits_are_lives",
             "laws_client::served_lists_are_current",
             "laws_client::served_texts_stay",
-            "serving::serve_house",
+            "serving::serve_house.left",
         ],
     ),
     ("", ROOTS),
@@ -211,6 +212,7 @@ class Closure:
 
     def clauses_of(self, root):
         crate, function = root.split("::")
+        function, _, clauses = function.partition(".")
         folder = os.path.join(TOP, "crates", crate, "src")
         for file in sorted(os.listdir(folder)):
             with open(os.path.join(folder, file), encoding="utf-8") as code:
@@ -220,7 +222,7 @@ class Closure:
                 source = Source(file)
                 for line in text.split("\n"):
                     source.read_import(line)
-                self.scan(source, found.group(0))
+                self.scan(source, with_these(found.group(0), clauses.split("+")) if clauses else found.group(0))
                 for name in re.findall(r": (\w+)", found.group(0).split("(")[0]):
                     for asked in re.findall(rf"^pub trait {name}\b.*?^\}}", text, re.S | re.M):
                         self.scan(source, asked)
@@ -299,6 +301,12 @@ def apart():
                 if is_cited != (side == "specs") and (is_cited or side != "rows"):
                     wrong.append(f"{path}: {name} is cited by {'a' if is_cited else 'no'} public clause")
     return wrong, sides
+
+
+def with_these(contract, names):
+    """A function's head and contract, of which among the clauses that it ensures only those of these names stay."""
+    head, *clauses = re.split(r"^    (?=(?:requires|ensures)\b)", contract, flags=re.M)
+    return head + "".join(clause for clause in clauses if clause.startswith("requires") or clause.split()[1] in names)
 
 
 def closure_of(roots):
@@ -419,7 +427,7 @@ def wrong_on(page):
     with open(page, encoding="utf-8") as text:
         if f"rest on {lines:,} lines in {files} files" not in text.read():
             yield f"doesn't tell that README's two sentences rest on {lines:,} lines in {files} files"
-    roots = {root for _, them in PARTS for root in them} | OF_A_PROGRAM
+    roots = {root.partition(".")[0] for _, them in PARTS for root in them} | OF_A_PROGRAM
     yield from (f"has no part for {name}, which README names" for name in named_in(os.path.join(TOP, "README.md"), "What is promised") if name not in roots)
     for (head, sizes), files in zip(found, listed):
         where = f"in its part `{head}`" if head else "in its last part"
