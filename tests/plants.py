@@ -39,6 +39,8 @@ SAID = re.compile(r"(?P<outcome>[a-z-]+) +src/\S+\.rt:\d+ (?P<function>.+?)(?:\(
 COUNTS = re.compile(r"(?m)^plants crate=(\w+) (.*)$")
 # Longer bodies are cut.
 LONGEST = 100
+# What stands for the body of a function of which only its outcome is said.
+NO_BODY = {"no-ensures": "any body"}
 
 HEAD = """\
 # run, crate, day, refused, same, not-source, not-run; a number that isn't known is left out
@@ -77,7 +79,7 @@ def plants_in(crate, said):
     """What is said of single plants and functions, where it is more than a number. A row that comes twice once it is cut is one."""
     found = (SAID.fullmatch(line.strip()) for line in said.splitlines())
     rows = (match.groupdict() for match in found if match and match["outcome"] in NOTED)
-    return sorted({Plant(crate, row["function"], shortened(row["body"] or "any body"), row["outcome"], "") for row in rows})
+    return sorted({Plant(crate, row["function"], shortened(row["body"] or NO_BODY.get(row["outcome"], "")), row["outcome"], "") for row in rows})
 
 
 def run_of(crate, said):
