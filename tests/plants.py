@@ -11,7 +11,7 @@
 check proves it, or where its function has no `ensures`. Why it stays is the last column of its row: it is written by hand, and a new run keeps it where
 the row is the same. What is refused, and what is right since it answers the same, is a number for each crate. So is what doesn't compile or wasn't reached.
 
-What `rt plant` says has to end with its line of counts: a run that was cut off before changes nothing.
+What `rt plant` says has to end with its line of counts, and to have as many rows. A run that was cut off before changes nothing.
 """
 
 import collections
@@ -35,10 +35,10 @@ NOTED = (*THROUGH, *UNJUDGED, "untested")
 COUNTED = ("refused", "same", "not-source", "not-run")
 
 # A row of what is said: `proves      src/queue.rt:12 Queue::put: { Ok(()) }  (why)`. Of a function alone stands `()` in place of its body.
-SAID = re.compile(r"(?P<outcome>[a-z-]+) +src/\S+\.rt:\d+ (?P<function>.+?)(?:\(\)|: (?P<body>\{ .*?)(?:  \(.*\))?)$")
+SAID = re.compile(r"(?P<outcome>[a-z-]+) +src/\S+\.rt:\d+ (?P<function>.+?)(?:\(\)|: (?P<body>\{ .*?\})(?:  \(.*\))?)")
 COUNTS = re.compile(r"(?m)^plants crate=(\w+) (.*)$")
 # Longer bodies are cut.
-LONGEST = 100
+LONGEST = 120
 # What stands for the body of a function of which only its outcome is said.
 NO_BODY = {"no-ensures": "any body"}
 
@@ -75,19 +75,27 @@ def shortened(body):
     return body if len(body) <= LONGEST else body[: LONGEST - 4] + ".. }"
 
 
+def rows_of(said):
+    """The rows that are said of single plants and functions."""
+    found = (SAID.fullmatch(line.rstrip()) for line in said.splitlines())
+    return [match for match in found if match]
+
+
 def plants_in(crate, said):
-    """What is said of single plants and functions, where it is more than a number. A row that comes twice once it is cut is one."""
-    found = (SAID.fullmatch(line.strip()) for line in said.splitlines())
-    rows = (match.groupdict() for match in found if match and match["outcome"] in NOTED)
-    return sorted({Plant(crate, row["function"], shortened(row["body"] or NO_BODY.get(row["outcome"], "")), row["outcome"], "") for row in rows})
+    """Of these rows those that are more than a number."""
+    rows = [row for row in rows_of(said) if row["outcome"] in NOTED]
+    return [Plant(crate, row["function"], shortened(row["body"] or NO_BODY.get(row["outcome"], "")), row["outcome"], "") for row in rows]
 
 
 def run_of(crate, said):
-    """The counts that `rt plant` ends with; None where there are none."""
+    """The counts that `rt plant` ends with. None where there are none, or where so many rows were not found: then they have another form than this knows."""
     counts = COUNTS.search(said)
     if counts is None or counts[1] != crate:
         return None
-    numbers = dict(word.split("=") for word in counts[2].split())
+    numbers = dict(word.split("=") for word in counts[2].split() if not word.startswith("planted-in="))
+    found = collections.Counter(row["outcome"] for row in rows_of(said))
+    if any(found[word] != int(number) for word, number in numbers.items()):
+        return None
     return Run(crate, datetime.date.today().isoformat(), *(numbers[word] for word in COUNTED))
 
 
@@ -95,14 +103,13 @@ def take(crate, said):
     """Puts what was said of a crate in place of what was noted before, with the reasons that still have their rows. Answers whether it was a whole run."""
     run = run_of(crate, said)
     if run is None:
-        print(f"plants: {crate}: rt plant printed no counts, so nothing is noted")
+        print(f"plants: {crate}: rt plant didn't end with counts that its rows have, so nothing is noted")
         return False
     runs, plants = read_data()
-    before = {plant[:4]: plant.why for plant in plants if plant.crate == crate}
-    now = [plant._replace(why=before.pop(plant[:4], "")) for plant in plants_in(crate, said)]
-    for key, why in before.items():
-        if why:
-            print("plants: no longer a row: " + ", ".join([*key, why]))
+    before = {plant[:4]: plant.why for plant in plants if plant.crate == crate and plant.why}
+    now = [plant._replace(why=before.get(plant[:4], "")) for plant in plants_in(crate, said)]
+    for key in before.keys() - {plant[:4] for plant in now}:
+        print(f"plants: no longer a row: {', '.join(key)}: {before[key]}")
     runs[crate] = run
     write_data(runs, [plant for plant in plants if plant.crate != crate] + now)
     return True
