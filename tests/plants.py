@@ -115,10 +115,14 @@ def take(crate, said):
     return True
 
 
+def folder_of(crate):
+    return os.path.join(TOP, "crates", crate)
+
+
 def plant_crate(crate, options):
     """Runs `rt plant` in a crate's folder. Answers whether it came to its end."""
     begun = time.monotonic()
-    ran = subprocess.run(["rt", "plant", "--all", *options], cwd=os.path.join(TOP, "crates", crate), stdout=subprocess.PIPE, encoding="utf-8")
+    ran = subprocess.run(["rt", "plant", "--all", *options], cwd=folder_of(crate), stdout=subprocess.PIPE, encoding="utf-8")
     print(ran.stdout, end="")
     print(f"plants: {crate} took {time.monotonic() - begun:.0f} s", flush=True)
     return take(crate, ran.stdout)
@@ -192,7 +196,7 @@ def main(words):
     options = []
     while len(words) > 1 and words[0] in OPTIONS:
         options, words = options + words[:2], words[2:]
-    if any(word.startswith("-") for word in words) or (options and not words):
+    if (options and not words) or not all(os.path.isdir(folder_of(crate)) for crate in words):
         print(__doc__, file=sys.stderr)
         return 2
     are_whole = [plant_crate(crate, options) for crate in words]
