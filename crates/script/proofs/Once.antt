@@ -1,12 +1,10 @@
 -- From what the house promises of all its events to what a script promises of all that it prints.
-use Rattle.std.proofs.Common.{◌≡◌, ℕ, ◌+◌, ◌<◌, ◌≤◌, arith, Bool, true, List, [], ◌∷◌, ◌++◌, map, length, refl, sym, ap, ◌∙◌, subst, append-nil, append_assoc, le_refl, Option, Some}
+use Rattle.std.proofs.Common.{◌≡◌, ℕ, ◌+◌, ◌<◌, ◌≤◌, arith, Bool, true, List, [], ◌∷◌, ◌++◌, map, length, refl, sym, ap, ◌∙◌, subst, append-nil, append_assoc, Some}
 use Rattle.std.specs.Prelude.{flat_map}
 use Rattle.std.specs.Borrow.{Bor}
-use Rattle.std.proofs.Math.Seq.{take-length}
 use Rattle.std.proofs.lemmas.Grind.{flat_map-append}
 use Rattle.std.proofs.lemmas.List.Folds.{flat_map-map}
 use Rattle.std.proofs.lemmas.List.Elements.{filter_map-append}
-use Rattle.std.specs.Io.KnownBytes.{Appends}
 use Rattle.delivery_token.specs.declared.log.Noted.{Noted}
 use Rattle.envelope.specs.Names.{number_of}
 use Rattle.world.proofs.Always.{always}
@@ -20,13 +18,11 @@ use Rattle.house.specs.declared.event.Event.{Event}
 use Rattle.house.specs.declared.event.Event.TheVariants as events
 use Rattle.house.specs.Scene.{Plays, Scene, empty_scene, is_shut_in}
 use Rattle.house.specs.Settled.{is_held}
-use Rattle.house.specs.House.{House}
 use Rattle.house.specs.Settling.{GoesRounds, Happened, Settles, Stints, idle_turns, in_a_row, round}
 use Rattle.std.specs.Prelude.{replicate}
 use Rattle.house.proofs.Settlement.{plays_part, stints_happened}
 use Rattle.script.specs.Script.{LineDoes, LinePlays, Script, ScriptLine, asks, asks_lingering, asks_nobody, closes, closes_again, closes_nobody, enters, enters_nowhere, enters_taken, goes_again, goes_nobody, held_after, is_bad, leaves, leaves_again, leaves_nobody, none_held, refusal, sends, sends_to_nobody, sends_to_owing, skips, stands_nobody, stands_still, tails, tails_nobody, vanishes, vanishes_again, vanishes_away}
-use Rattle.script.specs.Leaving.{Writes, WritesBeginning, WritesFirst}
-use Rattle.script.specs.Promise.{AreParts, DeliversOnce, OfHouse, Part, Refusal, Why, Line, Nobody, Busy, Window, WroteOnce, entries_of, entry_in, refusals_of, refused_in, scene_after, text_of_part, word_of}
+use Rattle.script.specs.Promise.{AreParts, DeliversOnce, OfHouse, Part, Refusal, Why, Line, Nobody, Busy, Window, entries_of, entry_in, refusals_of, refused_in, scene_after, text_of_part, word_of}
 
 -- where these verdicts were told, and what was printed since is these parts
 abbrev pub told_by : (ℕ → List Noted) → List Part → ℕ → List Noted
@@ -212,14 +208,3 @@ script_once k lines t printed s =
       world = h;
       told = tells_once k t (entries_of g.parts) h g.ok;
     }
-
--- ---- of a run
-
-pub wrote_all : (k : Setup) (lines : List ScriptLine) (h : House) (old new : Option (List ℕ)) → Writes k lines h old new → WroteOnce k lines old new
-wrote_all k lines h old new w = w.writes.wrote
-
-pub wrote_first : (k : Setup) (lines : List ScriptLine) (sent : ℕ) (h : House) (old new : Option (List ℕ)) → WritesFirst k lines sent h old new → WroteOnce k lines old new
-wrote_first k lines sent h old new w = w.writes.wrote
-
-pub wrote_beginning : (k : Setup) (lines : List ScriptLine) (Left : ℕ → List Bool → List ScriptLine → Scene → Type 0) (old new : Option (List ℕ)) → WritesBeginning k lines Left old new → WroteOnce k lines old new
-wrote_beginning k lines Left old new w = w.writes.wrote

@@ -14,7 +14,7 @@ use Rattle.settings.specs.declared.asking.Form.{Form}
 use Rattle.settings.specs.declared.asking.Form.TheVariants.{Text, Json}
 use Rattle.script.specs.declared.run.RunFault.{RunFault}
 use Rattle.script.specs.declared.run.RunFault.TheVariants as faults
-use Rattle.script.proofs.Once.{script_once, wrote_all, wrote_beginning, wrote_first}
+use Rattle.script.proofs.Once.{script_once}
 
 -- ---- lines and what they ask for
 
@@ -225,9 +225,4 @@ ran_unread k input r h old new e tells =
 -- whatever the result
 pub ran_once : (k : Setup) (input : List ℕ) (r : Result (Unit {0}) RunFault) (h : House) (old new : Option (List ℕ)) → RunTells Text k (lines_of input) h r old new
     → WroteOnce k (script_of input) old new
-ran_once k input (Ok done) h old new tells = wrote_all k (script_of input) h old new (all_written k input h old new tells)
-ran_once k input (Err (faults.Write sent)) h old new tells = wrote_first k (script_of input) sent h old new (first_written k input sent h old new tells)
-ran_once k input (Err faults.NoMemory) h old new tells =
-    wrote_beginning k (script_of input) (IsLeftWanting k h) old new (beginning_written k input (IsLeftUntold Text k h) (IsLeftWanting k h) old new (untold_text k h) tells)
-ran_once k input (Err faults.Read) h old new tells =
-    wrote_beginning k (script_of input) (IsLeft k h) old new (beginning_written k input (IsLeft k h) (IsLeft k h) old new (same_left k h) tells)
+ran_once k input r h old new tells = run_wrote_once k input r old new (run_told Text k (lines_of input) h r old new tells)
