@@ -2,14 +2,29 @@
 //! before the ring that woke it. A parker that wasn't woken would sleep for good.
 
 use std::alloc::AllocError;
+use std::sync::Wait;
 use std::sync::atomic::{AtomicBool, Ordering};
 use std::thread;
-use std::time::Duration;
+use std::time::{Clock, Duration};
 use workers_sync::{SessionParker, ring_each};
 
 // How long nothing is marked: a sleep that nothing has ended lasts longer.
 fn a_while() -> Duration {
     Duration::from_millis(50)
+}
+
+// Sleeps so often: whether the mark stands once that is over.
+fn finds_mark<R: Wait>(rt: &R, parker: SessionParker, mark: &AtomicBool, sleeps: u8) -> bool {
+    for _ in 0..sleeps {
+        parker.sleep(rt);
+    }
+    mark.load(Ordering::SeqCst)
+}
+
+// Sets the mark after a while.
+fn set_later<R: Clock>(rt: &R, mark: &AtomicBool) {
+    thread::sleep(rt, a_while());
+    mark.store(true, Ordering::SeqCst);
 }
 
 #[test]
@@ -20,18 +35,12 @@ fn a_session_that_idles_is_woken(rt: HostRuntime) -> Result<(), AllocError> {
     session_parker.idling()?.store(true, Ordering::SeqCst);
     bell.ring();
     let mark = AtomicBool::new(false);
-    let (runtime, marked) = (&rt, &mark);
+    // The first ring was kept, and is heard once: what ends the second sleep is the second ring.
     let (found, ()) = thread::join(
         &rt,
-        move || {
-            // The first ring was kept, and is heard once: what ends the second sleep is the second ring.
-            session_parker.sleep(runtime);
-            session_parker.sleep(runtime);
-            marked.load(Ordering::SeqCst)
-        },
+        || finds_mark(&rt, session_parker, &mark, 2),
         || {
-            thread::sleep(&rt, a_while());
-            mark.store(true, Ordering::SeqCst);
+            set_later(&rt, &mark);
             bell.ring();
         },
     );
@@ -46,18 +55,13 @@ fn whoever_wakes_all_wakes_who_does_not_idle(rt: HostRuntime) -> Result<(), Allo
     let mut bells = Vec::new(alloc);
     bells.push(session_parker.bell()?)?;
     let mark = AtomicBool::new(false);
-    let (runtime, marked) = (&rt, &mark);
     let (found, ()) = thread::join(
         &rt,
-        move || {
-            session_parker.sleep(runtime);
-            marked.load(Ordering::SeqCst)
-        },
+        || finds_mark(&rt, session_parker, &mark, 1),
         || {
             // Nobody idles, so these rings are for nobody.
             ring_each(&bells);
-            thread::sleep(&rt, a_while());
-            mark.store(true, Ordering::SeqCst);
+            set_later(&rt, &mark);
             for bell in &bells {
                 bell.wake();
             }

@@ -10,20 +10,11 @@ ghost use Rattle.change_ring.specs.Window.{total, changes_from};
 ghost use Rattle.cursor_set.specs.Cursors.{Open, held};
 ghost use Rattle.cursor_set.specs.Legal.{IsLegalOn};
 
+use crate::support::{DELETED, SEEN};
 use change_ring::{Change, ChangeRing, Flags, NO_FLAGS};
 use cursor_set::{CursorHandle, CursorSet, FeedFault};
 use std::alloc::{AllocError, Global};
 use std::fmt::Write;
-
-const SEEN: Flags = Flags {
-    seen: true,
-    ..NO_FLAGS
-};
-
-const DELETED: Flags = Flags {
-    deleted: true,
-    ..NO_FLAGS
-};
 
 const ALL: Flags = Flags {
     answered: true,
@@ -519,23 +510,36 @@ fn expunges(alloc: Global, positions: &[u32]) -> Result<String, AllocError> {
     Ok(lines)
 }
 
-// Whether a client that counts a thousand UIDs is told that every second of them is removed. The UID 2(k + 1) has the position 2(k + 1),
-// less the k that were removed before it.
-fn half_goes(alloc: Global) -> Result<bool, AllocError> {
+// Whether a client that counts a thousand UIDs, from 1 on, is told that these go, at these positions, and counts those that are kept.
+fn goes_from_a_thousand(
+    alloc: Global,
+    gone: &[u32],
+    positions: &[u32],
+    count: usize,
+    kept: &[u32],
+) -> Result<bool, AllocError> {
     let uids = numbers(alloc, 1, 1, 1000)?;
-    let changes = removals(alloc, &numbers(alloc, 2, 2, 500)?)?;
-    let lines = expunges(alloc, &numbers(alloc, 2, 1, 500)?)?;
-    let kept = numbers(alloc, 1, 2, 500)?;
+    let changes = removals(alloc, gone)?;
+    let lines = expunges(alloc, positions)?;
     let case = Case {
         room: 1000,
         uids: &uids,
         changes: &changes,
         limits: &[1000],
-        counts: &[500],
+        counts: &[count],
         text: lines.as_bytes(),
-        view: &kept,
+        view: kept,
     };
     goes(alloc, case, 0)
+}
+
+// Whether a client that counts a thousand UIDs is told that every second of them is removed. The UID 2(k + 1) has the position 2(k + 1),
+// less the k that were removed before it.
+fn half_goes(alloc: Global) -> Result<bool, AllocError> {
+    let gone = numbers(alloc, 2, 2, 500)?;
+    let positions = numbers(alloc, 2, 1, 500)?;
+    let kept = numbers(alloc, 1, 2, 500)?;
+    goes_from_a_thousand(alloc, &gone, &positions, 500, &kept)
 }
 
 #[test]
@@ -547,22 +551,10 @@ fn every_second_of_a_thousand_is_removed(rt: HostRuntime) -> Result<(), AllocErr
 // Whether a client that counts a thousand UIDs is told that all behind the first three hundred are removed, the last one first. So each
 // has its UID for its position.
 fn last_ones_go(alloc: Global) -> Result<bool, AllocError> {
-    let uids = numbers(alloc, 1, 1, 1000)?;
     let mut gone = numbers(alloc, 301, 1, 700)?;
     gone.reverse();
-    let changes = removals(alloc, &gone)?;
-    let lines = expunges(alloc, &gone)?;
     let kept = numbers(alloc, 1, 1, 300)?;
-    let case = Case {
-        room: 1000,
-        uids: &uids,
-        changes: &changes,
-        limits: &[1000],
-        counts: &[700],
-        text: lines.as_bytes(),
-        view: &kept,
-    };
-    goes(alloc, case, 0)
+    goes_from_a_thousand(alloc, &gone, &gone, 700, &kept)
 }
 
 #[test]

@@ -3,6 +3,7 @@
 
 ghost use Rattle.std.specs.Prelude.{◌<◌};
 
+use crate::support::{DELETED, SEEN, flags_read, lines_are};
 use change_ring::{FlagOp, Flags, NO_FLAGS};
 use delivery_core::{DeliveryCore, Fault, HearFault, Settings};
 use delivery_token::{CopyKey, Noted, Refusal, Text, Verdict};
@@ -38,16 +39,6 @@ const TWO_SEATS: Settings = Settings {
     seats: 2,
     limits: Limits { ring: 16, ..SMALL },
     ..NO_GROWTH
-};
-
-const SEEN: Flags = Flags {
-    seen: true,
-    ..NO_FLAGS
-};
-
-const DELETED: Flags = Flags {
-    deleted: true,
-    ..NO_FLAGS
 };
 
 const KEY: CopyKey = CopyKey {
@@ -181,20 +172,7 @@ fn reads(
     uid: u32,
     mark_seen: bool,
 ) -> Result<Option<(Flags, bool)>, MailFault> {
-    let Some(row) = core.read(session, uid, mark_seen)? else {
-        return Ok(None);
-    };
-    // Another message is told as a fault that no act wants.
-    if row.uid != uid || row.text.as_slice() != b"hi\r\n".as_slice() {
-        return Err(MailFault::NoMemory);
-    }
-    Ok(Some((row.flags, row.newly_seen)))
-}
-
-fn lines_are(out: &mut Vec<u8>, wanted: &[u8]) -> bool {
-    let same = &out[..] == wanted;
-    out.clear();
-    same
+    flags_read(core.read(session, uid, mark_seen)?, uid)
 }
 
 // Whether an act answers as it should.
@@ -236,6 +214,13 @@ fn play(alloc: Global, settings: Settings, acts: &[Act]) -> Result<Option<usize>
     Ok(None)
 }
 
+// What is heard of the first copy.
+const FIRST_STORED: Noted = Noted {
+    key: KEY,
+    mailbox: 1,
+    verdict: Verdict::Stored { uid: 1 },
+};
+
 const ONE_COPY: &[Act] = &[
     Act::Put(0, 0, 1, Ok(None)),
     Act::Hear(0, Err(HearFault::Nothing)),
@@ -243,14 +228,7 @@ const ONE_COPY: &[Act] = &[
     Act::Take(0, Ok(())),
     Act::Deliver(0, Ok(())),
     Act::Answer(0, Ok(())),
-    Act::Hear(
-        0,
-        Ok(Noted {
-            key: KEY,
-            mailbox: 1,
-            verdict: Verdict::Stored { uid: 1 },
-        }),
-    ),
+    Act::Hear(0, Ok(FIRST_STORED)),
     Act::Accepted(1, Some(&[(KEY, 1)])),
     Act::Accepted(2, None),
     Act::Tail(1, Some((0, 1, 0))),
@@ -293,14 +271,7 @@ const CLOSING: &[Act] = &[
     Act::Put(1, 1, 1, Ok(None)),
     Act::Deliver(0, Ok(())),
     Act::Answer(0, Ok(())),
-    Act::Hear(
-        0,
-        Ok(Noted {
-            key: KEY,
-            mailbox: 1,
-            verdict: Verdict::Stored { uid: 1 },
-        }),
-    ),
+    Act::Hear(0, Ok(FIRST_STORED)),
     // Its end.
     Act::Take(0, Ok(())),
     Act::Deliver(0, Err(Fault::Nothing)),

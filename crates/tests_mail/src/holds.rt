@@ -1,22 +1,13 @@
 //! What the calls on a mailbox that is held do, as tables: each line is a call with what it is to
 //! answer. One function owns the mailbox and its client's handle, and lends them to the others.
 
+use crate::support::{DELETED, SEEN, flags_read, lines_are};
 use change_ring::{FlagOp, Flags, NO_FLAGS};
 use cursor_set::{CursorHandle, Stranger};
 use delivery_token::{CopyKey, Job, Refusal, Text};
 use mailbox::{History, Limits, MailFault, Mailbox, Opening, Status, verdict_of};
 use std::alloc::{AllocError, Global};
 use workers_sync::{alter, count, deliver, discard, enter, expunge, feed, leave, read, view};
-
-pub(crate) const DELETED: Flags = Flags {
-    deleted: true,
-    ..NO_FLAGS
-};
-
-pub(crate) const SEEN: Flags = Flags {
-    seen: true,
-    ..NO_FLAGS
-};
 
 pub(crate) const LIMITS: Limits = Limits {
     messages: 2,
@@ -92,26 +83,13 @@ fn counts(mailbox: &Mailbox, handle: &CursorHandle, wanted: Result<&[u32], MailF
     }
 }
 
-// What a read answers of flags; another text is told as a fault that no act wants.
 fn reads(
     mailbox: &mut Mailbox,
     handle: &CursorHandle,
     uid: u32,
     mark_seen: bool,
 ) -> Result<Option<(Flags, bool)>, MailFault> {
-    let Some(row) = read(mailbox, handle, uid, mark_seen)? else {
-        return Ok(None);
-    };
-    if row.uid != uid || row.text.as_slice() != b"hi\r\n".as_slice() {
-        return Err(MailFault::NoMemory);
-    }
-    Ok(Some((row.flags, row.newly_seen)))
-}
-
-fn lines_are(out: &mut Vec<u8>, wanted: &[u8]) -> bool {
-    let same = &out[..] == wanted;
-    out.clear();
-    same
+    flags_read(read(mailbox, handle, uid, mark_seen)?, uid)
 }
 
 // Whether an act answers as it should.

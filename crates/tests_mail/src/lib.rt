@@ -53,4 +53,6 @@ mod sending;
 #[cfg(test)]
 mod sockets;
 #[cfg(test)]
+mod support;
+#[cfg(test)]
 mod tokens;

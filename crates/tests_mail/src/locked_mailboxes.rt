@@ -2,7 +2,8 @@
 //! line of the table is a call with what it is to answer.
 ghost use Rattle.std.specs.Prelude.{◌≡◌};
 
-use crate::holds::{DELETED, LIMITS, SEEN};
+use crate::holds::LIMITS;
+use crate::support::{DELETED, SEEN, flags_read, lines_are};
 use change_ring::{FlagOp, Flags, NO_FLAGS};
 use cursor_set::CursorHandle;
 use delivery_token::{CopyKey, Job, Text, Verdict};
@@ -109,13 +110,10 @@ fn reads<B: Naming>(
     uid: u32,
     mark_seen: bool,
 ) -> Result<Option<Flags>, MailFault> {
-    let Some(row) = locked.read(front, handle, uid, mark_seen)? else {
-        return Ok(None);
-    };
-    if row.uid != uid || row.text.as_slice() != b"hi\r\n".as_slice() {
-        return Err(MailFault::NoMemory);
+    match flags_read(locked.read(front, handle, uid, mark_seen)?, uid)? {
+        Some((flags, _newly_seen)) => Ok(Some(flags)),
+        None => Ok(None),
     }
-    Ok(Some(row.flags))
 }
 
 fn counts<B: Naming>(
@@ -128,12 +126,6 @@ fn counts<B: Naming>(
         return false;
     };
     view.uids().len() == shown && locked.count().messages == there
-}
-
-fn lines_are(out: &mut Vec<u8>, wanted: &[u8]) -> bool {
-    let same = &out[..] == wanted;
-    out.clear();
-    same
 }
 
 // Whether an act answers as it should.

@@ -3,34 +3,15 @@
 
 ghost use Rattle.std.specs.Prelude.{◌<◌};
 
+use crate::support::{DELETED, EXAMPLE_DATE, SEEN, example_date, flags_read, lines_are};
 use change_ring::{Change, FlagOp, Flags, NO_FLAGS};
 use cursor_set::{CursorHandle, FeedFault, Stranger};
 use delivery_token::{CopyKey, Job, Refusal, Text, Verdict};
-use mail_date::{Stamp, Zone, read_internal_date};
+use mail_date::{Stamp, read_internal_date};
 use mailbox::{
     History, Limits, MailFault, Mailbox, Opening, Status, every_mailbox_keeps, verdict_of,
 };
 use std::alloc::{AllocError, Global};
-
-const DELETED: Flags = Flags {
-    deleted: true,
-    ..NO_FLAGS
-};
-
-const SEEN: Flags = Flags {
-    seen: true,
-    ..NO_FLAGS
-};
-
-const BOTH: Flags = Flags {
-    deleted: true,
-    ..SEEN
-};
-
-const STARRED: Flags = Flags {
-    flagged: true,
-    ..SEEN
-};
 
 const SMALL: Limits = Limits {
     messages: 8,
@@ -135,14 +116,7 @@ fn reads(
     uid: u32,
     mark_seen: bool,
 ) -> Result<Option<(Flags, bool)>, MailFault> {
-    let Some(row) = mailbox.read(handle, uid, mark_seen)? else {
-        return Ok(None);
-    };
-    // Another message is told as a fault that no act wants.
-    if row.uid != uid || row.text.as_slice() != b"hi\r\n".as_slice() {
-        return Err(MailFault::NoMemory);
-    }
-    Ok(Some((row.flags, row.newly_seen)))
+    flags_read(mailbox.read(handle, uid, mark_seen)?, uid)
 }
 
 fn stores_each(
@@ -177,12 +151,6 @@ fn tells(alloc: Global, mailbox: &mut Mailbox, act: &Act) -> Result<bool, AllocE
         Act::Discard(uids) => Ok(mailbox.discard(uids).is_ok()),
         _ => Ok(false),
     }
-}
-
-fn lines_are(out: &mut Vec<u8>, wanted: &[u8]) -> bool {
-    let same = &out[..] == wanted;
-    out.clear();
-    same
 }
 
 // Whether an act answers as it should.
@@ -429,6 +397,11 @@ const CASES: &[Case] = &[
     },
 ];
 
+const BOTH: Flags = Flags {
+    deleted: true,
+    ..SEEN
+};
+
 const LEAVES: &[Act] = &[
     Act::StoreEach(1, 8, FlagOp::Set(DELETED), DELETED),
     Act::StoreEach(1, 8, FlagOp::Insert(SEEN), BOTH),
@@ -472,6 +445,12 @@ const FLAGS: &[Act] = &[
     Act::Feed(Ok(2)),
     Act::Lines(b"* 2 FETCH (UID 2 FLAGS (\\Seen))\r\n* 1 FETCH (UID 1 FLAGS (\\Deleted))\r\n"),
 ];
+
+// A message that was read and has \Flagged.
+const STARRED: Flags = Flags {
+    flagged: true,
+    ..SEEN
+};
 
 // That the message is there, and then its flags: what a client is shown of it, and what is counted.
 const BROUGHT: &[Act] = &[
@@ -707,25 +686,10 @@ fn a_window_grows_for_a_client_that_falls_behind(rt: HostRuntime) -> Result<(), 
     Ok(())
 }
 
-// The date of the example of FETCH (RFC 9051, section 8).
-const CAME_WITH: Stamp = Stamp {
-    year: 1996,
-    month: 7,
-    day: 17,
-    hour: 2,
-    minute: 44,
-    second: 25,
-    zone: Zone {
-        is_west: true,
-        hours: 7,
-        minutes: 0,
-    },
-};
-
-// A copy that came with that date.
+// A copy that came with the date of the example.
 fn dated(alloc: Global) -> Result<Job, AllocError> {
     let copy = job(alloc, 0, b"hi\r\n", NO_FLAGS)?;
-    let date = read_internal_date(b"17-Jul-1996 02:44:25 -0700");
+    let date = read_internal_date(EXAMPLE_DATE);
     let text = Text::with_date(Vec::from_slice(alloc, b"hi\r\n")?, date)?;
     Ok(Job { text, ..copy })
 }
@@ -743,7 +707,7 @@ fn keeps_its_date(alloc: Global) -> Result<bool, AllocError> {
     let is_stored = verdict_of(mailbox.deliver(&dated(alloc)?)) == Verdict::Stored { uid: 2 };
     let (handle, _opening) = opened(&mut mailbox)?;
     let date = date_read(&mut mailbox, &handle, 2);
-    Ok(leaves(&mut mailbox, handle, false) == Ok(0) && is_stored && date == Some(CAME_WITH))
+    Ok(leaves(&mut mailbox, handle, false) == Ok(0) && is_stored && date == Some(example_date()))
 }
 
 #[test]

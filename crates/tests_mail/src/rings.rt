@@ -25,6 +25,14 @@ struct Case {
     seen: Seen,
 }
 
+// A ring of four cells that has dropped the first change.
+const FIRST_DROPPED: Seen = Seen {
+    lost: Ok(Some(Change::Add(0))),
+    capacity: 4,
+    base: 1,
+    lent: Ok((3, 1)),
+};
+
 const CASES: &[Case] = &[
     Case {
         name: "a ring with room keeps its size",
@@ -55,24 +63,14 @@ const CASES: &[Case] = &[
         more: 4,
         before: 4,
         keep_from: 1,
-        seen: Seen {
-            lost: Ok(Some(Change::Add(0))),
-            capacity: 4,
-            base: 1,
-            lent: Ok((3, 1)),
-        },
+        seen: FIRST_DROPPED,
     },
     Case {
         name: "a full ring that may not grow drops what is wanted",
         more: 0,
         before: 4,
         keep_from: 0,
-        seen: Seen {
-            lost: Ok(Some(Change::Add(0))),
-            capacity: 4,
-            base: 1,
-            lent: Ok((3, 1)),
-        },
+        seen: FIRST_DROPPED,
     },
     Case {
         name: "the second round begins in the first cell",

@@ -2,7 +2,7 @@
 
 use std::alloc::Global;
 use std::io::{ErrorKind, Read, Write};
-use std::net::TcpStream;
+use std::net::{Net, TcpListener, TcpStream};
 use std::sync::atomic::{AtomicBool, Ordering};
 use std::time::Duration;
 use std::{io, thread};
@@ -14,11 +14,19 @@ const MUCH: usize = 32 << 20;
 /// So many pauses of a tenth of a second a peer makes that takes a little at a time.
 const SIPS: u32 = 60;
 
+// A listener, and both sides of a connection to it.
+fn connected<R: Net<Listener = TcpListener, Stream = TcpStream>>(
+    rt: &R,
+) -> io::Result<(Listening, TcpStream, TcpStream)> {
+    let listening = Listening::bind(rt, 0)?;
+    let client = TcpStream::connect(rt, ("127.0.0.1", listening.port()))?;
+    let stream = listening.accept()?;
+    Ok((listening, client, stream))
+}
+
 #[test]
 fn bytes_go_both_ways(rt: HostRuntime) -> io::Result<()> {
-    let listening = Listening::bind(&rt, 0)?;
-    let mut client = TcpStream::connect(&rt, ("127.0.0.1", listening.port()))?;
-    let stream = listening.accept()?;
+    let (_listening, mut client, stream) = connected(&rt)?;
     prepare(&stream, Patience::Limited)?;
     client.write_all(b"hello")?;
     let mut heard = [0u8; 8];
@@ -41,9 +49,7 @@ fn a_shut_listener_wakes_who_waits(rt: HostRuntime) -> io::Result<()> {
 
 #[test]
 fn a_hushed_thread_finds_the_end_and_is_heard_still(rt: HostRuntime) -> io::Result<()> {
-    let listening = Listening::bind(&rt, 0)?;
-    let mut client = TcpStream::connect(&rt, ("127.0.0.1", listening.port()))?;
-    let stream = listening.accept()?;
+    let (_listening, mut client, stream) = connected(&rt)?;
     let shutdown_handle = ShutdownHandle::new();
     assert!(rt; shutdown_handle.is_empty(&rt));
     assert!(rt; shutdown_handle.hold(&rt, &stream));
@@ -62,9 +68,7 @@ fn a_hushed_thread_finds_the_end_and_is_heard_still(rt: HostRuntime) -> io::Resu
 
 #[test]
 fn a_cut_connection_is_at_its_end(rt: HostRuntime) -> io::Result<()> {
-    let listening = Listening::bind(&rt, 0)?;
-    let mut client = TcpStream::connect(&rt, ("127.0.0.1", listening.port()))?;
-    let stream = listening.accept()?;
+    let (_listening, mut client, stream) = connected(&rt)?;
     let shutdown_handle = ShutdownHandle::new();
     assert!(rt; shutdown_handle.hold(&rt, &stream));
     shutdown_handle.cut(&rt);
@@ -77,9 +81,7 @@ fn a_cut_connection_is_at_its_end(rt: HostRuntime) -> io::Result<()> {
 
 #[test]
 fn what_was_said_last_is_read(rt: HostRuntime) -> io::Result<()> {
-    let listening = Listening::bind(&rt, 0)?;
-    let mut client = TcpStream::connect(&rt, ("127.0.0.1", listening.port()))?;
-    let stream = listening.accept()?;
+    let (_listening, mut client, stream) = connected(&rt)?;
     client.write_all(b"bytes that nobody reads")?;
     let mut server = &stream;
     server.write_all(b"421")?;
@@ -125,9 +127,7 @@ fn sip(mut client: TcpStream, pause: &Pause, is_sent: &AtomicBool) -> u32 {
 
 #[test]
 fn a_peer_that_takes_nothing_has_its_time_once(rt: HostRuntime) -> io::Result<()> {
-    let listening = Listening::bind(&rt, 0)?;
-    let client = TcpStream::connect(&rt, ("127.0.0.1", listening.port()))?;
-    let stream = listening.accept()?;
+    let (_listening, client, stream) = connected(&rt)?;
     let bytes = much(rt.alloc())?;
     assert!(rt; is_sent_in_time(&stream, &bytes)?);
     drop(client);
@@ -136,9 +136,7 @@ fn a_peer_that_takes_nothing_has_its_time_once(rt: HostRuntime) -> io::Result<()
 
 #[test]
 fn a_peer_that_takes_a_little_has_no_more_time(rt: HostRuntime) -> io::Result<()> {
-    let listening = Listening::bind(&rt, 0)?;
-    let client = TcpStream::connect(&rt, ("127.0.0.1", listening.port()))?;
-    let stream = listening.accept()?;
+    let (_listening, client, stream) = connected(&rt)?;
     let (pause, bytes) = (Pause::new(&rt)?, much(rt.alloc())?);
     let is_sent = AtomicBool::new(false);
     let (in_time, sips) = thread::join(

@@ -1,7 +1,8 @@
 //! Keys in their order, texts that are shared, and the log of what was heard.
 
+use crate::support::{EXAMPLE_DATE, example_date, stamp};
 use delivery_token::{CopyKey, Refusal, Text, Verdict, WorkerLog, precedes};
-use mail_date::{Stamp, Zone, read_internal_date};
+use mail_date::{Stamp, read_internal_date};
 use std::alloc::{AllocError, Global};
 
 fn key(seat: u8, serial: u64, message: u32, recipient: u8) -> CopyKey {
@@ -32,43 +33,17 @@ fn a_copied_text_is_equal(rt: HostRuntime) -> Result<(), AllocError> {
 // A message whose header says the date of the message that RFC 3501 appends (section 6.3.11).
 const DATED: &[u8] = b"Received: by x; Mon, 7 Feb 1994 21:52:25 -0800\r\n\r\nhi\r\n";
 
-const SAID: Stamp = Stamp {
-    year: 1994,
-    month: 2,
-    day: 7,
-    hour: 21,
-    minute: 52,
-    second: 25,
-    zone: Zone {
-        is_west: true,
-        hours: 8,
-        minutes: 0,
-    },
-};
-
-// The date of the example of FETCH (RFC 9051, section 8).
-const GIVEN: &[u8] = b"17-Jul-1996 02:44:25 -0700";
-
-const BROUGHT: Stamp = Stamp {
-    year: 1996,
-    month: 7,
-    day: 17,
-    hour: 2,
-    minute: 44,
-    second: 25,
-    zone: Zone {
-        is_west: true,
-        hours: 7,
-        minutes: 0,
-    },
-};
+// That date.
+fn date_said() -> Stamp {
+    stamp((1994, 2, 7), (21, 52, 25), 8)
+}
 
 #[test]
 fn a_text_has_the_date_that_came_with_it(rt: HostRuntime) -> Result<(), AllocError> {
-    let given = read_internal_date(GIVEN);
+    let given = read_internal_date(EXAMPLE_DATE);
     let text = Text::with_date(Vec::from_slice(rt.alloc(), DATED)?, given)?;
-    assert_eq!(rt; text.date(), BROUGHT);
-    assert_eq!(rt; text.copy()?.date(), BROUGHT);
+    assert_eq!(rt; text.date(), example_date());
+    assert_eq!(rt; text.copy()?.date(), example_date());
     assert!(rt; text.given_date() == given);
     assert!(rt; text.as_slice() == DATED);
     Ok(())
@@ -77,8 +52,8 @@ fn a_text_has_the_date_that_came_with_it(rt: HostRuntime) -> Result<(), AllocErr
 #[test]
 fn a_text_without_a_date_has_that_of_its_header(rt: HostRuntime) -> Result<(), AllocError> {
     let text = Text::new(Vec::from_slice(rt.alloc(), DATED)?)?;
-    assert_eq!(rt; text.date(), SAID);
-    assert_eq!(rt; text.copy()?.date(), SAID);
+    assert_eq!(rt; text.date(), date_said());
+    assert_eq!(rt; text.copy()?.date(), date_said());
     assert!(rt; text.given_date().is_none());
     Ok(())
 }
