@@ -19,6 +19,8 @@ mod sessions;
 #[cfg(test)]
 mod stores;
 #[cfg(test)]
+mod support;
+#[cfg(test)]
 mod uid_sets;
 #[cfg(test)]
 mod views;
