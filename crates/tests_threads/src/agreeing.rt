@@ -2,6 +2,7 @@
 
 ghost use Rattle.std.specs.Prelude.{◌≡◌};
 
+use crate::support::key;
 use change_ring::NO_FLAGS;
 use delivery_token::{CopyKey, Job, Text, Verdict, WorkerLog};
 use envelope::Directory;
@@ -112,15 +113,6 @@ const CASES: &[Case] = &[
         ..GOOD
     },
 ];
-
-fn key(seat: u8, message: u32) -> CopyKey {
-    CopyKey {
-        seat,
-        serial: 0,
-        message,
-        recipient: 0,
-    }
-}
 
 fn text(alloc: Global, word: &str, date: &[u8]) -> Result<Text, AllocError> {
     Text::with_date(

@@ -5,6 +5,7 @@ use crate::gates::{PATIENCE, Passes, Turnstile};
 use crate::plans::{add_session, add_worker, messages_for, plan_of};
 use crate::reports::{DELIVERED, has_accepted, has_stored, have_said, replied_like};
 use crate::runs::{Reported, Stopped, run};
+use crate::support::key;
 use delivery_token::CopyKey;
 use running_house::Plan;
 use std::alloc::{AllocError, Global};
@@ -23,15 +24,6 @@ const TOLD: &[u8] = b"* PREAUTH IMAP4rev2 server ready\r\n\
 a1 OK [APPENDUID 7 3] APPEND completed\r\n\
 a2 OK NOOP completed\r\n\
 a3 OK [APPENDUID 7 4] APPEND completed\r\n";
-
-fn key(seat: u8, message: u32) -> CopyKey {
-    CopyKey {
-        seat,
-        serial: 0,
-        message,
-        recipient: 0,
-    }
-}
 
 // Alice alone: a worker brings her two messages, and her session appends two.
 fn plan(alloc: Global) -> Result<Plan, AllocError> {

@@ -3,63 +3,18 @@
 ghost use Rattle.std.specs.Prelude.{◌≡◌, ◌≢◌, ◌<◌, ◌≤◌, All, IfOk, None, length, vec_len};
 ghost use Rattle.house_shared.specs.Users.{user_numbered};
 
+use crate::support::{directory, sizes};
 use envelope::Directory;
 use house_history::Naming;
-use house_shared::{Guest, Opened, Sizes, inbox_numbered, is_nobody, open};
-use mailbox::{History, Limits};
+use house_shared::{Guest, Opened, inbox_numbered, is_nobody, open};
 use std::alloc::{AllocError, Global};
 use std::marker::Brand;
 use std::mem::ManuallyDrop;
 use std::test::Fail;
 
-fn directory(alloc: Global) -> Result<Directory, Fail>
-    ensures { IfOk result (λ d. 0 < d.shards) }
-{
-    let Ok(directory) = Directory::new(
-        alloc,
-        &[b"example.org".as_slice()],
-        &[
-            b"alice".as_slice(),
-            b"alice/Work".as_slice(),
-            b"bob".as_slice(),
-        ],
-        2,
-    ) else {
-        return Err(Fail::new("directory"));
-    };
-    Ok(directory)
-}
-
-const LIMITS: Limits = Limits {
-    messages: 8,
-    ring: 16,
-    ring_max: 0,
-};
-
 // A house that no thread works in can't be closed, and is left where it is.
 fn leave<B: Naming>(opened: Opened<B>) -> ManuallyDrop<Opened<B>> {
     unsafe { ManuallyDrop::new_unchecked(opened) }
-}
-
-// The sizes of a small house in which nobody closes a shard.
-fn sizes() -> Sizes<'static>
-    ensures depth { 0 < result.depth }
-    ensures host { length result.host.now < 256 }
-    ensures ring { 0 < result.limits.ring }
-{
-    Sizes {
-        host: b"mx.example.org",
-        max_message: 1000,
-        memory: None,
-        producers: 2,
-        depth: 4,
-        uidvalidity: 7,
-        first_uid: 1,
-        limits: LIMITS,
-        history: History::Kept,
-        turns: 10,
-        closings: &[],
-    }
 }
 
 #[test]
@@ -117,7 +72,7 @@ fn opened_for<B: Naming>(
     requires guests { All (λ v. user_numbered v.user directory.homes ≢ None) guests.now }
     requires few { length guests.now ≤ 256 }
 {
-    let opened = open::<B>(alloc, history, directory, sizes(), guests)?;
+    let opened = open::<B>(alloc, history, directory, sizes(2, 8), guests)?;
     let has = Has {
         bells: bells_in(&opened),
         stands: opened.crew.stands.len(),

@@ -33,4 +33,6 @@ mod rows;
 #[cfg(test)]
 mod runs;
 #[cfg(test)]
+mod support;
+#[cfg(test)]
 mod verdict_logs;

@@ -18,9 +18,22 @@ const NO_UID_LEFT: &[u8] = b"554 5.2.0 No UID left\r\n";
 // So many messages come, one behind the verdict on the other.
 const MESSAGES: usize = 3;
 
+// What a mailbox is short of.
+#[derive(Clone, Copy)]
+enum Bound {
+    // It holds so many messages.
+    Messages(usize),
+    // Its UIDs begin there. The last that may be given is 4294967294.
+    FirstUid(u32),
+}
+
 // One worker, to whom three messages come for one mailbox.
-fn three_messages(alloc: Global) -> Result<Plan, AllocError> {
+fn three_messages(alloc: Global, bound: Bound) -> Result<Plan, AllocError> {
     let mut plan = plan_of(alloc, &[b"alice".as_slice()], 1)?;
+    match bound {
+        Bound::Messages(messages) => plan.config.messages = messages,
+        Bound::FirstUid(uid) => plan.config.first_uid = uid,
+    }
     let bytes = messages_for(alloc, b"alice", MESSAGES)?;
     add_worker(alloc, bytes, &mut plan)?;
     Ok(plan)
@@ -30,11 +43,12 @@ fn three_messages(alloc: Global) -> Result<Plan, AllocError> {
 fn fates<R: Threads + Wait + Sync>(
     rt: &R,
     alloc: Global,
-    plan: &Plan,
+    bound: Bound,
     refusal: &[u8],
 ) -> Result<(usize, usize, usize), Stopped> {
+    let plan = three_messages(alloc, bound)?;
     let gate = Turnstile::new(alloc, 0);
-    let report = run(rt, alloc, plan, &gate)?;
+    let report = run(rt, alloc, &plan, &gate)?;
     Ok((
         replied_like(&report, 0, DELIVERED),
         replied_like(&report, 0, refusal),
@@ -42,33 +56,14 @@ fn fates<R: Threads + Wait + Sync>(
     ))
 }
 
-fn fill_mailbox<R: Threads + Wait + Sync>(
-    rt: &R,
-    alloc: Global,
-) -> Result<(usize, usize, usize), Stopped> {
-    let mut plan = three_messages(alloc)?;
-    plan.config.messages = 1;
-    fates(rt, alloc, &plan, MAILBOX_FULL)
-}
-
 #[test]
 fn a_mailbox_with_room_for_one(rt: HostRuntime) {
-    let seen = fill_mailbox(&rt, rt.alloc());
+    let seen = fates(&rt, rt.alloc(), Bound::Messages(1), MAILBOX_FULL);
     assert_eq!(rt; seen, Ok((1, 2, 1)));
-}
-
-// The last UID that may be given is 4294967294.
-fn spend_uids<R: Threads + Wait + Sync>(
-    rt: &R,
-    alloc: Global,
-) -> Result<(usize, usize, usize), Stopped> {
-    let mut plan = three_messages(alloc)?;
-    plan.config.first_uid = 4_294_967_293;
-    fates(rt, alloc, &plan, NO_UID_LEFT)
 }
 
 #[test]
 fn a_mailbox_with_two_uids_left(rt: HostRuntime) {
-    let seen = spend_uids(&rt, rt.alloc());
+    let seen = fates(&rt, rt.alloc(), Bound::FirstUid(4_294_967_293), NO_UID_LEFT);
     assert_eq!(rt; seen, Ok((2, 1, 2)));
 }

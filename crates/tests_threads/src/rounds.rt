@@ -15,17 +15,17 @@ ghost use Rattle.house_shared.specs.Opening.{AreBaskets};
 ghost use Rattle.tests_threads.specs.inner.Rounds.{AreSomeones, IsOwnPost};
 ghost use Rattle.tests_threads.specs.declared.rounds.Left.{Left};
 
+use crate::support::{directory, sizes};
 use change_ring::NO_FLAGS;
 use delivery_token::{CopyKey, Job, Text, Verdict};
 use envelope::Directory;
 use house_history::{Answer, Letter, Naming};
-use house_shared::{Baskets, Crew, HouseShared, Opened, Post, Sizes, Stand, open};
+use house_shared::{Baskets, Crew, HouseShared, Opened, Post, Stand, open};
 use lane_work::{
-    Closing, Consumed, Delivery, Desk, Dispatch, Intake, LanePermit, close_lanes, collect, end_all,
+    Consumed, Delivery, Desk, Dispatch, Intake, LanePermit, close_lanes, collect, end_all,
     spend_lists,
 };
 use locked_mailbox::LockedMailbox;
-use mailbox::{History, Limits};
 use shard_queue::{
     Closed, ConsumerPermit, Ended, Entry, Full, ProducerPermit, ReceiverPermit, ReplyChannel,
     SenderEnded, ShardQueue,
@@ -36,7 +36,7 @@ use shared_consumers::{
 };
 use std::alloc::{AllocError, AllocGlobal, Global};
 use std::marker::Brand;
-use std::mem::ManuallyDrop;
+use std::mem::{self, ManuallyDrop};
 use std::process::Abort;
 use std::sync::{Mutex, Wait};
 use std::test::Fail;
@@ -568,51 +568,6 @@ fn each_once(keys: &[CopyKey]) -> bool {
     true
 }
 
-const LIMITS: Limits = Limits {
-    messages: 100,
-    ring: 16,
-    ring_max: 0,
-};
-
-// How large its parts are. Nobody closes a shard before the end.
-fn sizes<'a>(closings: &'a [Vec<Closing>]) -> Sizes<'a>
-    ensures host { length result.host.now < 256 }
-    ensures sizes { (result.producers ≡ 3) × (result.depth ≡ 4) × (0 < result.limits.ring) }
-{
-    Sizes {
-        host: b"mx.example.org",
-        max_message: 1000,
-        memory: None,
-        producers: WORKERS,
-        depth: 4,
-        uidvalidity: 7,
-        first_uid: 1,
-        limits: LIMITS,
-        history: History::Kept,
-        turns: 10,
-        closings,
-    }
-}
-
-// Three mailboxes on two shards.
-fn directory(alloc: Global) -> Result<Directory, Fail>
-    ensures { IfOk result (λ d. d.shards ≡ 2) }
-{
-    let Ok(directory) = Directory::new(
-        alloc,
-        &[b"example.org".as_slice()],
-        &[
-            b"alice".as_slice(),
-            b"alice/Work".as_slice(),
-            b"bob".as_slice(),
-        ],
-        2,
-    ) else {
-        return Err(Fail::new("directory"));
-    };
-    Ok(directory)
-}
-
 // A round in a house whose history was just opened.
 fn round_in<B: Naming + Send + Sync, T: Threads + Wait + Sync + Abort + AllocGlobal>(
     rt: &T,
@@ -627,7 +582,7 @@ fn round_in<B: Naming + Send + Sync, T: Threads + Wait + Sync + Abort + AllocGlo
         crew,
         baskets,
         session_parkers: _,
-    } = open::<B>(rt.alloc(), history, directory, sizes(&[]), &[])?;
+    } = open::<B>(rt.alloc(), history, directory, sizes(WORKERS, 100), &[])?;
     Ok(run_in::<B, Brand, T>(rt, shared, crew, baskets))
 }
 
@@ -744,27 +699,14 @@ fn idle_once<B: Naming + Send + Sync, T: Threads + Wait + Sync + Abort + AllocGl
     requires history { history ≡ B.book }
     requires directory { directory.shards ≡ 2 }
 {
-    let Opened {
-        shared,
-        crew,
-        baskets,
-        session_parkers: _,
-    } = open::<B>(rt.alloc(), history, directory, sizes(&[]), &[])?;
-    let Crew {
-        stands,
-        posts,
-        consumed,
-        worked,
-        unmanned,
-    } = crew;
-    let (shard, stands) = idle_in::<B, Brand, T>(rt, &shared, stands);
+    let alloc = rt.alloc();
+    let mut opened = open::<B>(alloc, history, directory, sizes(WORKERS, 100), &[])?;
+    let stands = mem::replace(&mut opened.crew.stands, Vec::new(alloc));
+    let (shard, stands) = idle_in::<B, Brand, T>(rt, &opened.shared, stands);
     let count = stands.len();
     // A house whose permits haven't ended can't be closed, and is left where it is.
-    let _shared = packed(shared);
-    let _baskets = packed(baskets);
+    let _opened = packed(opened);
     let _stands = packed(stands);
-    let _posts = packed(posts);
-    let _lists = packed((consumed, worked, unmanned));
     Ok((shard, count))
 }
 
