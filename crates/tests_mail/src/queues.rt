@@ -1,86 +1,42 @@
 //! A shard queue by its worked case, and shared by sixteen threads.
 
-ghost use Rattle.std.specs.Prelude.{◌≡◌, ◌+◌, ◌≤◌, [], All, vec_len, vec_capacity};
-ghost use Rattle.std.specs.Mem.{manually_drop_value};
+ghost use Rattle.std.specs.Prelude.{◌≡◌, All};
 ghost use Rattle.shard_queue.specs.Permits.{IsProducer, IsEnded, IsConsumer};
 
-use crate::parcels::{ITEMS, are_all, is_next, packed};
+use crate::parcels::{
+    ITEMS, SharedLane, are_all, at_end, handed_back, is_next, last_permit, pack_all, unpack_all,
+    work,
+};
 use shard_queue::{ConsumerPermit, Ended, Full, NotAll, ProducerPermit, ShardQueue, Taken};
 use std::alloc::Global;
-use std::mem::ManuallyDrop;
 use std::process::Abort;
 use std::sync::Wait;
 use std::test::Fail;
 use std::thread;
 
-// Puts the numbers from 0, each where there is room.
-fn put_all(rt: &impl Wait, queue: &ShardQueue<u32>, permit: &mut ProducerPermit<u32>)
-    requires { IsProducer queue.now permit.old }
-    ensures { IsProducer queue.now permit.new }
-{
-    for item in 0..ITEMS {
-        let _ = queue.put_as(rt, permit, item);
-    }
-}
+impl SharedLane for ShardQueue<u32> {
+    type Permit = ProducerPermit<u32>;
 
-// Ends the permit, as soon as there is room.
-fn end(rt: &impl Wait, queue: &ShardQueue<u32>, mut permit: ProducerPermit<u32>) -> Ended<u32>
-    requires { IsProducer queue.now permit }
-    ensures { IsEnded queue.now result }
-{
-    for _ in rt.forever() {
-        match queue.end_as(rt, permit) {
-            Ok(ended) => return ended,
-            Err(back) => permit = back,
+    type Ended = Ended<u32>;
+
+    ghost is_permit = { IsProducer };
+
+    ghost has_ended = { IsEnded };
+
+    fn put<R: Wait>(&self, rt: &R, permit: &mut ProducerPermit<u32>, item: u32) -> Option<u32> {
+        match self.put_as(rt, permit, item) {
+            Ok(()) => None,
+            Err(Full(back)) => Some(back),
         }
-        thread::yield_now();
     }
-    unreachable!()
-}
 
-fn work(
-    rt: &impl Wait,
-    queue: &ShardQueue<u32>,
-    parcel: ManuallyDrop<ProducerPermit<u32>>,
-) -> ManuallyDrop<Ended<u32>>
-    requires { IsProducer queue.now (manually_drop_value parcel) }
-    ensures { IsEnded queue.now (manually_drop_value result) }
-{
-    let mut permit = ManuallyDrop::into_inner(parcel);
-    put_all(rt, queue, &mut permit);
-    packed(end(rt, queue, permit))
-}
-
-fn pack_all(
-    queue: &ShardQueue<u32>,
-    mut permits: Vec<ProducerPermit<u32>>,
-    mut parcels: Vec<ManuallyDrop<ProducerPermit<u32>>>,
-) -> Vec<ManuallyDrop<ProducerPermit<u32>>>
-    requires permits { All (IsProducer queue.now) permits.items }
-    requires room { (vec_len permits ≤ vec_capacity parcels) × (parcels.items ≡ []) }
-    ensures permits { All (λ s. IsProducer queue.now (manually_drop_value s)) result.items }
-    ensures len { vec_len result ≡ vec_len permits }
-{
-    while let Some(permit) = permits.pop() {
-        parcels.push_reserved(packed(permit));
+    fn end<R: Wait>(
+        &self,
+        rt: &R,
+        permit: ProducerPermit<u32>,
+    ) -> Result<Ended<u32>, ProducerPermit<u32>> {
+        self.end_as(rt, permit)
     }
-    permits.destroy_empty();
-    parcels
-}
-
-fn unpack_all(
-    queue: &ShardQueue<u32>,
-    mut parcels: Vec<ManuallyDrop<Ended<u32>>>,
-    mut ended: Vec<Ended<u32>>,
-) -> Vec<Ended<u32>>
-    requires parcels { All (λ e. IsEnded queue.now (manually_drop_value e)) parcels.items }
-    requires room { (vec_len parcels ≤ vec_capacity ended) × (ended.items ≡ []) }
-    ensures { All (IsEnded queue.now) result.items }
-{
-    while let Some(parcel) = parcels.pop() {
-        ended.push_reserved(ManuallyDrop::into_inner(parcel));
-    }
-    ended
 }
 
 // Takes so many entries, and says whether each producer's items came in order, each before its end.
@@ -106,37 +62,6 @@ fn take_all(
     in_order
 }
 
-// The last of the permits.
-fn last_permit(
-    rt: &impl Abort,
-    queue: &ShardQueue<u32>,
-    permits: &mut Vec<ProducerPermit<u32>>,
-) -> ProducerPermit<u32>
-    requires { All (IsProducer queue.now) permits.old.items }
-    ensures permit { IsProducer queue.now result }
-    ensures others { All (IsProducer queue.now) permits.new.items }
-    ensures len { vec_len permits.old ≡ vec_len permits.new + 1 }
-    ensures capacity { vec_capacity permits.new ≡ vec_capacity permits.old }
-{
-    permits.pop().expect(rt, "a permit")
-}
-
-// The item, where it had no room.
-fn put(
-    rt: &impl Wait,
-    queue: &ShardQueue<u32>,
-    permit: &mut ProducerPermit<u32>,
-    item: u32,
-) -> Option<u32>
-    requires { IsProducer queue.now permit.old }
-    ensures { IsProducer queue.now permit.new }
-{
-    match queue.put_as(rt, permit, item) {
-        Ok(()) => None,
-        Err(Full(back)) => Some(back),
-    }
-}
-
 // Whose entry is taken, where one waits, and its item, which an end has not.
 fn taken(
     rt: &impl Wait,
@@ -150,42 +75,6 @@ fn taken(
         Taken::Item(p, item) => Some((p, Some(item))),
         Taken::End(p) => Some((p, None)),
         Taken::Empty => None,
-    }
-}
-
-// The permit, whose end has no room.
-fn handed_back<R: Wait + Abort>(
-    rt: &R,
-    queue: &ShardQueue<u32>,
-    permit: ProducerPermit<u32>,
-) -> ProducerPermit<u32>
-    requires { IsProducer queue.now permit }
-    ensures { IsProducer queue.now result }
-{
-    match queue.end_as(rt, permit) {
-        Err(permit) => permit,
-        Ok(ended) => {
-            packed(ended);
-            panic!(rt; "there was room")
-        }
-    }
-}
-
-// What is left of the permit, whose end has room.
-fn at_end<R: Wait + Abort>(
-    rt: &R,
-    queue: &ShardQueue<u32>,
-    permit: ProducerPermit<u32>,
-) -> Ended<u32>
-    requires { IsProducer queue.now permit }
-    ensures { IsEnded queue.now result }
-{
-    match queue.end_as(rt, permit) {
-        Ok(ended) => ended,
-        Err(permit) => {
-            packed(permit);
-            panic!(rt; "there was no room")
-        }
     }
 }
 
@@ -241,9 +130,9 @@ fn a_full_queue_hands_back(rt: HostRuntime) {
     let mut second = last_permit(&rt, &queue, &mut permits);
     let mut first = last_permit(&rt, &queue, &mut permits);
     let numbers = [first.number(), second.number()];
-    let one = put(&rt, &queue, &mut first, 7);
-    let two = put(&rt, &queue, &mut second, 8);
-    let three = put(&rt, &queue, &mut first, 9);
+    let one = queue.put(&rt, &mut first, 7);
+    let two = queue.put(&rt, &mut second, 8);
+    let three = queue.put(&rt, &mut first, 9);
     let first = handed_back(&rt, &queue, first);
     let back = first.number();
     let one_taken = taken(&rt, &queue, &mut consumer);

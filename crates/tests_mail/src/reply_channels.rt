@@ -1,92 +1,44 @@
 //! A reply channel by its worked case, and shared by eight threads.
 
-ghost use Rattle.std.specs.Prelude.{◌≡◌, ◌+◌, ◌≤◌, [], All, vec_len, vec_capacity};
-ghost use Rattle.std.specs.Mem.{manually_drop_value};
+ghost use Rattle.std.specs.Prelude.{◌≡◌, All};
 ghost use Rattle.shard_queue.specs.Reply.{IsSender, IsSenderEnded, IsReceiver};
 
-use crate::parcels::{ITEMS, are_all, is_next, packed};
+use crate::parcels::{
+    ITEMS, SharedLane, are_all, at_end, handed_back, is_next, last_permit, pack_all, unpack_all,
+    work,
+};
 use shard_queue::{
     Entry, Full, ReceiverPermit, ReplyChannel, ReplyNotAll, SenderEnded, SenderPermit,
 };
 use std::alloc::Global;
-use std::mem::ManuallyDrop;
 use std::process::Abort;
 use std::sync::Wait;
 use std::test::Fail;
 use std::thread;
 
-// Puts the numbers from 0, each where there is room.
-fn send_all(rt: &impl Wait, channel: &ReplyChannel<u32>, permit: &mut SenderPermit<u32>)
-    requires { IsSender channel.now permit.old }
-    ensures { IsSender channel.now permit.new }
-{
-    for item in 0..ITEMS {
-        let _ = channel.send_as(rt, permit, item);
-    }
-}
+impl SharedLane for ReplyChannel<u32> {
+    type Permit = SenderPermit<u32>;
 
-// Ends the permit, as soon as there is room.
-fn end(
-    rt: &impl Wait,
-    channel: &ReplyChannel<u32>,
-    mut permit: SenderPermit<u32>,
-) -> SenderEnded<u32>
-    requires { IsSender channel.now permit }
-    ensures { IsSenderEnded channel.now result }
-{
-    for _ in rt.forever() {
-        match channel.end_as(rt, permit) {
-            Ok(ended) => return ended,
-            Err(back) => permit = back,
+    type Ended = SenderEnded<u32>;
+
+    ghost is_permit = { IsSender };
+
+    ghost has_ended = { IsSenderEnded };
+
+    fn put<R: Wait>(&self, rt: &R, permit: &mut SenderPermit<u32>, item: u32) -> Option<u32> {
+        match self.send_as(rt, permit, item) {
+            Ok(()) => None,
+            Err(Full(back)) => Some(back),
         }
-        thread::yield_now();
     }
-    unreachable!()
-}
 
-fn work(
-    rt: &impl Wait,
-    channel: &ReplyChannel<u32>,
-    parcel: ManuallyDrop<SenderPermit<u32>>,
-) -> ManuallyDrop<SenderEnded<u32>>
-    requires { IsSender channel.now (manually_drop_value parcel) }
-    ensures { IsSenderEnded channel.now (manually_drop_value result) }
-{
-    let mut permit = ManuallyDrop::into_inner(parcel);
-    send_all(rt, channel, &mut permit);
-    packed(end(rt, channel, permit))
-}
-
-fn pack_all(
-    channel: &ReplyChannel<u32>,
-    mut permits: Vec<SenderPermit<u32>>,
-    mut parcels: Vec<ManuallyDrop<SenderPermit<u32>>>,
-) -> Vec<ManuallyDrop<SenderPermit<u32>>>
-    requires permits { All (IsSender channel.now) permits.items }
-    requires room { (vec_len permits ≤ vec_capacity parcels) × (parcels.items ≡ []) }
-    ensures permits { All (λ s. IsSender channel.now (manually_drop_value s)) result.items }
-    ensures len { vec_len result ≡ vec_len permits }
-{
-    while let Some(permit) = permits.pop() {
-        parcels.push_reserved(packed(permit));
+    fn end<R: Wait>(
+        &self,
+        rt: &R,
+        permit: SenderPermit<u32>,
+    ) -> Result<SenderEnded<u32>, SenderPermit<u32>> {
+        self.end_as(rt, permit)
     }
-    permits.destroy_empty();
-    parcels
-}
-
-fn unpack_all(
-    channel: &ReplyChannel<u32>,
-    mut parcels: Vec<ManuallyDrop<SenderEnded<u32>>>,
-    mut ended: Vec<SenderEnded<u32>>,
-) -> Vec<SenderEnded<u32>>
-    requires parcels { All (λ e. IsSenderEnded channel.now (manually_drop_value e)) parcels.items }
-    requires room { (vec_len parcels ≤ vec_capacity ended) × (ended.items ≡ []) }
-    ensures { All (IsSenderEnded channel.now) result.items }
-{
-    while let Some(parcel) = parcels.pop() {
-        ended.push_reserved(ManuallyDrop::into_inner(parcel));
-    }
-    ended
 }
 
 // Takes so many entries, and says whether each producer's items came in order, each before its end.
@@ -111,37 +63,6 @@ fn receive_all(
     in_order
 }
 
-// The last of the permits.
-fn last_permit(
-    rt: &impl Abort,
-    channel: &ReplyChannel<u32>,
-    permits: &mut Vec<SenderPermit<u32>>,
-) -> SenderPermit<u32>
-    requires { All (IsSender channel.now) permits.old.items }
-    ensures permit { IsSender channel.now result }
-    ensures others { All (IsSender channel.now) permits.new.items }
-    ensures len { vec_len permits.old ≡ vec_len permits.new + 1 }
-    ensures capacity { vec_capacity permits.new ≡ vec_capacity permits.old }
-{
-    permits.pop().expect(rt, "a permit")
-}
-
-// The item, where it had no room.
-fn sent(
-    rt: &impl Wait,
-    channel: &ReplyChannel<u32>,
-    permit: &mut SenderPermit<u32>,
-    item: u32,
-) -> Option<u32>
-    requires { IsSender channel.now permit.old }
-    ensures { IsSender channel.now permit.new }
-{
-    match channel.send_as(rt, permit, item) {
-        Ok(()) => None,
-        Err(Full(back)) => Some(back),
-    }
-}
-
 // Whose entry is received, and its item, which an end has not.
 fn received(
     rt: &impl Wait,
@@ -154,42 +75,6 @@ fn received(
     match channel.recv_as(rt, permit) {
         Entry::Item(p, item) => (p, Some(item)),
         Entry::End(p) => (p, None),
-    }
-}
-
-// The permit, whose end has no room.
-fn handed_back<R: Wait + Abort>(
-    rt: &R,
-    channel: &ReplyChannel<u32>,
-    permit: SenderPermit<u32>,
-) -> SenderPermit<u32>
-    requires { IsSender channel.now permit }
-    ensures { IsSender channel.now result }
-{
-    match channel.end_as(rt, permit) {
-        Err(permit) => permit,
-        Ok(ended) => {
-            packed(ended);
-            panic!(rt; "there was room")
-        }
-    }
-}
-
-// What is left of the permit, whose end has room.
-fn at_end<R: Wait + Abort>(
-    rt: &R,
-    channel: &ReplyChannel<u32>,
-    permit: SenderPermit<u32>,
-) -> SenderEnded<u32>
-    requires { IsSender channel.now permit }
-    ensures { IsSenderEnded channel.now result }
-{
-    match channel.end_as(rt, permit) {
-        Ok(ended) => ended,
-        Err(permit) => {
-            packed(permit);
-            panic!(rt; "there was no room")
-        }
     }
 }
 
@@ -245,9 +130,9 @@ fn a_full_channel_hands_back(rt: HostRuntime) {
     let mut second = last_permit(&rt, &channel, &mut permits);
     let mut first = last_permit(&rt, &channel, &mut permits);
     let numbers = [first.number(), second.number()];
-    let one = sent(&rt, &channel, &mut first, 7);
-    let two = sent(&rt, &channel, &mut second, 8);
-    let three = sent(&rt, &channel, &mut first, 9);
+    let one = channel.put(&rt, &mut first, 7);
+    let two = channel.put(&rt, &mut second, 8);
+    let three = channel.put(&rt, &mut first, 9);
     let first = handed_back(&rt, &channel, first);
     let back = first.number();
     let one_received = received(&rt, &channel, &mut receiver);

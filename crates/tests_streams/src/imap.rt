@@ -3,9 +3,9 @@
 
 ghost use Rattle.std.specs.Prelude.{◌≡◌, false};
 
+use crate::couriers::{TestCourier, Way};
 use crate::houses::{TestHouse, open_house};
 use crate::sessions::store_of;
-use crate::stream_couriers::TestCourier;
 use crate::wires::{Prompt, Tally, Wire};
 use budget::Budget;
 use change_ring::NO_FLAGS;
@@ -162,7 +162,7 @@ pub(crate) fn nobody<'a, B: Naming, R: Wait>(
     rt: &'a R,
     house: &'a TestHouse<B>,
 ) -> TestCourier<'a, B, R> {
-    TestCourier::new(rt, house, Some(Lost::Torn))
+    TestCourier::new(rt, house, Way::Loses(Lost::Torn))
 }
 
 const GREETING: &[u8] = b"* PREAUTH IMAP4rev2 server ready\r\n";

@@ -5,6 +5,8 @@
 #[cfg(test)]
 mod answers;
 #[cfg(test)]
+mod couriers;
+#[cfg(test)]
 mod houses;
 #[cfg(test)]
 mod imap;

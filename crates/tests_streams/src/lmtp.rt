@@ -207,6 +207,18 @@ const PLAIN: Case = Case {
     replies: &[GREETING, EXTENSIONS, SENDER, RECIPIENT, START, DELIVERED],
 };
 
+// two messages in one burst, the first for two recipients
+const TWO_AT_ONCE: Case = Case {
+    pieces: &[TWO],
+    buffer: 300,
+    want: Ok(Ending::Quit),
+    replies: &[
+        GREETING, EXTENSIONS, SENDER, RECIPIENT, RECIPIENT, START, DELIVERED, DELIVERED, SENDER,
+        RECIPIENT, START, DELIVERED, BYE,
+    ],
+    ..PLAIN
+};
+
 const CASES: &[Case] = &[
     PLAIN,
     // byte by byte
@@ -226,27 +238,11 @@ const CASES: &[Case] = &[
         ],
         ..PLAIN
     },
-    // two messages in one burst, the first for two recipients
-    Case {
-        pieces: &[TWO],
-        buffer: 300,
-        want: Ok(Ending::Quit),
-        replies: &[
-            GREETING, EXTENSIONS, SENDER, RECIPIENT, RECIPIENT, START, DELIVERED, DELIVERED,
-            SENDER, RECIPIENT, START, DELIVERED, BYE,
-        ],
-        ..PLAIN
-    },
+    TWO_AT_ONCE,
     // the same byte by byte
     Case {
-        pieces: &[TWO],
         buffer: 1,
-        want: Ok(Ending::Quit),
-        replies: &[
-            GREETING, EXTENSIONS, SENDER, RECIPIENT, RECIPIENT, START, DELIVERED, DELIVERED,
-            SENDER, RECIPIENT, START, DELIVERED, BYE,
-        ],
-        ..PLAIN
+        ..TWO_AT_ONCE
     },
     // a peer that says nothing
     Case {

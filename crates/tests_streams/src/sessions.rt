@@ -3,9 +3,9 @@
 
 ghost use Rattle.std.specs.Prelude.{◌≡◌, None};
 
+use crate::couriers::{TestCourier, Way};
 use crate::houses::{TestHouse, open_house};
 use crate::imap::known;
-use crate::thread_couriers::{TestCourier, Way};
 use change_ring::{FlagOp, Flags, NO_FLAGS};
 use delivery_token::{Text, Verdict};
 use house_history::{Naming, Opened};
@@ -436,36 +436,23 @@ fn has_chosen<B: Naming, R: Wait>(
     }
 }
 
-// Each call of a session that is in no mailbox, or of one that isn't there: all are refused.
-fn calls_outside<B: Naming, R: Wait>(
+// Each call of a session that enters a mailbox and leaves it, a look and seven events: whether all are answered, or all refused, as
+// they are where the mailbox isn't there.
+fn each_call_is<B: Naming, R: Wait>(
+    answered: bool,
     store: &mut LockedStore<'_, B, R, Tally>,
+    mailbox: u8,
     alloc: Global,
     out: &mut Vec<u8>,
 ) -> bool {
-    store.enter(2).is_err()
-        && has_chosen(store, alloc) == Some(false)
-        && store.read(1, false).is_err()
-        && store.status(2).is_err()
-        && store.store(1, FlagOp::Insert(FLAGGED)).is_err()
-        && store.expunge(None, 0, out).is_err()
-        && store.feed(64, 0, out).is_err()
-        && store.leave(true).is_err()
-}
-
-// Each call of a session that enters a mailbox and leaves it: a look, and seven events.
-fn calls_inside<B: Naming, R: Wait>(
-    store: &mut LockedStore<'_, B, R, Tally>,
-    alloc: Global,
-    out: &mut Vec<u8>,
-) -> bool {
-    store.enter(0).is_ok()
-        && has_chosen(store, alloc) == Some(true)
-        && store.read(1, false).is_ok()
-        && store.status(0).is_ok()
-        && store.store(1, FlagOp::Insert(FLAGGED)).is_ok()
-        && store.expunge(None, 0, out).is_ok()
-        && store.feed(64, 0, out).is_ok()
-        && store.leave(false).is_ok()
+    store.enter(mailbox).is_ok() == answered
+        && has_chosen(store, alloc) == Some(answered)
+        && store.read(1, false).is_ok() == answered
+        && store.status(mailbox).is_ok() == answered
+        && store.store(1, FlagOp::Insert(FLAGGED)).is_ok() == answered
+        && store.expunge(None, 0, out).is_ok() == answered
+        && store.feed(64, 0, out).is_ok() == answered
+        && store.leave(!answered).is_ok() == answered
 }
 
 // How many messages two mailboxes tell, and with which UIDVALIDITY.
@@ -529,11 +516,11 @@ fn passes_in<B: Naming, R: Wait>(
     let tally = Tally::new();
     let mut out = Vec::new(alloc);
     let mut store = store_of(rt, &tally, 0, &house, &[]);
-    if !calls_outside(&mut store, alloc, &mut out) {
+    if !each_call_is(false, &mut store, 2, alloc, &mut out) {
         return Ok(None);
     }
     let outside = tally.asked();
-    if !calls_inside(&mut store, alloc, &mut out) {
+    if !each_call_is(true, &mut store, 0, alloc, &mut out) {
         return Ok(None);
     }
     let inside = tally.asked();
@@ -572,22 +559,45 @@ fn takes_its_own<B: Naming, R: Wait>(store: &mut LockedStore<'_, B, R, Tally>) -
         && store.store(1, FlagOp::Insert(FLAGGED)) == Ok(Some(FLAGGED))
 }
 
-fn takes_its_own_in<B: Naming, R: Wait>(
+// What is looked at in a house of two mailboxes, of which the first has one message.
+#[derive(Clone, Copy)]
+enum Look {
+    // Each call is of the mailbox that it asks for.
+    TakesItsOwn,
+    // The bell is rung behind each call that logged a change.
+    Rings,
+    // No other mailbox is taken for the one that was asked for.
+    TakesNoOther,
+    // A session of another mailbox is told so.
+    SaysBye,
+    // The handle of another mailbox is a stranger to each call.
+    IsAStranger,
+}
+
+// Whether that is so in a house whose history was just opened.
+fn is_so<B: Naming, R: Wait>(
     rt: &R,
     alloc: Global,
     history: Opened,
+    look: Look,
 ) -> Result<bool, AllocError>
     requires { history ≡ B.book }
 {
     let house = with_a_message::<B, R>(rt, alloc, history)?;
     let tally = Tally::new();
-    Ok(takes_its_own(&mut store_of(rt, &tally, 0, &house, &[])))
+    match look {
+        Look::TakesItsOwn => Ok(takes_its_own(&mut store_of(rt, &tally, 0, &house, &[]))),
+        Look::Rings => rings_each_time(rt, alloc, &house),
+        Look::TakesNoOther => Ok(takes_no_other(rt, &house)),
+        Look::SaysBye => says_bye(rt, alloc, &house),
+        Look::IsAStranger => Ok(is_a_stranger_meanwhile(rt, alloc, &house)),
+    }
 }
 
 // Nothing but this says that the lock at a number is the one that is taken.
 #[test]
 fn each_call_takes_the_lock_of_its_mailbox(rt: HostRuntime) -> Result<(), AllocError> {
-    assert!(rt; takes_its_own_in::<Brand, HostRuntime>(&rt, rt.alloc(), Opened::new())?);
+    assert!(rt; is_so::<Brand, HostRuntime>(&rt, rt.alloc(), Opened::new(), Look::TakesItsOwn)?);
     Ok(())
 }
 
@@ -618,19 +628,16 @@ fn wakes_each_time<B: Naming, R: Wait>(
 fn rings_each_time<B: Naming, R: Wait>(
     rt: &R,
     alloc: Global,
-    history: Opened,
-) -> Result<bool, AllocError>
-    requires { history ≡ B.book }
-{
-    let house = with_a_message::<B, R>(rt, alloc, history)?;
+    house: &TestHouse<B>,
+) -> Result<bool, AllocError> {
     let bell = SessionParker::new(alloc)?;
     let bells = bells_of(alloc, &bell)?;
-    Ok(wakes_each_time(rt, alloc, &house, &bells, &bell))
+    Ok(wakes_each_time(rt, alloc, house, &bells, &bell))
 }
 
 #[test]
 fn a_change_rings_the_users_bells(rt: HostRuntime) -> Result<(), AllocError> {
-    assert!(rt; rings_each_time::<Brand, HostRuntime>(&rt, rt.alloc(), Opened::new())?);
+    assert!(rt; is_so::<Brand, HostRuntime>(&rt, rt.alloc(), Opened::new(), Look::Rings)?);
     Ok(())
 }
 
@@ -662,23 +669,12 @@ fn takes_no_other<B: Naming, R: Wait>(rt: &R, house: &TestHouse<B>) -> bool {
     torn == Err(Lost::Torn) && depart(&mut store) == Ok(()) && depart(&mut store) == Ok(())
 }
 
-fn takes_no_other_in<B: Naming, R: Wait>(
-    rt: &R,
-    alloc: Global,
-    history: Opened,
-) -> Result<bool, AllocError>
-    requires { history ≡ B.book }
-{
-    let house = with_a_message::<B, R>(rt, alloc, history)?;
-    Ok(takes_no_other(rt, &house))
-}
-
 // A session looks at the number of the mailbox that it finds: neither SELECT nor STATUS takes another for it.
 #[test]
 fn another_mailbox_is_not_taken_for_the_one_that_was_asked_for(
     rt: HostRuntime,
 ) -> Result<(), AllocError> {
-    assert!(rt; takes_no_other_in::<Brand, HostRuntime>(&rt, rt.alloc(), Opened::new())?);
+    assert!(rt; is_so::<Brand, HostRuntime>(&rt, rt.alloc(), Opened::new(), Look::TakesNoOther)?);
     Ok(())
 }
 
@@ -715,16 +711,13 @@ const LINES: &[&[u8]] = &[
 ];
 
 // Whether each of these lines is answered with BYE, and ends the session.
-fn says_bye_in<B: Naming, R: Wait>(
+fn says_bye<B: Naming, R: Wait>(
     rt: &R,
     alloc: Global,
-    history: Opened,
-) -> Result<bool, AllocError>
-    requires { history ≡ B.book }
-{
-    let house = with_a_message::<B, R>(rt, alloc, history)?;
+    house: &TestHouse<B>,
+) -> Result<bool, AllocError> {
     for line in LINES {
-        let (said, has_ended) = told_by_another(rt, alloc, &house, line)?;
+        let (said, has_ended) = told_by_another(rt, alloc, house, line)?;
         if !has_ended || said.as_slice() != b"* BYE Internal fault\r\n".as_slice() {
             return Ok(false);
         }
@@ -735,7 +728,7 @@ fn says_bye_in<B: Naming, R: Wait>(
 // RFC 9051, 7.1.5: a server that is about to close the connection says BYE.
 #[test]
 fn a_session_of_another_mailbox_is_told_so_and_ends(rt: HostRuntime) -> Result<(), AllocError> {
-    assert!(rt; says_bye_in::<Brand, HostRuntime>(&rt, rt.alloc(), Opened::new())?);
+    assert!(rt; is_so::<Brand, HostRuntime>(&rt, rt.alloc(), Opened::new(), Look::SaysBye)?);
     Ok(())
 }
 
@@ -774,21 +767,10 @@ fn is_a_stranger_meanwhile<B: Naming, R: Wait>(
         && store.leave(false) == Ok(0)
 }
 
-fn is_a_stranger_in<B: Naming, R: Wait>(
-    rt: &R,
-    alloc: Global,
-    history: Opened,
-) -> Result<bool, AllocError>
-    requires { history ≡ B.book }
-{
-    let house = with_a_message::<B, R>(rt, alloc, history)?;
-    Ok(is_a_stranger_meanwhile(rt, alloc, &house))
-}
-
 #[test]
 fn a_handle_of_another_mailbox_is_a_stranger_to_each_call(
     rt: HostRuntime,
 ) -> Result<(), AllocError> {
-    assert!(rt; is_a_stranger_in::<Brand, HostRuntime>(&rt, rt.alloc(), Opened::new())?);
+    assert!(rt; is_so::<Brand, HostRuntime>(&rt, rt.alloc(), Opened::new(), Look::IsAStranger)?);
     Ok(())
 }

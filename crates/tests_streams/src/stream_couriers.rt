@@ -3,11 +3,10 @@
 
 ghost use Rattle.std.specs.Prelude.{◌≡◌, false};
 
+use crate::couriers::{TestCourier, Way};
 use crate::houses::TestHouse;
 use crate::imap::{a_mailbox, attend_one, is_greeting_and, open};
 use crate::wires::{Prompt, Tally, Wire};
-use change_ring::Flags;
-use delivery_token::{Text, Verdict};
 use house_history::{Naming, Opened};
 use imap_session::After;
 use imap_stream::{Visit, VisitFault};
@@ -15,70 +14,15 @@ use std::alloc::{AllocError, Global};
 use std::marker::Brand;
 use std::sync::atomic::AtomicBool;
 use std::sync::{Mutex, Wait};
-use workers_sync::{Courier, Gate, Lost, SyncPoint};
+use workers_sync::Lost;
 
 // The most bytes of a message.
 const MOST: u32 = 64;
 
-// A courier that delivers each message into its mailbox, or loses it.
-#[derive(Drop)]
-pub(crate) struct TestCourier<'a, B: Naming, R: Wait> {
-    rt: &'a R,
-    house: &'a TestHouse<B>,
-    loses: Option<Lost>,
-    // So many messages were given to it.
-    asked: u32,
-}
-
-impl<'a, B: Naming, R: Wait> TestCourier<'a, B, R> {
-    pub(crate) fn new(
-        rt: &'a R,
-        house: &'a TestHouse<B>,
-        loses: Option<Lost>,
-    ) -> TestCourier<'a, B, R> {
-        TestCourier {
-            rt,
-            house,
-            loses,
-            asked: 0,
-        }
-    }
-}
-
-impl<B: Naming, R: Wait> Courier for TestCourier<'_, B, R> {
-    ghost ready = { λ c. Unit };
-
-    ghost carried = { λ c done. Unit };
-
-    ghost kept = { λ first now. Unit };
-
-    fn carry<G: Gate>(
-        &mut self,
-        sync_point: &mut SyncPoint<'_, G>,
-        _message: u32,
-        mailbox: u8,
-        text: &Text,
-        flags: Flags,
-    ) -> Result<Verdict, Lost> {
-        self.asked = self.asked.saturating_add(1);
-        sync_point.pass();
-        if let Some(why) = self.loses {
-            return Err(why);
-        }
-        let Ok(text) = text.copy() else {
-            return Err(Lost::NoMemory);
-        };
-        match self.house.deliver(self.rt, mailbox, text, flags) {
-            Some(verdict) => Ok(verdict),
-            None => Err(Lost::Torn),
-        }
-    }
-}
-
 type Answers = (Result<After, VisitFault>, Result<After, VisitFault>);
 
 struct Case {
-    loses: Option<Lost>,
+    way: Way,
     // The client's bytes, in two pieces.
     first: &'static [u8],
     second: &'static [u8],
@@ -91,7 +35,7 @@ struct Case {
 const CASES: &[Case] = &[
     // What stands behind a message in the same piece is answered behind its verdict.
     Case {
-        loses: None,
+        way: Way::Delivers,
         first: b"a1 APPEND INBOX {5+}\r\nhello\r\na2 NOOP\r\n",
         second: b"a3 LOGOUT\r\n",
         wanted: Some(((Ok(After::Go), Ok(After::Bye)), 1)),
@@ -102,7 +46,7 @@ const CASES: &[Case] = &[
     },
     // The literal is cut.
     Case {
-        loses: None,
+        way: Way::Delivers,
         first: b"a1 APPEND INBOX (\\Seen) {5+}\r\nhe",
         second: b"llo\r\na2 IDLE\r\n",
         wanted: Some(((Ok(After::Literal(3)), Ok(After::Idle)), 1)),
@@ -110,14 +54,14 @@ const CASES: &[Case] = &[
     },
     // Where no verdict comes, what was said before is sent, and the visit is over.
     Case {
-        loses: Some(Lost::Torn),
+        way: Way::Loses(Lost::Torn),
         first: b"a1 NOOP\r\na2 APPEND INBOX {1+}\r\nx\r\na3 NOOP\r\n",
         second: b"a4 NOOP\r\n",
         wanted: Some(((Err(VisitFault::Torn), Ok(After::Bye)), 1)),
         told: b"a1 OK NOOP completed\r\n",
     },
     Case {
-        loses: Some(Lost::NoMemory),
+        way: Way::Loses(Lost::NoMemory),
         first: b"a1 NOOP\r\na2 APPEND INBOX {1+}\r\nx\r\na3 NOOP\r\n",
         second: b"a4 NOOP\r\n",
         wanted: Some(((Err(VisitFault::NoMemory), Ok(After::Bye)), 1)),
@@ -150,7 +94,7 @@ fn visited<'x, B: Naming, R: Wait>(
 ) -> Option<(Answers, u32)>
     requires { wire.has_failed ≡ false }
 {
-    let mut courier = TestCourier::new(rt, house, case.loses);
+    let mut courier = TestCourier::new(rt, house, case.way);
     let Some(mut visit) = open(rt, alloc, house, tally, Some(MOST), wire) else {
         return None;
     };
@@ -190,11 +134,11 @@ fn attend<'x, B: Naming, R: Wait>(
     rt: &'x R,
     alloc: Global,
     house: &'x TestHouse<B>,
-    loses: Option<Lost>,
+    way: Way,
     bytes: &[u8],
     visit: Visit<'x, B, R, Tally, Wire<'x, R>>,
 ) -> Option<u32> {
-    let mut courier = TestCourier::new(rt, house, loses);
+    let mut courier = TestCourier::new(rt, house, way);
     let (mut input, never) = (bytes, AtomicBool::new(false));
     let mut input = Prompt { input: &mut input };
     let parting = attend_one(rt, alloc, visit, &mut courier, &mut input, 16, &never);
@@ -210,7 +154,7 @@ fn is_attended<B: Naming, R: Wait>(
     rt: &R,
     alloc: Global,
     history: Opened,
-    loses: Option<Lost>,
+    way: Way,
     bytes: &[u8],
     carried: u32,
     rest: &[u8],
@@ -222,7 +166,7 @@ fn is_attended<B: Naming, R: Wait>(
     let tally = Tally::new();
     let wire = Wire::new(rt, &told, 9);
     let asked = match open(rt, alloc, &house, &tally, Some(MOST), wire) {
-        Some(visit) => attend(rt, alloc, &house, loses, bytes, visit),
+        Some(visit) => attend(rt, alloc, &house, way, bytes, visit),
         None => None,
     };
     Ok(asked == Some(carried) && is_greeting_and(&told.into_inner(), rest))
@@ -239,9 +183,10 @@ fn a_client_slot_attends_a_client_that_appends(rt: HostRuntime) -> Result<(), Al
           a3 OK LOGOUT completed\r\n";
     let history = Opened::new();
     let alloc = rt.alloc();
-    assert!(rt; is_attended::<Brand, HostRuntime>(&rt, alloc, history, None, bytes, 2, told)?);
+    let way = Way::Delivers;
+    assert!(rt; is_attended::<Brand, HostRuntime>(&rt, alloc, history, way, bytes, 2, told)?);
     // Nothing more is read once no verdict came.
-    let (torn, history) = (Some(Lost::Torn), Opened::new());
-    assert!(rt; is_attended::<Brand, HostRuntime>(&rt, alloc, history, torn, bytes, 1, b"")?);
+    let (way, history) = (Way::Loses(Lost::Torn), Opened::new());
+    assert!(rt; is_attended::<Brand, HostRuntime>(&rt, alloc, history, way, bytes, 1, b"")?);
     Ok(())
 }

@@ -3,10 +3,10 @@
 
 ghost use Rattle.std.specs.Prelude.{◌≡◌};
 
+use crate::couriers::{TestCourier, Way};
 use crate::houses::TestHouse;
+use crate::imap::is_greeting_and;
 use crate::sessions::{Tally, folders, saying, store_of, two_mailboxes};
-use change_ring::Flags;
-use delivery_token::{Refusal, Text, Verdict};
 use house_history::{Naming, Opened};
 use imap_session::Store;
 use mailbox::MailFault;
@@ -15,78 +15,7 @@ use settings::Step;
 use std::alloc::{AllocError, Global};
 use std::marker::Brand;
 use std::sync::Wait;
-use workers_sync::{Courier, Gate, Lost, SyncPoint};
-
-// What a test's courier does with each message.
-#[derive(Clone, Copy)]
-pub(crate) enum Way {
-    // It delivers it into its mailbox, in one event.
-    Delivers,
-    // It says that its shard is full.
-    Refuses,
-    // It brings no verdict.
-    Loses(Lost),
-}
-
-// A courier that goes straight to the mailboxes.
-#[derive(Drop)]
-pub(crate) struct TestCourier<'a, B: Naming, R: Wait> {
-    rt: &'a R,
-    house: &'a TestHouse<B>,
-    way: Way,
-    // So many messages were given to it, each with the next number.
-    asked: u32,
-    are_in_order: bool,
-}
-
-impl<'a, B: Naming, R: Wait> TestCourier<'a, B, R> {
-    pub(crate) fn new(rt: &'a R, house: &'a TestHouse<B>, way: Way) -> TestCourier<'a, B, R> {
-        TestCourier {
-            rt,
-            house,
-            way,
-            asked: 0,
-            are_in_order: true,
-        }
-    }
-
-    // The verdict of the mailbox, which is asked as a consumer would.
-    fn deliver(&self, mailbox: u8, text: &Text, flags: Flags) -> Result<Verdict, Lost> {
-        let Ok(text) = text.copy() else {
-            return Err(Lost::NoMemory);
-        };
-        match self.house.deliver(self.rt, mailbox, text, flags) {
-            Some(verdict) => Ok(verdict),
-            None => Err(Lost::Torn),
-        }
-    }
-}
-
-impl<B: Naming, R: Wait> Courier for TestCourier<'_, B, R> {
-    ghost ready = { λ c. Unit };
-
-    ghost carried = { λ c done. Unit };
-
-    ghost kept = { λ first now. Unit };
-
-    fn carry<G: Gate>(
-        &mut self,
-        sync_point: &mut SyncPoint<'_, G>,
-        message: u32,
-        mailbox: u8,
-        text: &Text,
-        flags: Flags,
-    ) -> Result<Verdict, Lost> {
-        self.are_in_order = self.are_in_order && message == self.asked;
-        self.asked = self.asked.saturating_add(1);
-        sync_point.pass();
-        match self.way {
-            Way::Delivers => self.deliver(mailbox, text, flags),
-            Way::Refuses => Ok(Verdict::Refused(Refusal::Full)),
-            Way::Loses(why) => Err(why),
-        }
-    }
-}
+use workers_sync::Lost;
 
 // How a session came to its end.
 #[derive(Clone, Copy, PartialEq, Eq)]
@@ -108,23 +37,34 @@ struct Case {
     ending: Ending,
 }
 
+const ONE_CARRIED: Ending = Ending {
+    lived: Ok(()),
+    carried: 1,
+    passes: 1,
+};
+
+// Messages of at most 64 bytes are taken, and delivered.
+const DELIVERS: Case = Case {
+    most: Some(64),
+    way: Way::Delivers,
+    pieces: &[],
+    told: b"",
+    ending: ONE_CARRIED,
+};
+
 const CASES: &[Case] = &[
     // What stands behind a message in the same piece is answered behind its verdict.
     Case {
-        most: Some(64),
-        way: Way::Delivers,
         pieces: &[b"a1 APPEND INBOX {5+}\r\nhello\r\na2 NOOP\r\na3"],
         told: b"a1 OK [APPENDUID 7 1] APPEND completed\r\na2 OK NOOP completed\r\n",
         ending: Ending {
-            lived: Ok(()),
-            carried: 1,
             passes: 2,
+            ..ONE_CARRIED
         },
+        ..DELIVERS
     },
     // A literal is asked for, its bytes come in two pieces, and the message has its flags.
     Case {
-        most: Some(64),
-        way: Way::Delivers,
         pieces: &[
             b"a1 APPEND INBOX (\\Seen \\Flagged) {5}\r\n",
             b"hel",
@@ -143,16 +83,14 @@ const CASES: &[Case] = &[
           hello)\r\n\
           a3 OK FETCH completed\r\n",
         ending: Ending {
-            lived: Ok(()),
-            carried: 1,
             passes: 5,
+            ..ONE_CARRIED
         },
+        ..DELIVERS
     },
     // Two messages in one piece: each verdict is answered before the next message is taken, and nothing
     // behind LOGOUT is.
     Case {
-        most: Some(64),
-        way: Way::Delivers,
         pieces: &[
             b"a1 SELECT INBOX\r\n",
             b"a2 APPEND INBOX {1+}\r\nx\r\na3 APPEND INBOX {1+}\r\ny\r\na4 LOGOUT\r\na5 APPEND INBOX {1+}\r\nz\r\n",
@@ -175,21 +113,17 @@ const CASES: &[Case] = &[
             carried: 2,
             passes: 8,
         },
+        ..DELIVERS
     },
     Case {
-        most: Some(64),
         way: Way::Refuses,
         pieces: &[b"a1 APPEND INBOX {1+}\r\nx\r\na2 NOOP\r\n"],
         told: b"a1 NO Shard full\r\na2 OK NOOP completed\r\n",
-        ending: Ending {
-            lived: Ok(()),
-            carried: 1,
-            passes: 1,
-        },
+        ending: ONE_CARRIED,
+        ..DELIVERS
     },
     // Nothing is said of a message on which no verdict comes, nor of what stands behind it.
     Case {
-        most: Some(64),
         way: Way::Loses(Lost::Torn),
         pieces: &[
             b"a1 EXAMINE INBOX\r\na2 APPEND INBOX {1+}\r\nx\r\na3 NOOP\r\n",
@@ -207,9 +141,9 @@ const CASES: &[Case] = &[
             carried: 1,
             passes: 3,
         },
+        ..DELIVERS
     },
     Case {
-        most: Some(64),
         way: Way::Loses(Lost::NoMemory),
         pieces: &[b"a1 NOOP\r\na2 APPEND INBOX {1+}\r\nx\r\na3 NOOP\r\n"],
         told: b"a1 OK NOOP completed\r\n",
@@ -218,11 +152,11 @@ const CASES: &[Case] = &[
             carried: 1,
             passes: 1,
         },
+        ..DELIVERS
     },
     // Where no message is taken its bytes are dropped, and nobody is asked to carry it.
     Case {
         most: None,
-        way: Way::Delivers,
         pieces: &[b"a1 APPEND INBOX {5+}\r\nhello\r\na2 NOOP\r\n"],
         told: b"a1 NO [CANNOT] Not offered here\r\na2 OK NOOP completed\r\n",
         ending: Ending {
@@ -230,6 +164,7 @@ const CASES: &[Case] = &[
             carried: 0,
             passes: 0,
         },
+        ..DELIVERS
     },
 ];
 
@@ -276,12 +211,6 @@ fn ending_of<B: Naming, R: Wait>(
         carried: courier.asked,
         passes,
     })
-}
-
-const GREETING: &[u8] = b"* PREAUTH IMAP4rev2 server ready\r\n";
-
-fn is_greeting_and(told: &[u8], rest: &[u8]) -> bool {
-    told.starts_with(GREETING) && &told[GREETING.len()..] == rest
 }
 
 fn is_as_wanted<B: Naming, R: Wait>(
