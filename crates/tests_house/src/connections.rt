@@ -1,7 +1,7 @@
 //! What a connection answers to whoever brings its bytes: how many it took, and what its client may send next. What it says is shown by scripts.
 
 use crate::sessions::{folders, standard};
-use crate::support::{Stepped, played_with, said};
+use crate::support::{Scene, Stepped, played_with, said};
 use delivery_token::{Refusal, Verdict};
 use house::CoreStore;
 use imap_session::{After, ImapConnection, Progress};
@@ -58,20 +58,15 @@ fn refuses(
 impl Stepped for ImapConnection {
     type Step = Step;
 
-    fn goes(
-        &mut self,
-        alloc: Global,
-        store: &mut CoreStore,
-        step: &Step,
-        out: &mut Vec<u8>,
-    ) -> bool {
+    fn goes(&mut self, scene: &mut Scene, step: &Step) -> bool {
+        let Scene { alloc, store, out } = scene;
         match step {
             Step::Takes(piece, used, after) => {
                 let wanted = Progress {
                     used: *used,
                     after: Some(*after),
                 };
-                takes(alloc, self, store, piece, wanted, out)
+                takes(*alloc, self, store, piece, wanted, out)
             }
             Step::Refuses(text) => refuses(self, store, text, out),
             Step::Said(wanted) => said(out, wanted),

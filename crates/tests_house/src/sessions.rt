@@ -2,7 +2,7 @@
 //! that it has ended. What it says is shown by scripts, but where no message is taken, and where its store or memory refuses.
 
 use crate::stores::{deliver, store};
-use crate::support::{Stepped, played_with, said};
+use crate::support::{Scene, Stepped, played_with, said};
 use budget::Budget;
 use change_ring::{Flags, NO_FLAGS};
 use delivery_token::{Refusal, Verdict};
@@ -77,22 +77,17 @@ fn is_submitted(session: &Session, message: u32, text: &[u8], flags: Flags) -> b
 impl Stepped for Session {
     type Step = Step;
 
-    fn goes(
-        &mut self,
-        alloc: Global,
-        store: &mut CoreStore,
-        step: &Step,
-        out: &mut Vec<u8>,
-    ) -> bool {
+    fn goes(&mut self, scene: &mut Scene, step: &Step) -> bool {
+        let Scene { alloc, store, out } = scene;
         match step {
             Step::Greets => self.greet(out).is_ok(),
-            Step::Delivered => deliver(alloc, &mut store.core, 1),
+            Step::Delivered => deliver(*alloc, &mut store.core, 1),
             Step::Sits(position) => {
                 store.session = *position;
                 true
             }
             Step::Line(line, wanted) => {
-                !self.awaits_verdict() && self.line(alloc, line, store, out) == *wanted
+                !self.awaits_verdict() && self.line(*alloc, line, store, out) == *wanted
             }
             Step::LongLine(wanted) => self.long_line(out) == *wanted,
             Step::Literal(piece, taken, due) => {

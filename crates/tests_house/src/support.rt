@@ -4,31 +4,34 @@ use crate::stores::store;
 use house::CoreStore;
 use std::alloc::{AllocError, Global};
 
-/// What steps are done with, beside a session's store.
+/// What steps are done over, beside a session or a connection.
+#[derive(Drop)]
+pub(crate) struct Scene {
+    /// The allocator of all of it.
+    pub(crate) alloc: Global,
+    /// Its mailboxes.
+    pub(crate) store: CoreStore,
+    /// What was said.
+    pub(crate) out: Vec<u8>,
+}
+
+/// What steps are done with.
 pub(crate) trait Stepped {
     /// What is done, and what is wanted of it.
     type Step;
 
     /// Whether a step comes to what is wanted.
-    fn goes(
-        &mut self,
-        alloc: Global,
-        store: &mut CoreStore,
-        step: &Self::Step,
-        out: &mut Vec<u8>,
-    ) -> bool;
+    fn goes(&mut self, scene: &mut Scene, step: &Self::Step) -> bool;
 }
 
 // The position of the first step that doesn't come to what is wanted.
 fn first_unlike<T: Stepped>(
-    alloc: Global,
     stepped: &mut T,
-    store: &mut CoreStore,
+    scene: &mut Scene,
     steps: &[T::Step],
-    out: &mut Vec<u8>,
 ) -> Option<usize> {
     for (position, step) in steps.iter().enumerate() {
-        if !stepped.goes(alloc, store, step, out) {
+        if !stepped.goes(scene, step) {
             return Some(position);
         }
     }
@@ -41,8 +44,12 @@ pub(crate) fn played_with<T: Stepped>(
     stepped: &mut T,
     steps: &[T::Step],
 ) -> Result<Option<usize>, AllocError> {
-    let mut store = store(alloc)?;
-    Ok(first_unlike(alloc, stepped, &mut store, steps, &mut Vec::new(alloc)))
+    let mut scene = Scene {
+        alloc,
+        store: store(alloc)?,
+        out: Vec::new(alloc),
+    };
+    Ok(first_unlike(stepped, &mut scene, steps))
 }
 
 /// Whether what was said is this; from here on it is asked of what comes after.

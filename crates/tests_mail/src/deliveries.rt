@@ -3,18 +3,12 @@
 
 ghost use Rattle.std.specs.Prelude.{◌<◌};
 
-use crate::support::{DELETED, SEEN, flags_read, lines_are};
+use crate::support::{DELETED, SEEN, SMALL, flags_read, lines_are};
 use change_ring::{FlagOp, Flags, NO_FLAGS};
 use delivery_core::{DeliveryCore, Fault, HearFault, Settings};
 use delivery_token::{CopyKey, Noted, Refusal, Text, Verdict};
 use mailbox::{Limits, MailFault, Opening, Status};
 use std::alloc::{AllocError, Global};
-
-const SMALL: Limits = Limits {
-    messages: 8,
-    ring: 1,
-    ring_max: 0,
-};
 
 const NO_GROWTH: Settings = Settings {
     seats: 1,
@@ -23,12 +17,13 @@ const NO_GROWTH: Settings = Settings {
     depth: 2,
     uidvalidity: 7,
     first_uid: 1,
-    limits: SMALL,
+    limits: Limits { ring: 1, ..SMALL },
     sessions: 2,
 };
 
 const GROWTH: Settings = Settings {
     limits: Limits {
+        ring: 1,
         ring_max: 4,
         ..SMALL
     },
@@ -37,7 +32,7 @@ const GROWTH: Settings = Settings {
 
 const TWO_SEATS: Settings = Settings {
     seats: 2,
-    limits: Limits { ring: 16, ..SMALL },
+    limits: SMALL,
     ..NO_GROWTH
 };
 
@@ -166,15 +161,6 @@ fn counts(core: &DeliveryCore, session: u8, uids: &[u32]) -> bool {
     }
 }
 
-fn reads(
-    core: &mut DeliveryCore,
-    session: u8,
-    uid: u32,
-    mark_seen: bool,
-) -> Result<Option<(Flags, bool)>, MailFault> {
-    flags_read(core.read(session, uid, mark_seen)?, uid)
-}
-
 // Whether an act answers as it should.
 fn step(
     alloc: Global,
@@ -188,7 +174,9 @@ fn step(
         Act::View(session, uids) => Ok(counts(core, *session, uids)),
         Act::IsUpToDate(session, wanted) => Ok(core.is_up_to_date(*session) == *wanted),
         Act::Feed(session, wanted) => Ok(core.feed(*session, 64, 0, out) == *wanted),
-        Act::Read(session, uid, mark, wanted) => Ok(reads(core, *session, *uid, *mark) == *wanted),
+        Act::Read(session, uid, mark, wanted) => Ok(
+            flags_read(core.read(*session, *uid, *mark), *uid) == *wanted,
+        ),
         Act::Store(session, uid, op, wanted) => Ok(core.store(*session, *uid, *op) == *wanted),
         Act::Expunge(session, set, wanted) => {
             Ok(core.expunge(*session, Some(*set), 0, out) == *wanted)

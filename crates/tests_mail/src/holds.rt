@@ -1,7 +1,7 @@
 //! What the calls on a mailbox that is held do, as tables: each line is a call with what it is to
 //! answer. One function owns the mailbox and its client's handle, and lends them to the others.
 
-use crate::support::{DELETED, SEEN, flags_read, lines_are};
+use crate::support::{DELETED, SEEN, SMALL, flags_read, lines_are};
 use change_ring::{FlagOp, Flags, NO_FLAGS};
 use cursor_set::{CursorHandle, Stranger};
 use delivery_token::{CopyKey, Job, Refusal, Text};
@@ -11,8 +11,7 @@ use workers_sync::{alter, count, deliver, discard, enter, expunge, feed, leave, 
 
 pub(crate) const LIMITS: Limits = Limits {
     messages: 2,
-    ring: 16,
-    ring_max: 0,
+    ..SMALL
 };
 
 const KEY: CopyKey = CopyKey {
@@ -83,15 +82,6 @@ fn counts(mailbox: &Mailbox, handle: &CursorHandle, wanted: Result<&[u32], MailF
     }
 }
 
-fn reads(
-    mailbox: &mut Mailbox,
-    handle: &CursorHandle,
-    uid: u32,
-    mark_seen: bool,
-) -> Result<Option<(Flags, bool)>, MailFault> {
-    flags_read(read(mailbox, handle, uid, mark_seen)?, uid)
-}
-
 // Whether an act answers as it should.
 fn step(
     alloc: Global,
@@ -104,7 +94,8 @@ fn step(
         Act::Deliver(recipient, wanted) => delivers(alloc, mailbox, *recipient, *wanted),
         Act::Count(status) => count(mailbox) == *status,
         Act::View(wanted) => counts(mailbox, handle, *wanted),
-        Act::Read(uid, mark, wanted) => reads(mailbox, handle, *uid, *mark) == *wanted,
+        Act::Read(uid, mark, wanted) => flags_read(read(mailbox, handle, *uid, *mark), *uid)
+            == *wanted,
         Act::Alter(uid, op, wanted) => alter(mailbox, handle, *uid, *op) == *wanted,
         Act::Feed(limit, wanted) => feed(mailbox, handle, *limit, 0, out) == *wanted,
         Act::Expunge(set, wanted) => expunge(mailbox, handle, *set, 0, out) == *wanted,

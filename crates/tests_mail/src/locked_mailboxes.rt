@@ -110,7 +110,7 @@ fn reads<B: Naming>(
     uid: u32,
     mark_seen: bool,
 ) -> Result<Option<Flags>, MailFault> {
-    match flags_read(locked.read(front, handle, uid, mark_seen)?, uid)? {
+    match flags_read(locked.read(front, handle, uid, mark_seen), uid)? {
         Some((flags, _newly_seen)) => Ok(Some(flags)),
         None => Ok(None),
     }

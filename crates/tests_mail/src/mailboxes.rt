@@ -3,7 +3,7 @@
 
 ghost use Rattle.std.specs.Prelude.{◌<◌};
 
-use crate::support::{DELETED, EXAMPLE_DATE, SEEN, example_date, flags_read, lines_are};
+use crate::support::{DELETED, EXAMPLE_DATE, SEEN, SMALL, example_date, flags_read, lines_are};
 use change_ring::{Change, FlagOp, Flags, NO_FLAGS};
 use cursor_set::{CursorHandle, FeedFault, Stranger};
 use delivery_token::{CopyKey, Job, Refusal, Text, Verdict};
@@ -12,12 +12,6 @@ use mailbox::{
     History, Limits, MailFault, Mailbox, Opening, Status, every_mailbox_keeps, verdict_of,
 };
 use std::alloc::{AllocError, Global};
-
-const SMALL: Limits = Limits {
-    messages: 8,
-    ring: 16,
-    ring_max: 0,
-};
 
 const GROWING: Limits = Limits {
     ring_max: 32,
@@ -110,15 +104,6 @@ fn counts(mailbox: &Mailbox, handle: &CursorHandle, uids: &[u32]) -> bool {
     }
 }
 
-fn reads(
-    mailbox: &mut Mailbox,
-    handle: &CursorHandle,
-    uid: u32,
-    mark_seen: bool,
-) -> Result<Option<(Flags, bool)>, MailFault> {
-    flags_read(mailbox.read(handle, uid, mark_seen)?, uid)
-}
-
 fn stores_each(
     mailbox: &mut Mailbox,
     handle: &CursorHandle,
@@ -164,7 +149,9 @@ fn step(
     match act {
         Act::View(uids) => Ok(counts(mailbox, handle, uids)),
         Act::NoView => Ok(mailbox.view(handle).is_err()),
-        Act::Read(uid, mark, wanted) => Ok(reads(mailbox, handle, *uid, *mark) == *wanted),
+        Act::Read(uid, mark, wanted) => Ok(
+            flags_read(mailbox.read(handle, *uid, *mark), *uid) == *wanted,
+        ),
         Act::Store(uid, op, wanted) => Ok(mailbox.store(handle, *uid, *op) == *wanted),
         Act::StoreEach(every, count, op, wanted) => {
             Ok(stores_each(mailbox, handle, *every, *count, *op, *wanted))
@@ -247,6 +234,13 @@ struct Case {
     left: (usize, (u64, usize)),
 }
 
+// An empty mailbox whose UIDs begin at 10.
+const NONE_BEFORE_TEN: Opening = Opening {
+    count: 0,
+    uidnext: 10,
+    uidvalidity: 77,
+};
+
 const CASES: &[Case] = &[
     Case {
         name: "two copies fill a mailbox",
@@ -258,11 +252,7 @@ const CASES: &[Case] = &[
         history: History::Kept,
         first_uid: 10,
         messages: 0,
-        opening: Opening {
-            count: 0,
-            uidnext: 10,
-            uidvalidity: 77,
-        },
+        opening: NONE_BEFORE_TEN,
         acts: TWO_COPIES,
         remove: false,
         left: (0, (0, 2)),
@@ -273,11 +263,7 @@ const CASES: &[Case] = &[
         history: History::Unkept,
         first_uid: 10,
         messages: 0,
-        opening: Opening {
-            count: 0,
-            uidnext: 10,
-            uidvalidity: 77,
-        },
+        opening: NONE_BEFORE_TEN,
         acts: UNKEPT,
         remove: false,
         left: (0, (0, 2)),

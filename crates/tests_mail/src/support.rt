@@ -2,7 +2,7 @@
 
 use change_ring::{Flags, NO_FLAGS};
 use mail_date::{Stamp, Zone};
-use mailbox::{MailFault, Row};
+use mailbox::{Limits, MailFault, Row};
 
 /// The flag \Seen alone.
 pub(crate) const SEEN: Flags = Flags {
@@ -14,6 +14,13 @@ pub(crate) const SEEN: Flags = Flags {
 pub(crate) const DELETED: Flags = Flags {
     deleted: true,
     ..NO_FLAGS
+};
+
+/// Room for eight messages and sixteen changes, which doesn't grow.
+pub(crate) const SMALL: Limits = Limits {
+    messages: 8,
+    ring: 16,
+    ring_max: 0,
 };
 
 /// The date of the example of FETCH (RFC 9051, section 8), as `example_date` has it.
@@ -43,8 +50,11 @@ pub(crate) fn stamp(day: (u16, u8, u8), time: (u8, u8, u8), hours: u8) -> Stamp 
 
 /// What a read told of flags, and whether they became others. Another message than that of this UID, whose text is "hi", is told
 /// as a fault that no test wants.
-pub(crate) fn flags_read(row: Option<Row>, uid: u32) -> Result<Option<(Flags, bool)>, MailFault> {
-    let Some(row) = row else {
+pub(crate) fn flags_read(
+    read: Result<Option<Row>, MailFault>,
+    uid: u32,
+) -> Result<Option<(Flags, bool)>, MailFault> {
+    let Some(row) = read? else {
         return Ok(None);
     };
     if row.uid != uid || row.text.as_slice() != b"hi\r\n".as_slice() {
