@@ -3,22 +3,4 @@
 #![tactic(auto)]
 
 #[cfg(test)]
-mod answers;
-#[cfg(test)]
-mod couriers;
-#[cfg(test)]
-mod houses;
-#[cfg(test)]
-mod imap;
-#[cfg(test)]
-mod lmtp;
-#[cfg(test)]
-mod permits;
-#[cfg(test)]
-mod sessions;
-#[cfg(test)]
-mod stream_couriers;
-#[cfg(test)]
-mod thread_couriers;
-#[cfg(test)]
-mod wires;
+mod tests;

@@ -1,0 +1,29 @@
+//! The tests, each module by what it is of, and what several of them share.
+
+mod bells;
+mod budgets;
+mod commands;
+mod cursors;
+mod cutting;
+mod data;
+mod deliveries;
+mod dialogues;
+mod directories;
+mod flags;
+mod gates;
+mod histories;
+mod holds;
+mod lanes;
+mod locked_mailboxes;
+mod mailboxes;
+mod marking;
+mod outlets;
+mod parcels;
+mod pauses;
+mod queues;
+mod reply_channels;
+mod rings;
+mod sending;
+mod sockets;
+mod support;
+mod tokens;

@@ -1,5 +1,0 @@
-use Rattle.tests_streams.proofs.imap.a_client_is_greeted.Given as goal
-
--- the history that was just opened
-abbrev pub ghosts-greeted : goal.ghosts-greeted
-ghosts-greeted g a = record { book = a.history }

@@ -1,5 +1,0 @@
-use Rattle.tests_streams.proofs.lmtp.first_other.Given as goal
-
--- the history that was just opened
-abbrev pub ghosts-play : goal.ghosts-play
-ghosts-play g a = record { book = a.history }

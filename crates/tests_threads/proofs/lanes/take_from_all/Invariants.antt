@@ -1,5 +1,0 @@
-use Rattle.lane_work.specs.LanePermits.{AreConsumers}
-use Rattle.tests_threads.proofs.lanes.take_from_all.Given as goal
-
-abbrev pub invariant-loop-lane : goal.invariant-loop-lane
-invariant-loop-lane g l = AreConsumers l.lanes l.consumers.items
