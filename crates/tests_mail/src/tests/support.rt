@@ -41,7 +41,7 @@ pub(crate) fn example_date() -> Stamp {
     stamp((1996, 7, 17), (2, 44, 25), 7)
 }
 
-/// The year, month and day, the hour, minute and second, and how many hours the clock is behind that of Greenwich.
+/// The year, month and day, the hour, minute and second, and how many hours the clock is behind UTC.
 pub(crate) fn stamp(day: (u16, u8, u8), time: (u8, u8, u8), hours: u8) -> Stamp {
     Stamp {
         year: day.0,

@@ -1,7 +1,7 @@
 //! A whole round: three workers in threads of their own, who put copies for three mailboxes on two
 //! lanes and make the shared consumers' steps; then all lanes are closed.
 
-ghost use Rattle.std.specs.Prelude.{◌≡◌, ◌<◌, ◌≤◌, ◌+◌, ℕ, [], All, IfOk, Some, length, map, vec_len, vec_capacity};
+ghost use Rattle.std.specs.Prelude.{◌≡◌, ◌<◌, ◌≤◌, ◌+◌, [], All, Some, length, map, vec_len, vec_capacity};
 ghost use Rattle.std.specs.Mem.{manually_drop_value};
 ghost use Rattle.std.specs.Thread.{IsSend, IsSync};
 ghost use Rattle.shard_queue.specs.Reply.{IsReceiver};
