@@ -3,7 +3,7 @@
 
     tests/figures.py            prints each figure beside its limit
     tests/figures.py --check    prints those that are worse than their limits; the status is 1 if there is one
-    tests/figures.py --set      makes the limits what the figures are now, and of lines the next full thousand
+    tests/figures.py --set      makes the limits what the figures are now, and of many lines the next full hundred
 
 Whoever makes a figure better sets its limit anew. None is set higher without a reason in the commit message.
 All is counted from the tree as it lies there. Crates of tests and those that measure don't count where a row says "product".
@@ -18,6 +18,9 @@ import believed
 
 TOP = os.path.dirname(os.path.dirname(os.path.abspath(__file__)))
 
+# A figure above this is rounded up where it becomes a limit.
+MANY = 10_000
+
 # Each figure, in the order in which they are printed, and its limit.
 LIMITS = {
     "crates": 47,
@@ -30,11 +33,11 @@ LIMITS = {
     "lines of docs/PROVING.md": 300,
     "promised definitions with more than four arguments": 23,
     "lines of definitions over 150 columns": 8,
-    "lines of code, definitions and proofs": 204200,
-    "files that name an option (ring_max)": 50,
+    "lines of code, definitions and proofs": 204000,
+    "files that name an option (ring_max)": 49,
     "files that name a setting of serve (lmtp_port)": 35,
     "files that name a refusal of a copy (MailboxFull)": 39,
-    "files that name a field of the house (visitors)": 55,
+    "files that name a field of the house (visitors)": 43,
     "files that name a verb with an answer (STATUS)": 43,
     "files that name an item of FETCH (RFC822.SIZE)": 42,
     "files that have a text of IMAP (No such mailbox)": 14,
@@ -221,7 +224,7 @@ def set_limits(now):
     text = read(path)
     for name, value in now.items():
         if name not in FIXED:
-            limit = -(-value // 1000) * 1000 if name.startswith("lines of") else value
+            limit = -(-value // 100) * 100 if value > MANY else value
             text = re.sub(rf'^    "{re.escape(name)}": \d+,$', f'    "{name}": {limit},', text, flags=re.M)
     with open(path, "w", encoding="utf-8") as file:
         file.write(text)
