@@ -88,6 +88,19 @@ right_of A None h some = refl
 right_of A (Some y) h (inl e) = absurd (cc)
 right_of A (Some y) h (inr e) = absurd (cc)
 
+pub not_wrong : (A : Type 0) (o : Option ConfigFault) (h : A)
+    → IfSome o (λ y. ◌≡◌ {A = Result A ConfigFault} (Ok h) (Err y) ⊎ ◌≡◌ {A = Result A ConfigFault} (Ok h) (Err config_faults.NoMemory))
+    → (y : ConfigFault) → o ≡ Some y → ⊥
+not_wrong A o h some y e = let n : o ≡ None = right_of A o h some in cc
+
+-- where they are wrong, that is told or want of memory is
+pub refused_as : (A : Type 0) (o : Option ConfigFault) (f y : ConfigFault) (r : ScriptFault)
+    → IfSome o (λ z. ◌≡◌ {A = Result A ConfigFault} (Err f) (Err z) ⊎ ◌≡◌ {A = Result A ConfigFault} (Err f) (Err config_faults.NoMemory)) → o ≡ Some y → r ≡ script_fault f
+    → ◌≡◌ {A = Result (Unit {0}) ScriptFault} (Err r) (Err (script_fault y)) ⊎ ◌≡◌ {A = Result (Unit {0}) ScriptFault} (Err r) (Err (faults.Run run_faults.NoMemory))
+refused_as A None f y r some e is = absurd (cc)
+refused_as A (Some z) f y r (inl s) e is = let b : z ≡ y = cc in inl (ap (λ (x : ScriptFault). Err x) (is ∙ ap script_fault (same_fault A f z s ∙ b)))
+refused_as A (Some z) f y r (inr s) e is = inr (ap (λ (x : ScriptFault). Err x) (is ∙ ap script_fault (same_fault A f config_faults.NoMemory s)))
+
 -- ---- a run, by how it ended
 
 pub ran_wrote : (form : Form) (config : Config) (input : List ℕ) (h : House) (r : Result (Unit {0}) RunFault) (old new : Option (List ℕ)) → form ≡ Text

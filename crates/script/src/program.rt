@@ -1,7 +1,7 @@
 //! A script with the settings of its house: the house is made, and the script is run in it. How a line is done is told in `run`, and
 //! what the settings are elsewhere.
 
-ghost use Rattle.std.specs.Prelude.{◌≡◌, ℕ, List, None, Some, Err, OnOk, false, true};
+ghost use Rattle.std.specs.Prelude.{◌≡◌, ◌⊎◌, ℕ, List, None, Some, Err, OnOk, false, true};
 ghost use Rattle.house.specs.Setup.{setup_of};
 ghost use Rattle.settings.specs.Settings.{IsInRange, config_fault};
 ghost use Rattle.settings.specs.declared.config.ConfigFault.{ConfigFault};
@@ -74,12 +74,13 @@ pub fn run_script<R: BufRead, W: Sink>(
         WroteOnce (setup_of config.now) (script_of input) (W.taken writer.old)
         (W.taken writer.new) }
 
-    // The first fault of the settings is told, and where they have one, nothing was read or written. An output that failed has failed.
+    // The first fault of the settings is told. Where they have one it is told, or want of memory is, and nothing was read or written.
     ensures wrong { (fault : ConfigFault) → result ≡ Err (ScriptFault.Config fault)
         → config_fault config.now ≡ Some fault }
     ensures right { OnOk result (config_fault config.now ≡ None) }
-    ensures not_set { (fault : ConfigFault) → result ≡ Err (ScriptFault.Config fault)
-        → (reader.new ≡ reader.old) × (writer.new ≡ writer.old) }
+    ensures refused { (fault : ConfigFault) → config_fault config.now ≡ Some fault
+        → ((result ≡ Err (script_fault fault)) ⊎ (result ≡ Err (ScriptFault.Run RunFault.NoMemory)))
+        × (reader.new ≡ reader.old) × (writer.new ≡ writer.old) }
     ensures failed { (sent : ℕ) → result ≡ Err (ScriptFault.Run (RunFault.Write sent))
         → W.failed writer.new ≡ true }
 {

@@ -32,7 +32,7 @@ returns-in-Serve-clause-done g c =
     })
 
 pub returns-in-Script-clause-not_set : goal.returns-in-Script-clause-not_set
-returns-in-Script-clause-not_set g c = played_not_set c.args.output.now c.run_script.new.writer c.run_script.result (λ x e. (c.run_script.ensures.not_set x e).1)
+returns-in-Script-clause-not_set g c = played_not_set c.args.output.now c.run_script.new.writer c.run_script.result (λ x e. (c.run_script.ensures.refused x (c.run_script.ensures.wrong x e)).2)
 
 pub returns-in-Serve-clause-not_set : goal.returns-in-Serve-clause-not_set
 returns-in-Serve-clause-not_set g c = served_not_set c.args.output.now c.serve.new.output c.serve.result c.serve.ensures.not_set

@@ -1,10 +1,11 @@
 use Rattle.house.specs.Setup.{setup_of}
 use Rattle.settings.specs.Settings.{config_fault}
 use Rattle.house.specs.declared.house.House.{House}
+use Rattle.std.proofs.Common.{refl}
 use Rattle.std.specs.Prelude.{Ok, Err}
 use Rattle.script.specs.Script.{script_of}
 use Rattle.script.specs.Telling.{lines_of}
-use Rattle.script.proofs.Programs.{fault_named, none_once, ran_once, ran_wrote, right_of, same_run, wrong_told, wrong_wrote}
+use Rattle.script.proofs.Programs.{fault_named, none_once, not_wrong, ran_once, ran_wrote, refused_as, right_of, same_run, wrong_told, wrong_wrote}
 use Rattle.script.proofs.TellingLaws.{run_told}
 use Rattle.script.proofs.program.run_script.Goals as goal
 
@@ -40,6 +41,16 @@ returns-in-Ok-drive_as-clause-once g c is input e =
 
 pub returns-in-Ok-drive_as-clause-right : goal.returns-in-Ok-drive_as-clause-right
 returns-in-Ok-drive_as-clause-right g c = right_of House (config_fault c.args.config.now) c.in-Ok.house c.in-Ok.ensures.fault
+
+pub returns-in-Err-clause-refused : goal.returns-in-Err-clause-refused
+returns-in-Err-clause-refused g c x e =
+    (refused_as House (config_fault c.args.config.now) c.in-Err.fault x c.from.result c.in-Err.ensures.fault e c.from.ensures, refl, refl)
+
+pub returns-in-Ok-drive_as-clause-refused : goal.returns-in-Ok-drive_as-clause-refused
+returns-in-Ok-drive_as-clause-refused g c x e = absurd (not_wrong House (config_fault c.args.config.now) c.in-Ok.house c.in-Ok.ensures.fault x e)
+
+pub returns-clause-refused : goal.returns-clause-refused
+returns-clause-refused g c x e = absurd (not_wrong House (config_fault c.args.config.now) c.in-Ok.house c.in-Ok.ensures.fault x e)
 
 pub returns-clause-told : goal.returns-clause-told
 returns-clause-told g c input e =
