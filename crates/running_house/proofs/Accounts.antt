@@ -1,5 +1,5 @@
 -- Each producer's account, said of what was taken of the queues.
-use Rattle.std.proofs.Common.{◌≡◌, ◌<◌, ◌+◌, ◌∙◌, ℕ, suc, List, [], ◌∷◌, All, None, Some, Vec, length, map, slice_get, slice_index_or, refl, sym, ap, subst, arith}
+use Rattle.std.proofs.Common.{◌≡◌, ◌<◌, ◌+◌, ◌∙◌, ℕ, suc, List, [], ◌∷◌, All, None, Some, Vec, length, map, slice_get, slice_index_or, refl, sym, ap, subst, arith, drop}
 use Rattle.std.specs.Global.{Global}
 use Rattle.delivery_token.specs.declared.Job.{Job}
 use Rattle.delivery_token.specs.declared.log.Noted.{Noted}

@@ -37,7 +37,7 @@ pub(crate) struct Produces<'a, B: Naming> {
 
 impl<'a, B: Naming> Promise<ManuallyDrop<Worked<B>>> for Produces<'a, B> {
     ghost use Rattle.std.specs.Mem.{manually_drop_value};
-    ghost use Rattle.reckoning.specs.Produced.{IsProduceOf};
+    ghost use Rattle.running_house.specs.inner.Produced.{IsProduceOf};
 
     ghost kept_by = { λ p r. IsProduceOf p.shared.now p.plans.now p.guests.now p.number (manually_drop_value r) };
 }

@@ -1,4 +1,4 @@
-use Rattle.std.proofs.Common.{◌≡◌, ◌+◌, ◌<◌, inl, inr, sym, subst, ap, ◌∙◌, not, Some, None, Option, Err, ℕ, length, arith, [], ◌∷◌, true, false}
+use Rattle.std.proofs.Common.{◌≡◌, ◌+◌, ◌<◌, inl, inr, sym, subst, ap, ◌∙◌, not, Some, None, Option, Err, ℕ, length, arith, [], ◌∷◌, true, false, refl}
 use Rattle.world.specs.World as world
 use Rattle.delivery_core.specs.Stands as core
 use Rattle.delivery_core.proofs.Follow.{get_or-any}
