@@ -9,7 +9,7 @@ use Rattle.house_shared.specs.Crew.{AllAt, IsHouse}
 use Rattle.house_shared.specs.declared.shared.HouseShared.{HouseShared}
 use Rattle.house_shared.specs.declared.shared.Guest.{Guest}
 use Rattle.house_shared.specs.Left.{IsServiceOf, IsSpendable}
-use Rattle.running_house.specs.inner.Produced.{IsProduceOf, Plans}
+use Rattle.running_house.specs.Produced.{IsProduceOf, Plans}
 use Rattle.house_shared.specs.declared.left.Ran.{Ran}
 use Rattle.reckoning.proofs.Parts.{some_at}
 

@@ -28,13 +28,12 @@ use Rattle.house_history.specs.Legal.{Legal}
 use Rattle.lane_work.specs.Backing.{IsBacked}
 use Rattle.lane_work.proofs.BackingLaws.{backed_later}
 use Rattle.reckoning.specs.Histories.{IsKnownIn}
-use Rattle.running_house.specs.Produced.{SessionAccount}
+use Rattle.running_house.specs.Produced.{IsProduceOf, Plans, SessionAccount}
 use Rattle.reckoning.specs.Closing.{AreChannelsClosedWith, AreClosedWith}
 use Rattle.reckoning.specs.Gathered.{fault_of_fate}
 use Rattle.shard_queue.specs.Permits.{numbers}
 use Rattle.lane_work.specs.LanePermits.{AreEndedHands}
 use Rattle.lane_work.specs.ChannelPermits.{AreReceivers}
-use Rattle.running_house.specs.inner.Produced.{IsProduceOf, Plans}
 use Rattle.reckoning.proofs.Accounts.{all_at, at_position, in_at, mapped_at, whole_of}
 use Rattle.reckoning.proofs.Parts.{from_here, past_all, some_at}
 

@@ -16,7 +16,7 @@ use Rattle.house_shared.specs.Opening.{IsHouseShared}
 use Rattle.house_shared.specs.declared.shared.HouseShared.{HouseShared}
 use Rattle.house_shared.specs.declared.shared.Guest.{Guest}
 use Rattle.house_shared.specs.declared.opening.Sizes.{Sizes}
-use Rattle.running_house.specs.inner.Produced.{Plans}
+use Rattle.running_house.specs.Produced.{Plans}
 use Rattle.running_house.specs.inner.Agree.{AreSizesFor, IsHouseSharedFor}
 use Rattle.running_house.specs.Plan.{premises_for, producers_in}
 use Rattle.running_house.specs.declared.plan.Plan.{Plan}

@@ -23,8 +23,7 @@ use Rattle.lane_work.specs.Consuming.{IsConsumed}
 use Rattle.house_shared.specs.declared.shared.HouseShared.{HouseShared}
 use Rattle.house_shared.specs.Left.{IsServiceOf}
 use Rattle.running_house.specs.inner.Crew.{IsAttended}
-use Rattle.running_house.specs.inner.Produced.{IsProduceOf, Plans}
-use Rattle.running_house.specs.Produced.{SessionAccount}
+use Rattle.running_house.specs.Produced.{IsProduceOf, Plans, SessionAccount}
 use Rattle.house_shared.proofs.Finding.{found_at}
 
 -- what a worker at its position left

@@ -26,8 +26,7 @@ use Rattle.house_shared.specs.Crew.{AllAt}
 use Rattle.house_shared.specs.declared.shared.HouseShared.{HouseShared}
 use Rattle.house_shared.specs.declared.shared.Guest.{Guest}
 use Rattle.house_shared.specs.Left.{IsServiceOf}
-use Rattle.running_house.specs.inner.Produced.{IsProduceOf}
-use Rattle.running_house.specs.Produced.{SessionAccount}
+use Rattle.running_house.specs.Produced.{IsProduceOf, SessionAccount}
 use Rattle.reckoning.specs.Balancing.{IsBalanced}
 use Rattle.reckoning.specs.declared.balancing.Books.{Books}
 use Rattle.house_history.specs.Legal.{Legal}

@@ -4,7 +4,7 @@
 ghost use Rattle.std.specs.Prelude.{ℕ, ◌≡◌, ◌≤◌, ◌<◌, ◌+◌, [], length, vec_len, vec_capacity};
 ghost use Rattle.std.specs.Mem.{manually_drop_value};
 ghost use Rattle.house_shared.specs.Crew.{AllAt, AreGuests, IsHouse, IsPost};
-ghost use Rattle.running_house.specs.inner.Produced.{IsProduceOf};
+ghost use Rattle.running_house.specs.Produced.{IsProduceOf};
 ghost use Rattle.running_house.specs.inner.Crew.{IsSpawned};
 
 use crate::aside::stand_down;
@@ -37,7 +37,7 @@ pub(crate) struct Produces<'a, B: Naming> {
 
 impl<'a, B: Naming> Promise<ManuallyDrop<Worked<B>>> for Produces<'a, B> {
     ghost use Rattle.std.specs.Mem.{manually_drop_value};
-    ghost use Rattle.running_house.specs.inner.Produced.{IsProduceOf};
+    ghost use Rattle.running_house.specs.Produced.{IsProduceOf};
 
     ghost kept_by = { λ p r. IsProduceOf p.shared.now p.plans.now p.guests.now p.number (manually_drop_value r) };
 }

@@ -7,7 +7,8 @@ ghost use Rattle.std.specs.Thread.{IsSend, IsSync};
 ghost use Rattle.house_shared.specs.Crew.{AllAt, AreGuests, IsCrew, IsHouse, IsPost};
 ghost use Rattle.house_shared.specs.declared.shared.HouseShared.{HouseShared};
 ghost use Rattle.house_shared.specs.Left.{IsPostLeft, IsServiceOf, IsSpendable};
-ghost use Rattle.running_house.specs.inner.Produced.{IsProduceOf, LeavesAll};
+ghost use Rattle.running_house.specs.Produced.{IsProduceOf};
+ghost use Rattle.running_house.specs.inner.Produced.{LeavesAll};
 
 use crate::aside::end_first;
 use crate::common::Common;

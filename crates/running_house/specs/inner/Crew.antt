@@ -26,8 +26,7 @@ use Rattle.shard_queue.specs.declared.ends.ReplyChannel.{ReplyChannel}
 use Rattle.shard_queue.specs.Reply.{IsReceiver, received}
 use Rattle.shard_queue.specs.Permits.{said}
 use Rattle.house_shared.specs.Left.{IsServiceOf, most_of}
-use Rattle.running_house.specs.inner.Produced.{IsProduceOf, Plans}
-use Rattle.running_house.specs.Produced.{SessionAccount}
+use Rattle.running_house.specs.Produced.{IsProduceOf, Plans, SessionAccount}
 
 -- ---- promises
 

@@ -1,7 +1,7 @@
 use Rattle.std.proofs.Common.{rules, ◌≡◌, ◌∷◌, sym, subst, vec_len, arith}
 use Rattle.std.specs.Vec.Iter.{into_iter_items}
 use Rattle.house_shared.specs.Crew.{AllAt}
-use Rattle.running_house.specs.inner.Produced.{IsProduceOf}
+use Rattle.running_house.specs.Produced.{IsProduceOf}
 use Rattle.running_house.specs.inner.Crew.{IsSpawned}
 use Rattle.house_shared.proofs.Positions.{head_at, more_at}
 use Rattle.running_house.proofs.producers.join_producers.Goals as goal

@@ -1,7 +1,7 @@
 use Rattle.std.proofs.Common.{◌≡◌, ◌≤◌, ◌+◌, vec_len, vec_capacity}
 use Rattle.std.specs.Vec.Iter.{into_iter_items, into_iter_len}
 use Rattle.house_shared.specs.Crew.{AllAt}
-use Rattle.running_house.specs.inner.Produced.{IsProduceOf}
+use Rattle.running_house.specs.Produced.{IsProduceOf}
 use Rattle.running_house.specs.inner.Crew.{IsSpawned}
 use Rattle.running_house.proofs.producers.join_producers.Given as goal
 

@@ -13,7 +13,7 @@ use Rattle.reckoning.specs.Histories.{IsKnownIn}
 use Rattle.reckoning.specs.Shelves.{HasAccepted, IsTaught}
 use Rattle.reckoning.proofs.Histories.{taught_later}
 use Rattle.std.proofs.lemmas.List.Elements.{All-weaker}
-use Rattle.running_house.specs.inner.Produced.{IsProduceOf}
+use Rattle.running_house.specs.Produced.{IsProduceOf}
 use Rattle.running_house.specs.Lists.{ListsAgree}
 use Rattle.running_house.specs.Walk.{ListsMet}
 use Rattle.reckoning.specs.Balancing.{IsBalanced}
