@@ -104,10 +104,10 @@ text_is : (k : Setup) (lines : List (List ℕ)) (t : Scene) (texts : List (List 
     → told Text 1 lines texts ≡ joined texts
 text_is k lines t texts p = told_text 1 lines texts (text_for_each k 1 (none_held k) lines (empty_scene k) t texts p)
 
-split_of : (input : List ℕ) (some others : List (List ℕ)) → lines_of input ≡ some ++ others → script_of input ≡ asked_by some ++ asked_by others
+pub split_of : (input : List ℕ) (some others : List (List ℕ)) → lines_of input ≡ some ++ others → script_of input ≡ asked_by some ++ asked_by others
 split_of input some others e = sym (asked_as_script input) ∙ ap asked_by e ∙ asked_both some others
 
-text_of_lines : (k : Setup) (input : List ℕ) (old new : Option (List ℕ)) (t : ToldOnce Text k (lines_of input) old new) → told Text 1 t.some t.texts ≡ joined t.texts
+pub text_of_lines : (k : Setup) (input : List ℕ) (old new : Option (List ℕ)) (t : ToldOnce Text k (lines_of input) old new) → told Text 1 t.some t.texts ≡ joined t.texts
 text_of_lines k input old new t = text_is k t.some t.after t.texts t.plays
 
 -- what was told as text is what the script prints
