@@ -3,4 +3,24 @@
 #![tactic(auto)]
 
 #[cfg(test)]
-mod tests;
+mod config;
+#[cfg(test)]
+mod connections;
+#[cfg(test)]
+mod events;
+#[cfg(test)]
+mod names;
+#[cfg(test)]
+mod scripts;
+#[cfg(test)]
+mod searches;
+#[cfg(test)]
+mod sessions;
+#[cfg(test)]
+mod stores;
+#[cfg(test)]
+mod uid_sets;
+#[cfg(test)]
+mod views;
+#[cfg(test)]
+mod visits;

@@ -3,7 +3,7 @@
 
 ghost use Rattle.std.specs.Prelude.{◌≡◌, Some, false};
 
-use super::events::{PRINTED, house};
+use crate::events::house;
 use house::House;
 use line_io::Sink;
 use script::{RunFault, drive, drive_as};
@@ -19,7 +19,20 @@ L1 hi\n\
 L1 .\n\
 TAIL alice\n";
 
-// What the script prints, in JSON.
+// What the script prints.
+const PRINTED: &[u8] = b"L1 220 mx.example.org LMTP ready\n\
+L1 250-mx.example.org\n\
+L1 250-PIPELINING\n\
+L1 250-ENHANCEDSTATUSCODES\n\
+L1 250 8BITMIME\n\
+L1 250 2.1.0 Sender OK\n\
+L1 250 2.1.5 Recipient OK\n\
+L1 354 Start mail input\n\
+L1 250 2.1.5 Delivered\n\
+T alice add 1\n\
+T alice total 1\n";
+
+// The same in JSON.
 const TOLD: &[u8] =
     b"{\"number\":1,\"line\":\"L1 LHLO c.example\",\"printed\":\"L1 220 mx.example.org LMTP ready\\n\
 L1 250-mx.example.org\\nL1 250-PIPELINING\\nL1 250-ENHANCEDSTATUSCODES\\nL1 250 8BITMIME\\n\"}\n\

@@ -1,7 +1,7 @@
 //! What a connection answers to whoever brings its bytes: how many it took, and what its client may send next. What it says is shown by scripts.
 
-use super::sessions::{folders, standard};
-use super::support::{Scene, Stepped, played_with, said};
+use crate::sessions::{folders, standard};
+use crate::stores::store;
 use delivery_token::{Refusal, Verdict};
 use house::CoreStore;
 use imap_session::{After, ImapConnection, Progress};
@@ -11,8 +11,9 @@ fn connection(alloc: Global) -> Result<ImapConnection, AllocError> {
     ImapConnection::new(alloc, folders(alloc)?, standard(Some(1_048_576)))
 }
 
-/// What is done with a connection, and what is wanted of it.
-pub(crate) enum Step {
+// What is done with a connection, and what is wanted of it.
+#[derive(Clone, Copy)]
+enum Step {
     // Of a piece so many bytes are taken, and the client may send this then.
     Takes(&'static [u8], usize, After),
     // The message that was submitted has this text, and is refused.
@@ -55,25 +56,50 @@ fn refuses(
         && connection.appended(refused, store, out) == Ok(After::Go)
 }
 
-impl Stepped for ImapConnection {
-    type Step = Step;
+// What was said since this was last asked.
+fn said(out: &mut Vec<u8>, wanted: &[u8]) -> bool {
+    let is_said = out.as_slice() == wanted;
+    out.clear();
+    is_said
+}
 
-    fn goes(&mut self, scene: &mut Scene, step: &Step) -> bool {
-        let Scene { alloc, store, out } = scene;
-        match step {
-            Step::Takes(piece, used, after) => {
-                let wanted = Progress {
-                    used: *used,
-                    after: Some(*after),
-                };
-                takes(*alloc, self, store, piece, wanted, out)
-            }
-            Step::Refuses(text) => refuses(self, store, text, out),
-            Step::Said(wanted) => said(out, wanted),
-            Step::HasEnded(wanted) => self.has_ended() == *wanted,
-            Step::HasSelectedNone => self.selected().is_none(),
+// Whether a step comes to what is wanted.
+fn goes(
+    alloc: Global,
+    connection: &mut ImapConnection,
+    store: &mut CoreStore,
+    step: Step,
+    out: &mut Vec<u8>,
+) -> bool {
+    match step {
+        Step::Takes(piece, used, after) => {
+            let wanted = Progress {
+                used,
+                after: Some(after),
+            };
+            takes(alloc, connection, store, piece, wanted, out)
+        }
+        Step::Refuses(text) => refuses(connection, store, text, out),
+        Step::Said(wanted) => said(out, wanted),
+        Step::HasEnded(wanted) => connection.has_ended() == wanted,
+        Step::HasSelectedNone => connection.selected().is_none(),
+    }
+}
+
+// The first step that doesn't come to what is wanted.
+fn first_unlike(
+    alloc: Global,
+    connection: &mut ImapConnection,
+    store: &mut CoreStore,
+    steps: &[Step],
+    out: &mut Vec<u8>,
+) -> Option<usize> {
+    for (position, step) in steps.iter().enumerate() {
+        if !goes(alloc, connection, store, *step, out) {
+            return Some(position);
         }
     }
+    None
 }
 
 // Lines and an IDLE in pieces; a literal that ends with its piece, whose line's end comes in two more, and behind which nothing is taken before the verdict;
@@ -101,6 +127,15 @@ const IN_PIECES: &[Step] = &[
     Step::HasEnded(true),
     Step::Said(b"* BYE Logging out\r\na6 OK LOGOUT completed\r\n"),
 ];
+
+fn played_with(
+    alloc: Global,
+    connection: &mut ImapConnection,
+    steps: &[Step],
+) -> Result<Option<usize>, AllocError> {
+    let mut store = store(alloc)?;
+    Ok(first_unlike(alloc, connection, &mut store, steps, &mut Vec::new(alloc)))
+}
 
 #[test]
 fn pieces_are_taken(rt: HostRuntime) -> Result<(), AllocError> {

@@ -1,8 +1,7 @@
 //! What a session answers to whoever calls it, beside what it says: what its client may send next, which mailbox is selected, the message that it submits, and
 //! that it has ended. What it says is shown by scripts, but where no message is taken, and where its store or memory refuses.
 
-use super::stores::{deliver, store};
-use super::support::{Scene, Stepped, played_with, said};
+use crate::stores::{deliver, store};
 use budget::Budget;
 use change_ring::{Flags, NO_FLAGS};
 use delivery_token::{Refusal, Verdict};
@@ -35,8 +34,9 @@ fn session(alloc: Global, most: Option<u32>) -> Result<Session, AllocError> {
     Ok(Session::new(folders(alloc)?, standard(most)))
 }
 
-/// What is done with a session and its store, and what is wanted of it.
-pub(crate) enum Step {
+// What is done with a session and its store, and what is wanted of it.
+#[derive(Clone, Copy)]
+enum Step {
     Greets,
     // A message comes to the mailbox.
     Delivered,
@@ -74,41 +74,76 @@ fn is_submitted(session: &Session, message: u32, text: &[u8], flags: Flags) -> b
     }
 }
 
-impl Stepped for Session {
-    type Step = Step;
+// Whether what was said is this; from here on it is asked of what comes after.
+fn said(out: &mut Vec<u8>, wanted: &[u8]) -> bool {
+    let is_said = out.as_slice() == wanted;
+    out.clear();
+    is_said
+}
 
-    fn goes(&mut self, scene: &mut Scene, step: &Step) -> bool {
-        let Scene { alloc, store, out } = scene;
-        match step {
-            Step::Greets => self.greet(out).is_ok(),
-            Step::Delivered => deliver(*alloc, &mut store.core, 1),
-            Step::Sits(position) => {
-                store.session = *position;
-                true
-            }
-            Step::Line(line, wanted) => {
-                !self.awaits_verdict() && self.line(*alloc, line, store, out) == *wanted
-            }
-            Step::LongLine(wanted) => self.long_line(out) == *wanted,
-            Step::Literal(piece, taken, due) => {
-                self.literal(piece) == *taken && self.literal_due() == *due
-            }
-            Step::Submitted(message, text, flags) => is_submitted(self, *message, text, *flags),
-            Step::Hears(verdict) => {
-                self.awaits_verdict() && self.appended(*verdict, store, out) == Ok(After::Go)
-            }
-            Step::IdleTurn(wanted) => self.idle_turn(store, out) == *wanted,
-            Step::Said(wanted) => said(out, wanted),
-            Step::Forget => {
-                out.clear();
-                true
-            }
-            Step::Idling(tag) => self.idling() == *tag,
-            Step::IsIdling(wanted) => self.is_idling() == *wanted,
-            Step::Selected(wanted) => self.selected() == *wanted,
-            Step::Ended(wanted) => self.ended() == *wanted,
+// Whether a step comes to what is wanted.
+fn goes(
+    alloc: Global,
+    session: &mut Session,
+    store: &mut CoreStore,
+    step: Step,
+    out: &mut Vec<u8>,
+) -> bool {
+    match step {
+        Step::Greets => session.greet(out).is_ok(),
+        Step::Delivered => deliver(alloc, &mut store.core, 1),
+        Step::Sits(position) => {
+            store.session = position;
+            true
+        }
+        Step::Line(line, wanted) => {
+            !session.awaits_verdict() && session.line(alloc, line, store, out) == wanted
+        }
+        Step::LongLine(wanted) => session.long_line(out) == wanted,
+        Step::Literal(piece, taken, due) => {
+            session.literal(piece) == taken && session.literal_due() == due
+        }
+        Step::Submitted(message, text, flags) => is_submitted(session, message, text, flags),
+        Step::Hears(verdict) => {
+            session.awaits_verdict() && session.appended(verdict, store, out) == Ok(After::Go)
+        }
+        Step::IdleTurn(wanted) => session.idle_turn(store, out) == wanted,
+        Step::Said(wanted) => said(out, wanted),
+        Step::Forget => {
+            out.clear();
+            true
+        }
+        Step::Idling(tag) => session.idling() == tag,
+        Step::IsIdling(wanted) => session.is_idling() == wanted,
+        Step::Selected(wanted) => session.selected() == wanted,
+        Step::Ended(wanted) => session.ended() == wanted,
+    }
+}
+
+// The first step that doesn't come to what is wanted.
+fn first_unlike(
+    alloc: Global,
+    session: &mut Session,
+    store: &mut CoreStore,
+    steps: &[Step],
+    out: &mut Vec<u8>,
+) -> Option<usize> {
+    for (position, step) in steps.iter().enumerate() {
+        if !goes(alloc, session, store, *step, out) {
+            return Some(position);
         }
     }
+    None
+}
+
+// Goes through these steps with a session and an empty store, and gives the position of the first that doesn't come to what is wanted.
+fn played_with(
+    alloc: Global,
+    session: &mut Session,
+    steps: &[Step],
+) -> Result<Option<usize>, AllocError> {
+    let mut store = store(alloc)?;
+    Ok(first_unlike(alloc, session, &mut store, steps, &mut Vec::new(alloc)))
 }
 
 fn played(alloc: Global, most: Option<u32>, steps: &[Step]) -> Result<Option<usize>, AllocError> {

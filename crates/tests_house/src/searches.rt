@@ -13,13 +13,6 @@ struct Case {
     answer: &'static [u8],
 }
 
-const NOTHING: SearchReturns = SearchReturns {
-    min: false,
-    max: false,
-    count: false,
-    all: false,
-};
-
 // Some are the examples of these pages. In the others is what they say besides: of no messages only their count is told.
 const CASES: &[Case] = &[
     Case {
@@ -34,8 +27,9 @@ const CASES: &[Case] = &[
         by_uid: false,
         returns: Some(SearchReturns {
             min: true,
+            max: false,
             count: true,
-            ..NOTHING
+            all: false,
         }),
         numbers: &[2, 10, 11],
         answer: b"= * ESEARCH (TAG \"A282\") MIN 2 COUNT 3\r\n",
@@ -44,8 +38,10 @@ const CASES: &[Case] = &[
         tag: b"A283",
         by_uid: false,
         returns: Some(SearchReturns {
+            min: false,
+            max: false,
+            count: false,
             all: true,
-            ..NOTHING
         }),
         numbers: &[2, 10, 11],
         answer: b"= * ESEARCH (TAG \"A283\") ALL 2,10:11\r\n",
@@ -54,8 +50,10 @@ const CASES: &[Case] = &[
         tag: b"A284",
         by_uid: false,
         returns: Some(SearchReturns {
+            min: false,
+            max: false,
+            count: false,
             all: true,
-            ..NOTHING
         }),
         numbers: &[],
         answer: b"= * ESEARCH (TAG \"A284\")\r\n",
@@ -76,9 +74,10 @@ const CASES: &[Case] = &[
         tag: b"a567",
         by_uid: true,
         returns: Some(SearchReturns {
+            min: false,
+            max: false,
             count: true,
             all: true,
-            ..NOTHING
         }),
         numbers: &[4, 5, 6, 7, 8, 9, 10, 11, 12, 13, 14, 15, 16, 17, 18, 21, 23],
         answer: b"= * ESEARCH (TAG \"a567\") UID COUNT 17 ALL 4:18,21,23\r\n",
@@ -89,7 +88,8 @@ const CASES: &[Case] = &[
         returns: Some(SearchReturns {
             min: true,
             max: true,
-            ..NOTHING
+            count: false,
+            all: false,
         }),
         numbers: &[4294967294, 7, 4294967295, 9],
         answer: b"= * ESEARCH (TAG \"C3\") UID MIN 7 MAX 4294967295\r\n",
