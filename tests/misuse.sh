@@ -124,7 +124,7 @@ wanted=${1:-ShardQueue ReplyChannel}
 for lane in $wanted; do
     case $lane in
     ShardQueue) judge ShardQueue ProducerPermit Ended put_as IsProducer queue queue Permits ;;
-    ReplyChannel) judge ReplyChannel SenderPermit SenderEnded send_as IsSender ends reply Reply ;;
+    ReplyChannel) judge ReplyChannel SenderPermit SenderEnded put_as IsSender reply reply Reply ;;
     *) echo "no such lane: $lane" >&2; exit 2 ;;
     esac
 done

@@ -2,8 +2,8 @@
 use Rattle.std.specs.Prelude.{◌≡◌, ◌≢◌, ◌<◌, ◌≤◌, ℕ, suc, List, [], ◌∷◌, All, Some, None, length, slice_get, vec_len, vec_capacity}
 use Rattle.delivery_token.specs.declared.Job.{Job}
 use Rattle.delivery_token.specs.declared.log.Noted.{Noted}
-use Rattle.shard_queue.specs.declared.queue.ShardQueue.{ShardQueue}
-use Rattle.shard_queue.specs.declared.ends.ReplyChannel.{ReplyChannel}
+use Rattle.shard_queue.specs.Permits.{ShardQueue}
+use Rattle.shard_queue.specs.Reply.{ReplyChannel}
 use Rattle.shard_queue.specs.Reply.{IsReceiver, received, sent_on}
 use Rattle.shard_queue.specs.Permits.{IsConsumer, got}
 use Rattle.lane_work.specs.Permits.{ArePermits, AreSenders, IsNew}

@@ -14,7 +14,7 @@ use crate::seating::{Seating, seat_next};
 use crate::shared::{HouseShared, Post, Stand};
 use crossbeam_utils::sync::Parker;
 use house_history::{Answer, Letter, Naming};
-use lane_work::{Desk, Hands, LanePermit, Stall, deal_all, deal_all_senders};
+use lane_work::{Desk, Hands, LanePermit, Stall, deal_all};
 use shard_queue::{
     ConsumerPermit, Ended, ProducerPermit, ReceiverPermit, SenderEnded, SenderPermit,
 };
@@ -164,7 +164,7 @@ pub(crate) fn deal_out<B: Naming>(
     let Hands { each, all } = hands;
     let hands = deal_all(&shared.intake.lanes, lane_permits, producers, each, all);
     let Hands { each, all } = sender_hands;
-    let sender_hands = deal_all_senders(
+    let sender_hands = deal_all(
         &shared.delivery.channels,
         channel_permits,
         shards,

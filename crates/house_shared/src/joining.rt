@@ -16,8 +16,8 @@ use crate::stock::{CrewLists, EndLists, Lists, Stock};
 use crossbeam_utils::sync::Parker;
 use envelope::Directory;
 use house_history::{Answer, Letter, Naming};
-use lane_work::{Channels, Delivery, Hands, Intake, Lanes, PermitRooms, Rooms};
-use shard_queue::{Ended, ReplyChannel, SenderEnded, ShardQueue};
+use lane_work::{Delivery, Hands, Intake, Lanes, PermitRooms, Rooms};
+use shard_queue::{BothEnds, Ended, EntryQueue, ReplyChannel, SenderEnded, ShardQueue};
 use std::alloc::Global;
 
 // The shared state of a house with this directory and of these sizes.
@@ -133,16 +133,16 @@ struct Sorted<B: Naming> {
 // Sorts what was made.
 fn sort_out<B: Naming>(
     rooms: Rooms<B>,
-    lanes: Lanes<B>,
-    channels: Channels<B>,
+    lanes: Lanes<EntryQueue<Letter<B>>>,
+    channels: Lanes<BothEnds<Answer<B>>>,
     parkers: Vec<Parker>,
     seating: Seating<B>,
 ) -> Sorted<B>
-    ensures lanes { (result.lanes ≡ lanes.queues) × (result.undealt.lane_permits ≡ lanes.permits)
+    ensures lanes { (result.lanes ≡ lanes.lanes) × (result.undealt.lane_permits ≡ lanes.permits)
         × (result.undealt.consumers ≡ lanes.consumers) }
-    ensures channels { (result.channels ≡ channels.channels)
+    ensures channels { (result.channels ≡ channels.lanes)
         × (result.undealt.channel_permits ≡ channels.permits)
-        × (result.undealt.receivers ≡ channels.receivers) }
+        × (result.undealt.receivers ≡ channels.consumers) }
     ensures parkers { (result.undealt.parkers ≡ parkers) × (result.undealt.seating ≡ seating) }
     ensures rooms { (result.undealt.hands ≡ rooms.producers.permits)
         × (result.undealt.rooms ≡ rooms.producers.ended.each)
@@ -160,14 +160,14 @@ fn sort_out<B: Naming>(
     let (hands, rooms, of_producers) = parted(producers);
     let (sender_hands, sender_rooms, of_consumers) = parted(consumers);
     let Lanes {
-        queues,
+        lanes,
         permits: lane_permits,
         consumers,
     } = lanes;
-    let Channels {
-        channels,
+    let Lanes {
+        lanes: channels,
         permits: channel_permits,
-        receivers,
+        consumers: receivers,
     } = channels;
     let undealt = Undealt {
         lane_permits,
@@ -182,7 +182,7 @@ fn sort_out<B: Naming>(
         sender_rooms,
     };
     Sorted {
-        lanes: queues,
+        lanes,
         channels,
         undealt,
         of_producers,
@@ -250,7 +250,7 @@ pub(crate) fn put_together<B: Naming>(
     ensures crew { IsCrew result.shared sizes.entry.producers result.crew }
     ensures baskets { AreBaskets sizes.entry.producers directory.shards result.baskets }
     ensures session_parkers { result.session_parkers ≡ fittings.session_parkers }
-    ensures channels { result.shared.delivery.channels ≡ stock.channels.channels }
+    ensures channels { result.shared.delivery.channels ≡ stock.channels.lanes }
 {
     let (producers, shards) = (sizes.producers, directory.shards());
     let Stock {

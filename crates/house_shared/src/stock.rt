@@ -2,7 +2,7 @@
 //! lists for what is dealt of them and for what the threads leave. Where memory is refused on the way,
 //! all that was made by then is spent. What may be let go stands in `fittings`.
 
-ghost use Rattle.std.specs.Prelude.{◌≡◌, ◌<◌, All, IfOk, OnOk, map, vec_len};
+ghost use Rattle.std.specs.Prelude.{◌≡◌, ◌<◌, All, IfOk, OnOk, map, replicate, vec_len};
 ghost use Rattle.shard_queue.specs.Reply.{room_of};
 ghost use Rattle.house_shared.specs.inner.Making.{AreEmptyLists, AreLists, AreStock};
 ghost use Rattle.house_shared.specs.Opening.{AreNoSpares, AreSpares, reply_rooms};
@@ -11,11 +11,11 @@ use crate::shared::{Post, Stand};
 use delivery_token::REPLY_ROOM;
 use house_history::{Answer, Letter, Naming};
 use lane_work::{
-    Channels, Consumed, Lanes, Rooms, Worked, abandon_lanes, make_channels, make_lanes, make_rooms,
-    spend_rooms,
+    Consumed, Lanes, Rooms, Worked, abandon_lanes, make_lanes, make_rooms, spend_rooms,
 };
 use shard_queue::{
-    ConsumerPermit, Ended, ProducerPermit, ReceiverPermit, SenderEnded, SenderPermit,
+    BothEnds, ConsumerPermit, Ended, EntryQueue, ProducerPermit, ReceiverPermit, SenderEnded,
+    SenderPermit,
 };
 use std::alloc::{AllocError, Global};
 
@@ -189,8 +189,17 @@ fn make_lists<B: Naming>(alloc: Global, producers: u8, shards: u8) -> Result<Lis
 pub(crate) struct Stock<B: Naming> {
     pub(crate) rooms: Rooms<B>,
     pub(crate) lists: Lists<B>,
-    pub(crate) lanes: Lanes<B>,
-    pub(crate) channels: Channels<B>,
+    pub(crate) lanes: Lanes<EntryQueue<Letter<B>>>,
+    pub(crate) channels: Lanes<BothEnds<Answer<B>>>,
+}
+
+// How much room the lane of each shard has.
+fn lane_rooms(alloc: Global, shards: u8, depth: usize) -> Result<Vec<usize>, AllocError>
+    requires { 0 < depth }
+    ensures rooms { IfOk result (λ r. r.items ≡ replicate shards depth) }
+    ensures some { IfOk result (λ r. All (λ room. 0 < room) r.items) }
+{
+    vec![in alloc; depth; usize::from(shards)]
 }
 
 // How much room the reply channel of each producer has, of which the last are sessions. A session awaits one verdict at a time.
@@ -222,9 +231,10 @@ pub(crate) fn make_stock<B: Naming>(
 ) -> Result<Stock<B>, AllocError>
     requires { 0 < depth }
     ensures stock { IfOk result (λ stock. AreStock producers shards depth stock) }
-    ensures rooms { IfOk result (λ stock. map room_of stock.channels.channels.items
+    ensures rooms { IfOk result (λ stock. map room_of stock.channels.lanes.items
         ≡ reply_rooms producers sessions shards) }
 {
+    let lane_rooms = lane_rooms(alloc, shards, depth)?;
     let reply_rooms = reply_rooms(alloc, producers, sessions, shards)?;
     let rooms = make_rooms(alloc, producers, shards)?;
     let lists = match make_lists(alloc, producers, shards) {
@@ -234,7 +244,7 @@ pub(crate) fn make_stock<B: Naming>(
             return Err(e);
         }
     };
-    let lanes = match make_lanes(alloc, shards, depth, producers) {
+    let lanes = match make_lanes(alloc, &lane_rooms, producers) {
         Ok(lanes) => lanes,
         Err(e) => {
             spend_rooms(rooms);
@@ -242,7 +252,7 @@ pub(crate) fn make_stock<B: Naming>(
             return Err(e);
         }
     };
-    match make_channels(alloc, &reply_rooms, shards) {
+    match make_lanes(alloc, &reply_rooms, shards) {
         Ok(channels) => Ok(Stock {
             rooms,
             lists,

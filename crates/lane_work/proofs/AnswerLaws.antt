@@ -9,8 +9,8 @@ use Rattle.delivery_token.specs.declared.Verdict.{Verdict}
 use Rattle.delivery_token.specs.declared.log.Noted.{Noted}
 use Rattle.shard_queue.specs.declared.lane.Entry.{Entry}
 use Rattle.shard_queue.specs.declared.lane.Entry.TheVariants.{Item, End}
-use Rattle.shard_queue.specs.declared.ends.ReplyChannel.{ReplyChannel}
-use Rattle.shard_queue.specs.declared.reply.SenderPermit.{SenderPermit}
+use Rattle.shard_queue.specs.Reply.{ReplyChannel}
+use Rattle.shard_queue.specs.Reply.{SenderPermit}
 use Rattle.shard_queue.specs.Reply.{sender_number, sent_on}
 use Rattle.lane_work.specs.Answering.{HaveClosed, IsVerdict, Serves, WereAnswered, answered, is_nobodys, none, passed, telling}
 use Rattle.lane_work.specs.inner.Answering.{HaveAnswered}

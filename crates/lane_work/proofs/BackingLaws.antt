@@ -16,7 +16,7 @@ use Rattle.house_history.proofs.Follow.{had_been_sent, never_judged, noted_own, 
 use Rattle.house_history.proofs.Parts.{there}
 use Rattle.shard_queue.specs.Reply.{received}
 use Rattle.shard_queue.specs.Shared.{IsStartOf}
-use Rattle.shard_queue.specs.declared.reply.ReceiverPermit.{ReceiverPermit}
+use Rattle.shard_queue.specs.Reply.{ReceiverPermit}
 use Rattle.shard_queue.specs.declared.lane.Entry.{Entry}
 use Rattle.shard_queue.specs.declared.lane.Entry.TheVariants.{Item, End}
 use Rattle.lane_work.specs.declared.desk.LanePermit.{LanePermit}

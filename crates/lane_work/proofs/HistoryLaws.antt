@@ -1,5 +1,6 @@
 -- What a worker says, in the words of the lanes' histories.
 use Rattle.std.proofs.Common.{◌≡◌, inl, inr, ℕ, zero, suc, ◌∙◌, ap, refl, sym, subst, List, [], ◌∷◌, map, Contains, arith}
+use Rattle.std.proofs.lemmas.List.Elements.{All-contains}
 use Rattle.delivery_token.specs.declared.Job.{Job}
 use Rattle.delivery_token.specs.declared.Verdict.{Verdict}
 use Rattle.delivery_token.specs.declared.Verdict.TheVariants.{Stored, Refused}
@@ -7,14 +8,16 @@ use Rattle.delivery_token.specs.declared.Refusal.TheVariants.{Full, NoMemory}
 use Rattle.delivery_token.specs.declared.log.Noted.{Noted}
 use Rattle.envelope.specs.Directory.{Directory, shard_of}
 use Rattle.shard_queue.specs.declared.lane.Entry.{Entry}
-use Rattle.shard_queue.specs.declared.queue.Ended.{Ended}
-use Rattle.shard_queue.specs.declared.queue.ShardQueue.{ShardQueue}
+use Rattle.shard_queue.specs.Permits.{ShardQueue, Ended, ConsumerPermit, Closed}
 use Rattle.shard_queue.specs.Lane.{of}
-use Rattle.shard_queue.specs.Permits.{said}
+use Rattle.shard_queue.specs.Permits.{said, history, ended_number}
 use Rattle.lane_work.specs.Account.{Account, Premises}
 use Rattle.lane_work.specs.Copies.{IsAtOnce, IsHeard, Room, WerePut, note_of, none, put, elsewhere, refused}
 use Rattle.lane_work.specs.Histories.{AreHeard}
 use Rattle.lane_work.specs.Permits.{AreEnded}
+use Rattle.lane_work.specs.LanePermits.{AreClosed}
+use Rattle.lane_work.specs.SharedLanes as lanes
+use Rattle.lane_work.specs.SharedLanes.{AreIn}
 
 pub said_is_taken : (lanes : List (ShardQueue Job)) (p : ℕ) (es : List (Ended Job)) (gots : List (List (Entry Job))) → AreEnded lanes p es → AreHeard es gots → map said es ≡ map (of p) gots
 said_is_taken lanes p [] [] h k = refl
@@ -49,3 +52,10 @@ stored_was_put d room seat lane heard (refused c v its why others) copy uid here
   not_at_once e (inl f) = let x : Stored uid ≡ Refused Full = sym e ∙ f.0 in cc
   not_at_once e (inr f) = let x : Stored uid ≡ Refused NoMemory = sym e ∙ f in cc
 stored_was_put d room seat lane heard (refused c v its why others) copy uid here (suc k, under, is) = stored_was_put d room seat lane heard others copy uid here (k, (let u = under in omega (arith, u)), is)
+
+-- what each of these ended permits has said is what was taken of it
+pub are_heard : {qs : List (ShardQueue Job)} {rs : List (List (Ended Job))} {ss : List (ConsumerPermit Job)} {cs : List (Closed Job)} → AreClosed qs rs ss cs → (es : List (Ended Job)) → AreIn es rs → AreHeard es (map history cs)
+are_heard lanes.none [] h = tt
+are_heard lanes.none (e ∷ es) h = absurd h
+are_heard (lanes.next q r s c is others) [] h = absurd h
+are_heard (lanes.next q r s c is others) (e ∷ es) h = (All-contains (λ e. said e ≡ of (ended_number e) (history c)) r e is.each h.0, are_heard others es h.1)

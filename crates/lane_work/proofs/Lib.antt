@@ -16,8 +16,6 @@ pub mod DispatchLaws
 pub mod StepLaws
 pub mod RowLaws
 pub mod CloseLaws
-pub mod SenderRowLaws
-pub mod ChannelCloseLaws
 pub mod LastWords
 pub mod Taking
 pub mod Going

@@ -5,16 +5,20 @@ use Rattle.std.proofs.lemmas.List.Elements.{filter_map-append, All-cons, All-hea
 use Rattle.delivery_token.specs.declared.Verdict.{Verdict}
 use Rattle.shard_queue.specs.declared.lane.Entry.TheVariants.{Item, End}
 use Rattle.delivery_token.specs.declared.Job.{Job}
-use Rattle.shard_queue.specs.declared.queue.ShardQueue.{ShardQueue}
+use Rattle.shard_queue.specs.Permits.{ShardQueue}
 use Rattle.lane_work.specs.declared.desk.LanePermit.{LanePermit}
 use Rattle.delivery_token.specs.declared.log.Noted.{Noted}
-use Rattle.shard_queue.specs.declared.queue.Ended.{Ended}
-use Rattle.shard_queue.specs.declared.ends.ReplyChannel.{ReplyChannel}
-use Rattle.shard_queue.specs.declared.reply.SenderPermit.{SenderPermit}
+use Rattle.shard_queue.specs.Permits.{Ended}
+use Rattle.shard_queue.specs.Reply.{ReplyChannel}
+use Rattle.shard_queue.specs.Reply.{SenderPermit}
 use Rattle.shard_queue.specs.declared.lane.Entry.{Entry}
 use Rattle.shard_queue.specs.Permits.{IsEnded, ended_number, said}
-use Rattle.shard_queue.specs.declared.reply.SenderEnded.{SenderEnded}
+use Rattle.shard_queue.specs.Reply.{SenderEnded}
 use Rattle.shard_queue.specs.Reply.{IsSender, IsSenderEnded, said_on, sender_number, sender_ended_number, sent_on}
+use Rattle.shard_queue.specs.Permits as queues
+use Rattle.shard_queue.specs.Reply as channels
+use Rattle.lane_work.specs.declared.desk.LanePermit.TheVariants.{Live}
+use Rattle.lane_work.specs.SharedLanes.{AreNew}
 use Rattle.lane_work.specs.Ends.{ends_in}
 use Rattle.lane_work.specs.Permits.{AreEnded, ArePermits, AreSenders, AreSendersEnded, AreLive, AreShutWhereOver, IsNew, IsPermit, is_over, overs, put_by, permit_number}
 use Rattle.envelope.specs.Directory.{Directory}
@@ -234,3 +238,28 @@ pub kept_next : (got got' taken taken' : List (Entry Job)) (entry : Entry Job) (
 kept_next got got' taken taken' entry was kept new so keeps is =
     let k = keeps is in
     k.1 ∙ ap (λ l. l ++ entry ∷ []) (so k.0) ∙ sym new
+
+-- ---- permits that were dealt
+
+-- a producer's
+pub new_permits : (qs : List (ShardQueue Job)) (p : ℕ) (ss : List (LanePermit Job)) → AreNew queues.view queues.is_of (λ permit. Live permit) qs p ss
+    → ArePermits qs p ss × All IsNew ss
+new_permits [] p [] h = (tt, All-nil IsNew)
+new_permits [] p (x ∷ ss) h = absurd h
+new_permits (q ∷ qs) p [] h = absurd h
+new_permits (q ∷ qs) p (x ∷ ss) ((s, is, mine, number, none), more) =
+    let rest = new_permits qs p ss more in
+    let here : IsPermit q x × (permit_number x ≡ p) = subst (λ (y : LanePermit Job). IsPermit q y × (permit_number y ≡ p)) (sym is) (mine, number) in
+    let new : IsNew x = subst IsNew (sym is) (none, refl) in
+    ((here, rest.0), All-cons IsNew x ss new rest.1)
+
+-- a consumer's
+pub new_senders : (cs : List (ReplyChannel Noted)) (s : ℕ) (xs : List (SenderPermit Noted)) → AreNew channels.view channels.is_of (λ permit. permit) cs s xs
+    → AreSenders cs s xs × All (λ x. sent_on x ≡ []) xs
+new_senders [] s [] h = (tt, All-nil (λ (x : SenderPermit Noted). sent_on x ≡ []))
+new_senders [] s (x ∷ xs) h = absurd h
+new_senders (c ∷ cs) s [] h = absurd h
+new_senders (c ∷ cs) s (x ∷ xs) ((y, is, mine, number, none), more) =
+    let rest = new_senders cs s xs more in
+    let here : IsSender c x × (sender_number x ≡ s) = subst (λ (z : SenderPermit Noted). IsSender c z × (sender_number z ≡ s)) (sym is) (mine, number) in
+    ((here, rest.0), All-cons (λ (x : SenderPermit Noted). sent_on x ≡ []) x xs (subst (λ (z : SenderPermit Noted). sent_on z ≡ []) (sym is) none) rest.1)

@@ -1,72 +1,38 @@
--- The permits of all channels, channel by channel: those that aren't dealt yet, and what is left of those that have ended.
-use Rattle.std.specs.Prelude.{◌≡◌, ℕ, ◌<◌, suc, List, [], ◌∷◌, All, Contains}
+-- The reply channels of a house's producers with their permits: what is known of several lanes, said of these.
+use Rattle.std.specs.Prelude.{ℕ, List}
 use Rattle.delivery_token.specs.declared.log.Noted.{Noted}
-use Rattle.shard_queue.specs.declared.ends.ReplyChannel.{ReplyChannel}
-use Rattle.shard_queue.specs.declared.reply.SenderPermit.{SenderPermit}
-use Rattle.shard_queue.specs.declared.reply.SenderEnded.{SenderEnded}
-use Rattle.shard_queue.specs.declared.reply.ReceiverPermit.{ReceiverPermit}
-use Rattle.lane_work.specs.Permits.{AreSendersEnded, AreSenders}
-use Rattle.shard_queue.specs.Reply.{IsSender, IsSenderEnded, IsReceiver, sender_number, sent_on, senders_of}
+use Rattle.shard_queue.specs.Reply.{ReplyChannel, SenderPermit, SenderEnded, ReceiverPermit, ReplyClosed, view, is_of, room_of}
+use Rattle.lane_work.specs.SharedLanes as lanes
 
--- the permits of this channel's senders from p to the last, none of which has sent anything
-abbrev pub AreSendersLeft : ReplyChannel Noted → ℕ → List (SenderPermit Noted) → Type 0
-AreSendersLeft q p [] = p ≡ senders_of q
-AreSendersLeft q p (s ∷ ss) = (p < senders_of q) × (IsSender q s × (sender_number s ≡ p) × (sent_on s ≡ [])) × AreSendersLeft q (suc p) ss
-
--- the same of each channel
+-- the permits of each channel's senders from p to the last, none of which has sent anything
 abbrev pub SenderRows : List (ReplyChannel Noted) → ℕ → List (List (SenderPermit Noted)) → Type 0
-SenderRows [] p [] = Unit {0}
-SenderRows [] p (r ∷ rs) = ⊥
-SenderRows (q ∷ qs) p [] = ⊥
-SenderRows (q ∷ qs) p (r ∷ rs) = AreSendersLeft q p r × SenderRows qs p rs
+SenderRows = lanes.Rows view is_of
 
 -- each hand has the permits of one sender on all channels, from sender p on, which have sent nothing
 abbrev pub AreSenderHands : List (ReplyChannel Noted) → ℕ → List (List (SenderPermit Noted)) → Type 0
-AreSenderHands qs p [] = Unit {0}
-AreSenderHands qs p (h ∷ hs) = (AreSenders qs p h × All (λ s. sent_on s ≡ []) h) × AreSenderHands qs (suc p) hs
+AreSenderHands = lanes.AreHands view is_of (λ permit. permit)
 
 -- the i-th permit is the receiver's of the i-th channel
 abbrev pub AreReceivers : List (ReplyChannel Noted) → List (ReceiverPermit Noted) → Type 0
-AreReceivers [] [] = Unit {0}
-AreReceivers [] (s ∷ ss) = ⊥
-AreReceivers (q ∷ qs) [] = ⊥
-AreReceivers (q ∷ qs) (s ∷ ss) = IsReceiver q s × AreReceivers qs ss
+AreReceivers = lanes.AreConsumers view is_of
+
+-- the i-th is what is left of sender s's permit on the i-th channel
+abbrev pub AreSendersEnded : List (ReplyChannel Noted) → ℕ → List (SenderEnded Noted) → Type 0
+AreSendersEnded = lanes.AreEnded view is_of
 
 -- the i-th list has ended permits of the i-th channel
 abbrev pub SenderEndedRows : List (ReplyChannel Noted) → List (List (SenderEnded Noted)) → Type 0
-SenderEndedRows [] [] = Unit {0}
-SenderEndedRows [] (r ∷ rs) = ⊥
-SenderEndedRows (q ∷ qs) [] = ⊥
-SenderEndedRows (q ∷ qs) (r ∷ rs) = All (IsSenderEnded q) r × SenderEndedRows qs rs
+SenderEndedRows = lanes.EndedRows view is_of
 
--- the i-th of these ended permits is in the i-th list
-abbrev pub AreSendersIn : List (SenderEnded Noted) → List (List (SenderEnded Noted)) → Type 0
-AreSendersIn [] [] = Unit {0}
-AreSendersIn [] (r ∷ rs) = ⊥
-AreSendersIn (e ∷ es) [] = ⊥
-AreSendersIn (e ∷ es) (r ∷ rs) = Contains r e × AreSendersIn es rs
-
--- what was in the lists is there still
-abbrev pub KeepSenders : (before after : List (List (SenderEnded Noted))) → Type 0
-KeepSenders before after = (es : List (SenderEnded Noted)) → AreSendersIn es before → AreSendersIn es after
-
--- where these are one sender's ended permits, the lists are still of their channels
-abbrev pub StaySendersEnded : List (SenderEnded Noted) → (before after : List (List (SenderEnded Noted))) → Type 0
-StaySendersEnded ended before after =
-    (channels : List (ReplyChannel Noted)) (p : ℕ) → AreSendersEnded channels p ended
-    → SenderEndedRows channels before → SenderEndedRows channels after
-
--- the same of several senders
-abbrev pub AllSendersIn : (hands lists : List (List (SenderEnded Noted))) → Type 0
-AllSendersIn [] lists = Unit {0}
-AllSendersIn (h ∷ hs) lists = AreSendersIn h lists × AllSendersIn hs lists
-
--- each list has one sender's ended permits on all channels, from sender p on
+-- each hand has one sender's ended permits on all channels, from sender p on
 abbrev pub AreSenderEndedHands : List (ReplyChannel Noted) → ℕ → List (List (SenderEnded Noted)) → Type 0
-AreSenderEndedHands channels p [] = Unit {0}
-AreSenderEndedHands channels p (h ∷ hs) = AreSendersEnded channels p h × AreSenderEndedHands channels (suc p) hs
+AreSenderEndedHands = lanes.AreEndedHands view is_of
 
-abbrev pub AllStaySendersEnded : (hands before after : List (List (SenderEnded Noted))) → Type 0
-AllStaySendersEnded hands before after =
-    (channels : List (ReplyChannel Noted)) (p : ℕ) → AreSenderEndedHands channels p hands
-    → SenderEndedRows channels before → SenderEndedRows channels after
+-- each of the channels was closed
+abbrev pub AreChannelsClosed : List (ReplyChannel Noted) → List (List (SenderEnded Noted)) → List (ReceiverPermit Noted)
+    → List (ReplyClosed Noted) → Type 0
+AreChannelsClosed = lanes.AreClosed view room_of
+
+-- of some channel an ended permit is missing, or an end wasn't received
+abbrev pub AreChannelsTorn : List (ReplyChannel Noted) → List (List (SenderEnded Noted)) → List (ReceiverPermit Noted) → Type 0
+AreChannelsTorn = lanes.IsTorn view

@@ -5,7 +5,7 @@ use Rattle.shard_queue.specs.declared.lane.Entry.{Entry}
 use Rattle.shard_queue.specs.declared.lane.Entry.TheVariants.{Item, End}
 use Rattle.delivery_token.specs.declared.Job.{Job}
 use Rattle.delivery_token.specs.declared.log.Noted.{Noted}
-use Rattle.shard_queue.specs.declared.queue.ShardQueue.{ShardQueue}
+use Rattle.shard_queue.specs.Permits.{ShardQueue}
 use Rattle.shard_queue.specs.Permits.{IsConsumer, got}
 use Rattle.shard_queue.specs.Reply.{said_on}
 use Rattle.lane_work.specs.Answering.{WereAnswered, is_nobodys}

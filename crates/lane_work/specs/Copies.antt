@@ -12,7 +12,7 @@ use Rattle.envelope.specs.Directory.{Directory, shard_of}
 use Rattle.lmtp_machine.specs.Dialogue.{Submission}
 use Rattle.shard_queue.specs.declared.lane.Entry.{Entry}
 use Rattle.shard_queue.specs.declared.lane.Entry.TheVariants.{Item}
-use Rattle.shard_queue.specs.declared.queue.ShardQueue.{ShardQueue}
+use Rattle.shard_queue.specs.Permits.{ShardQueue}
 use Rattle.shard_queue.specs.Permits.{capacity_of, producers_of}
 use Rattle.lane_work.specs.Talk.{Judged}
 

@@ -4,7 +4,7 @@ use Rattle.workers_sync.specs.Carried.{Carried, judged_of}
 use Rattle.delivery_token.specs.declared.Job.{Job}
 use Rattle.delivery_token.specs.declared.Verdict.{Verdict}
 use Rattle.delivery_token.specs.declared.log.Noted.{Noted}
-use Rattle.shard_queue.specs.declared.ends.ReplyChannel.{ReplyChannel}
+use Rattle.shard_queue.specs.Reply.{ReplyChannel}
 use Rattle.shard_queue.specs.Reply.{IsReceiver, received}
 use Rattle.lane_work.specs.declared.desk.Desk.{Desk}
 use Rattle.lane_work.specs.declared.desk.Intake.{Intake}

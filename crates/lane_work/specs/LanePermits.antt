@@ -1,71 +1,39 @@
--- The permits of all lanes, lane by lane: those that aren't dealt yet, and what is left of those that have ended.
-use Rattle.std.specs.Prelude.{◌≡◌, ℕ, ◌<◌, suc, List, [], ◌∷◌, All, Contains}
+-- The lanes of a house's shards with their permits: what is known of several lanes, said of these.
+use Rattle.std.specs.Prelude.{ℕ, List}
 use Rattle.delivery_token.specs.declared.Job.{Job}
-use Rattle.shard_queue.specs.declared.queue.ShardQueue.{ShardQueue}
-use Rattle.shard_queue.specs.declared.queue.ProducerPermit.{ProducerPermit}
-use Rattle.shard_queue.specs.declared.queue.Ended.{Ended}
-use Rattle.shard_queue.specs.declared.queue.ConsumerPermit.{ConsumerPermit}
+use Rattle.shard_queue.specs.Permits.{ShardQueue, ProducerPermit, Ended, ConsumerPermit, Closed, view, is_of, capacity_of}
 use Rattle.lane_work.specs.declared.desk.LanePermit.{LanePermit}
-use Rattle.lane_work.specs.Permits.{AreEnded, ArePermits, IsNew}
-use Rattle.shard_queue.specs.Permits.{IsProducer, IsEnded, IsConsumer, number_of, sent, producers_of}
+use Rattle.lane_work.specs.declared.desk.LanePermit.TheVariants.{Live}
+use Rattle.lane_work.specs.SharedLanes as lanes
 
--- the permits of this lane's producers from p to the last, none of which has put anything
-abbrev pub AreLeft : ShardQueue Job → ℕ → List (ProducerPermit Job) → Type 0
-AreLeft q p [] = p ≡ producers_of q
-AreLeft q p (s ∷ ss) = (p < producers_of q) × (IsProducer q s × (number_of s ≡ p) × (sent s ≡ [])) × AreLeft q (suc p) ss
-
--- the same of each lane
+-- the permits of each lane's producers from p to the last, none of which has put anything
 abbrev pub Rows : List (ShardQueue Job) → ℕ → List (List (ProducerPermit Job)) → Type 0
-Rows [] p [] = Unit {0}
-Rows [] p (r ∷ rs) = ⊥
-Rows (q ∷ qs) p [] = ⊥
-Rows (q ∷ qs) p (r ∷ rs) = AreLeft q p r × Rows qs p rs
+Rows = lanes.Rows view is_of
 
 -- each hand has the permits of one producer on all lanes, from producer p on, which have put nothing
 abbrev pub AreHands : List (ShardQueue Job) → ℕ → List (List (LanePermit Job)) → Type 0
-AreHands qs p [] = Unit {0}
-AreHands qs p (h ∷ hs) = (ArePermits qs p h × All IsNew h) × AreHands qs (suc p) hs
+AreHands = lanes.AreHands view is_of (λ permit. Live permit)
 
 -- the i-th permit is the consumer's of the i-th lane
 abbrev pub AreConsumers : List (ShardQueue Job) → List (ConsumerPermit Job) → Type 0
-AreConsumers [] [] = Unit {0}
-AreConsumers [] (s ∷ ss) = ⊥
-AreConsumers (q ∷ qs) [] = ⊥
-AreConsumers (q ∷ qs) (s ∷ ss) = IsConsumer q s × AreConsumers qs ss
+AreConsumers = lanes.AreConsumers view is_of
+
+-- the i-th is what is left of producer p's permit on the i-th lane
+abbrev pub AreEnded : List (ShardQueue Job) → ℕ → List (Ended Job) → Type 0
+AreEnded = lanes.AreEnded view is_of
 
 -- the i-th list has ended permits of the i-th lane
 abbrev pub EndedRows : List (ShardQueue Job) → List (List (Ended Job)) → Type 0
-EndedRows [] [] = Unit {0}
-EndedRows [] (r ∷ rs) = ⊥
-EndedRows (q ∷ qs) [] = ⊥
-EndedRows (q ∷ qs) (r ∷ rs) = All (IsEnded q) r × EndedRows qs rs
+EndedRows = lanes.EndedRows view is_of
 
--- the i-th of these ended permits is in the i-th list
-abbrev pub AreIn : List (Ended Job) → List (List (Ended Job)) → Type 0
-AreIn [] [] = Unit {0}
-AreIn [] (r ∷ rs) = ⊥
-AreIn (e ∷ es) [] = ⊥
-AreIn (e ∷ es) (r ∷ rs) = Contains r e × AreIn es rs
-
--- what was in the lists is there still
-abbrev pub Keep : (before after : List (List (Ended Job))) → Type 0
-Keep before after = (es : List (Ended Job)) → AreIn es before → AreIn es after
-
--- where these are one producer's ended permits, the lists are still of their lanes
-abbrev pub StayEnded : List (Ended Job) → (before after : List (List (Ended Job))) → Type 0
-StayEnded ended before after =
-    (lanes : List (ShardQueue Job)) (p : ℕ) → AreEnded lanes p ended → EndedRows lanes before → EndedRows lanes after
-
--- the same of several producers
-abbrev pub AllIn : (hands lists : List (List (Ended Job))) → Type 0
-AllIn [] lists = Unit {0}
-AllIn (h ∷ hs) lists = AreIn h lists × AllIn hs lists
-
--- each list has one producer's ended permits on all lanes, from producer p on
+-- each hand has one producer's ended permits on all lanes, from producer p on
 abbrev pub AreEndedHands : List (ShardQueue Job) → ℕ → List (List (Ended Job)) → Type 0
-AreEndedHands lanes p [] = Unit {0}
-AreEndedHands lanes p (h ∷ hs) = AreEnded lanes p h × AreEndedHands lanes (suc p) hs
+AreEndedHands = lanes.AreEndedHands view is_of
 
-abbrev pub AllStayEnded : (hands before after : List (List (Ended Job))) → Type 0
-AllStayEnded hands before after =
-    (lanes : List (ShardQueue Job)) (p : ℕ) → AreEndedHands lanes p hands → EndedRows lanes before → EndedRows lanes after
+-- each of the lanes was closed
+abbrev pub AreClosed : List (ShardQueue Job) → List (List (Ended Job)) → List (ConsumerPermit Job) → List (Closed Job) → Type 0
+AreClosed = lanes.AreClosed view capacity_of
+
+-- of some lane an ended permit is missing, or an end wasn't taken
+abbrev pub IsTorn : List (ShardQueue Job) → List (List (Ended Job)) → List (ConsumerPermit Job) → Type 0
+IsTorn = lanes.IsTorn view

@@ -13,9 +13,8 @@ pub mod Speaking
 pub mod Working
 pub mod Histories
 pub mod Rooms
-pub mod Closings
 pub mod Telling
-pub mod ChannelClosings
+pub mod SharedLanes
 pub mod LanePermits
 pub mod ChannelPermits
 pub mod Streaming

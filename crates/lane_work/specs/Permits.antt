@@ -5,13 +5,13 @@ use Rattle.delivery_token.specs.declared.log.Noted.{Noted}
 use Rattle.envelope.specs.Directory.{Directory, is_shut}
 use Rattle.shard_queue.specs.declared.lane.Entry.{Entry}
 use Rattle.shard_queue.specs.declared.lane.Entry.TheVariants.{End}
-use Rattle.shard_queue.specs.declared.queue.ShardQueue.{ShardQueue}
-use Rattle.shard_queue.specs.declared.queue.Ended.{Ended}
-use Rattle.shard_queue.specs.declared.ends.ReplyChannel.{ReplyChannel}
-use Rattle.shard_queue.specs.declared.reply.SenderPermit.{SenderPermit}
-use Rattle.shard_queue.specs.declared.reply.SenderEnded.{SenderEnded}
+use Rattle.shard_queue.specs.Permits.{ShardQueue}
+use Rattle.shard_queue.specs.Reply.{ReplyChannel}
+use Rattle.shard_queue.specs.Reply.{SenderPermit}
 use Rattle.shard_queue.specs.Permits.{IsProducer, IsEnded, number_of, ended_number, said, sent}
-use Rattle.shard_queue.specs.Reply.{IsSender, IsSenderEnded, sender_number, sender_ended_number}
+use Rattle.shard_queue.specs.Reply.{IsSender, sender_number}
+pub use Rattle.lane_work.specs.LanePermits.{AreEnded}
+pub use Rattle.lane_work.specs.ChannelPermits.{AreSendersEnded}
 use Rattle.lane_work.specs.declared.desk.LanePermit.{LanePermit}
 use Rattle.lane_work.specs.declared.desk.LanePermit.TheVariants.{Live, Over}
 
@@ -65,22 +65,9 @@ AreShutWhereOver directory permits = (lane : ℕ) → slice_index_or (overs perm
 abbrev pub AreInForce : Directory → List (ShardQueue Job) → ℕ → List (LanePermit Job) → Type 0
 AreInForce directory lanes p permits = ArePermits lanes p permits × AreShutWhereOver directory permits
 
--- the same of what is left of them after their ends
-abbrev pub AreEnded : List (ShardQueue Job) → ℕ → List (Ended Job) → Type 0
-AreEnded [] p [] = Unit {0}
-AreEnded [] p (e ∷ es) = ⊥
-AreEnded (q ∷ qs) p [] = ⊥
-AreEnded (q ∷ qs) p (e ∷ es) = (IsEnded q e × (ended_number e ≡ p)) × AreEnded qs p es
-
 -- the i-th permit is sender s's on the i-th channel
 abbrev pub AreSenders : List (ReplyChannel Noted) → ℕ → List (SenderPermit Noted) → Type 0
 AreSenders [] s [] = Unit {0}
 AreSenders [] s (x ∷ xs) = ⊥
 AreSenders (c ∷ cs) s [] = ⊥
 AreSenders (c ∷ cs) s (x ∷ xs) = (IsSender c x × (sender_number x ≡ s)) × AreSenders cs s xs
-
-abbrev pub AreSendersEnded : List (ReplyChannel Noted) → ℕ → List (SenderEnded Noted) → Type 0
-AreSendersEnded [] s [] = Unit {0}
-AreSendersEnded [] s (x ∷ xs) = ⊥
-AreSendersEnded (c ∷ cs) s [] = ⊥
-AreSendersEnded (c ∷ cs) s (x ∷ xs) = (IsSenderEnded c x × (sender_ended_number x ≡ s)) × AreSendersEnded cs s xs

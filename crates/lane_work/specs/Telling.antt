@@ -3,24 +3,23 @@ use Rattle.std.specs.Prelude.{◌≡◌, ℕ, List, map, length, All}
 use Rattle.delivery_token.specs.declared.Job.{Job}
 use Rattle.delivery_token.specs.declared.log.Noted.{Noted}
 use Rattle.shard_queue.specs.declared.lane.Entry.{Entry}
-use Rattle.shard_queue.specs.declared.queue.ShardQueue.{ShardQueue}
-use Rattle.shard_queue.specs.declared.queue.Ended.{Ended}
-use Rattle.shard_queue.specs.declared.queue.ConsumerPermit.{ConsumerPermit}
-use Rattle.shard_queue.specs.declared.queue.Closed.{Closed}
-use Rattle.shard_queue.specs.declared.ends.ReplyChannel.{ReplyChannel}
-use Rattle.shard_queue.specs.declared.reply.SenderEnded.{SenderEnded}
-use Rattle.shard_queue.specs.declared.reply.ReceiverPermit.{ReceiverPermit}
-use Rattle.shard_queue.specs.declared.reply.ReplyClosed.{ReplyClosed}
+use Rattle.shard_queue.specs.Permits.{ShardQueue}
+use Rattle.shard_queue.specs.Permits.{Ended}
+use Rattle.shard_queue.specs.Permits.{ConsumerPermit}
+use Rattle.shard_queue.specs.Permits.{Closed}
+use Rattle.shard_queue.specs.Reply.{ReplyChannel}
+use Rattle.shard_queue.specs.Reply.{SenderEnded}
+use Rattle.shard_queue.specs.Reply.{ReceiverPermit}
+use Rattle.shard_queue.specs.Reply.{ReplyClosed}
 use Rattle.shard_queue.specs.Reply.{received, reply_history, said_on, senders_of}
 use Rattle.shard_queue.specs.Closing.{IsWhole}
 use Rattle.shard_queue.specs.Lane.{of}
 use Rattle.shard_queue.specs.Permits.{said, got, history, producers_of, capacity_of}
 use Rattle.lane_work.specs.Account.{Account, Premises}
 use Rattle.lane_work.specs.Permits.{AreEnded, AreSendersEnded}
-use Rattle.lane_work.specs.LanePermits.{AreIn}
-use Rattle.lane_work.specs.ChannelPermits.{AreSendersIn}
-use Rattle.lane_work.specs.ChannelClosings.{AreChannelsClosed}
-use Rattle.lane_work.specs.Closings.{AreClosed}
+use Rattle.lane_work.specs.SharedLanes.{AreIn}
+use Rattle.lane_work.specs.LanePermits.{AreClosed}
+use Rattle.lane_work.specs.ChannelPermits.{AreChannelsClosed}
 
 -- what a producer has said, lane by lane, is what the histories have of it
 abbrev pub SaidIsHistory : Type 0
@@ -49,7 +48,7 @@ LanesAreWhole = (lanes : List (ShardQueue Job)) (rows : List (List (Ended Job)))
 abbrev pub SaidOnIsHistory : Type 0
 SaidOnIsHistory = (channels : List (ReplyChannel Noted)) (rows : List (List (SenderEnded Noted))) (permits : List (ReceiverPermit Noted))
     (closed : List (ReplyClosed Noted)) → AreChannelsClosed channels rows permits closed
-    → (s : ℕ) (ended : List (SenderEnded Noted)) → AreSendersEnded channels s ended → AreSendersIn ended rows
+    → (s : ℕ) (ended : List (SenderEnded Noted)) → AreSendersEnded channels s ended → AreIn ended rows
     → map said_on ended ≡ map (of s) (map reply_history closed)
 
 -- there is a history for each channel, it is what the channel's receiver has received, and it is whole: nothing waits, so it needs no room

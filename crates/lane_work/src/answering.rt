@@ -90,7 +90,7 @@ fn tell<B: Naming, R: Wait, G: Gate>(
 {
     for _ in rt.forever() {
         sync_point.pass();
-        match channel.send_as(rt, permit, answer) {
+        match channel.put_as(rt, permit, answer) {
             Ok(()) => return,
             Err(Full(back)) => answer = back,
         }

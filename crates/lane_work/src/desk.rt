@@ -2,10 +2,13 @@
 //! beside this one.
 
 use crate::dispatch::Dispatch;
+use crate::lanes::Held;
 use budget::Budget;
 use envelope::Directory;
 use house_history::{Answer, Letter, Naming};
-use shard_queue::{Ended, ProducerPermit, ReceiverPermit, ShardQueue};
+use shard_queue::{
+    BothEnds, Ended, EntryQueue, ProducerPermit, ReceiverPermit, SenderPermit, ShardQueue,
+};
 
 /// What all workers share.
 pub struct Intake<B: Naming> {
@@ -40,6 +43,33 @@ pub enum LanePermit<T> {
     Live(ProducerPermit<T>),
     /// It has ended, and puts nothing there any more.
     Over(Ended<T>),
+}
+
+// A worker's permits may end one by one.
+impl<T: Drop> Held<EntryQueue<T>> for LanePermit<T> {
+    ghost use Rattle.std.specs.Prelude.{◌≡◌};
+    ghost use Rattle.lane_work.specs.declared.desk.LanePermit.TheVariants as permits;
+
+    ghost held = { λ permit. permits.Live permit };
+
+    fn hold(permit: ProducerPermit<T>) -> LanePermit<T>
+        ensures { result ≡ permits.Live permit }
+    {
+        LanePermit::Live(permit)
+    }
+}
+
+// A consumer's end all at once.
+impl<T: Drop> Held<BothEnds<T>> for SenderPermit<T> {
+    ghost use Rattle.std.specs.Prelude.{◌≡◌};
+
+    ghost held = { λ permit. permit };
+
+    fn hold(permit: SenderPermit<T>) -> SenderPermit<T>
+        ensures { result ≡ permit }
+    {
+        permit
+    }
 }
 
 /// What one worker holds.

@@ -3,8 +3,9 @@
 
 ghost use Rattle.std.specs.Prelude.{true, false, ◌≡◌, ◌↔◌, ◌≤◌, ◌+◌, ◌-◌, ◌++◌, ◌∷◌, [], length, map, vec_capacity};
 ghost use Rattle.shard_queue.specs.declared.lane.Entry.TheVariants as entries;
-ghost use Rattle.shard_queue.specs.Permits.{IsProducer, IsEnded, sent, said, number_of, ended_number};
-ghost use Rattle.shard_queue.specs.Reply.{IsReceiver, IsSender, IsSenderEnded, received, sender_number, sender_ended_number, sent_on, said_on};
+ghost use Rattle.shard_queue.specs.SharedLane as lanes;
+ghost use Rattle.shard_queue.specs.Permits.{IsEnded, said, number_of, ended_number};
+ghost use Rattle.shard_queue.specs.Reply.{IsReceiver, received, sent_on, said_on};
 ghost use Rattle.shard_queue.specs.Shared.{IsStartOf};
 ghost use Rattle.lane_work.specs.Permits.{AreEnded, ArePermits, AreSenders, AreSendersEnded, IsPermit, permit_number, put_by};
 ghost use Rattle.lane_work.specs.Account.{HaveEnded};
@@ -15,24 +16,26 @@ use crate::bells::Notifier;
 use crate::desk::{Intake, LanePermit};
 use house_history::{Answer, Letter, Naming};
 use shard_queue::{
-    Ended, Entry, ProducerPermit, ReceiverPermit, ReplyChannel, SenderEnded, SenderPermit,
-    ShardQueue,
+    Carrier, Ended, EndedPermit, Entry, Permit, ReceiverPermit, ReplyChannel, SenderEnded,
+    SenderPermit, ShardQueue, SharedLane,
 };
 use std::sync::Wait;
 use std::thread;
 use workers_sync::{Gate, SyncPoint};
 
-/// Ends a producer's permit: its end goes behind all that it has put. Where the lane is full it tries
-/// again until there is room.
-pub fn end_one<B: Naming, R: Wait, G: Gate>(
+/// Ends a permit: its end goes behind all that it has put. Where the lane is full it tries again until
+/// there is room.
+pub fn end_one<C: Carrier, R: Wait, G: Gate>(
     rt: &R,
     sync_point: &mut SyncPoint<'_, G>,
-    lane: &ShardQueue<Letter<B>>,
-    mut permit: ProducerPermit<Letter<B>>,
-) -> Ended<Letter<B>>
-    requires { IsProducer lane.now permit }
-    ensures { IsEnded lane.now result × (ended_number result ≡ number_of permit)
-        × (said result ≡ sent permit ++ entries.End (number_of permit) ∷ []) }
+    lane: &SharedLane<C>,
+    mut permit: Permit<C::Pass>,
+) -> EndedPermit<C::Pass>
+    requires { lanes.IsPermit C.view C.is_of lane.now permit }
+    ensures { lanes.IsEndedPermit C.view C.is_of lane.now result
+        × (ended_number result ≡ number_of permit)
+        × (lanes.said C.view result
+        ≡ lanes.sent C.view permit ++ entries.End (number_of permit) ∷ []) }
 {
     for _ in rt.forever() {
         sync_point.pass();
@@ -144,30 +147,6 @@ pub fn hear_ends<B: Naming, R: Wait, G: Gate>(
     unreachable!()
 }
 
-/// Ends a sender's permit: its end goes behind all that it has sent. Where the channel is full it tries
-/// again until there is room.
-pub fn end_sender<B: Naming, R: Wait, G: Gate>(
-    rt: &R,
-    sync_point: &mut SyncPoint<'_, G>,
-    channel: &ReplyChannel<Answer<B>>,
-    mut permit: SenderPermit<Answer<B>>,
-) -> SenderEnded<Answer<B>>
-    requires { IsSender channel.now permit }
-    ensures { IsSenderEnded channel.now result
-        × (sender_ended_number result ≡ sender_number permit) ×
-        (said_on result ≡ sent_on permit ++ entries.End (sender_number permit) ∷ []) }
-{
-    for _ in rt.forever() {
-        sync_point.pass();
-        match channel.end_as(rt, permit) {
-            Ok(ended) => return ended,
-            Err(back) => permit = back,
-        }
-        thread::yield_now();
-    }
-    unreachable!()
-}
-
 /// Ends a consumer's permit on each reply channel, from the first on. `ended`, which is empty, has room
 /// for all.
 pub fn end_senders<B: Naming, R: Wait, G: Gate>(
@@ -188,7 +167,7 @@ pub fn end_senders<B: Naming, R: Wait, G: Gate>(
 {
     for channel in 0..channels.len() {
         let sender = senders.remove(0);
-        ended.push_reserved(end_sender(rt, sync_point, &channels[channel], sender));
+        ended.push_reserved(end_one(rt, sync_point, &channels[channel], sender));
     }
     senders.destroy_empty();
     ended

@@ -7,7 +7,6 @@
 mod answering;
 mod bells;
 mod carrying;
-mod channels;
 mod closing;
 mod consumer;
 mod desk;
@@ -31,16 +30,12 @@ mod worker;
 pub use answering::serve_copy;
 pub use bells::Notifier;
 pub use carrying::LaneCourier;
-pub use channels::{
-    Channels, abandon_channels, close_channels, collect_all_senders, collect_senders,
-    deal_all_senders, deal_senders, make_channels,
-};
 pub use consumer::{Consumed, Delivery, Stall, consume};
 pub use desk::{Closing, Desk, Intake, LanePermit};
 pub use dispatch::Dispatch;
-pub use ending::{end_all, end_one, end_permit, end_sender, end_senders, hear_ends};
+pub use ending::{end_all, end_one, end_permit, end_senders, hear_ends};
 pub use lanes::{
-    Lanes, abandon_lanes, close_lanes, collect, collect_all, deal, deal_all, make_lanes,
+    Held, Lanes, abandon_lanes, close_lanes, collect, collect_all, deal, deal_all, make_lanes,
 };
 pub use laws::{accounts_meet_histories, books_stand};
 pub use outcome::{Ending, TalkFault};

@@ -5,11 +5,10 @@ use Rattle.delivery_token.specs.declared.Job.{Job}
 use Rattle.delivery_token.specs.declared.log.Noted.{Noted}
 use Rattle.shard_queue.specs.declared.lane.Entry.{Entry}
 use Rattle.shard_queue.specs.declared.lane.Entry.TheVariants.{End}
-use Rattle.shard_queue.specs.declared.queue.Closed.{Closed}
-use Rattle.shard_queue.specs.declared.queue.Ended.{Ended}
-use Rattle.shard_queue.specs.declared.reply.ReceiverPermit.{ReceiverPermit}
-use Rattle.shard_queue.specs.declared.reply.ReplyClosed.{ReplyClosed}
-use Rattle.shard_queue.specs.declared.reply.SenderEnded.{SenderEnded}
+use Rattle.shard_queue.specs.Permits.{Closed}
+use Rattle.shard_queue.specs.Permits.{Ended}
+use Rattle.shard_queue.specs.Reply.{ReceiverPermit}
+use Rattle.shard_queue.specs.Reply.{ReplyClosed}
 use Rattle.shard_queue.specs.Lane.{of}
 use Rattle.shard_queue.specs.Reply.{reply_history}
 use Rattle.shard_queue.specs.Permits.{got, history, said}
@@ -17,10 +16,9 @@ use Rattle.lane_work.specs.Answering.{WereAnswered}
 use Rattle.lane_work.specs.declared.consumer.Consumed.{Consumed}
 use Rattle.lane_work.specs.declared.worker.Fate.{Fate}
 use Rattle.lane_work.specs.declared.worker.Fate.TheVariants as fates
-use Rattle.lane_work.specs.LanePermits.{AllIn, AreIn}
-use Rattle.lane_work.specs.ChannelPermits.{AllSendersIn, AreSendersIn}
+use Rattle.lane_work.specs.SharedLanes.{AllIn, AreIn}
 use Rattle.lane_work.proofs.CloseLaws as lanes
-use Rattle.lane_work.proofs.ChannelCloseLaws as channels
+use Rattle.shard_queue.specs.Reply.{is_of}
 use Rattle.house_shared.specs.Crew.{AllAt}
 use Rattle.house_shared.specs.declared.shared.HouseShared.{HouseShared}
 use Rattle.house_shared.specs.Left.{IsServiceOf}
@@ -40,7 +38,7 @@ at_position P n (suc k) (y ∷ xs) x all is =
     let e : suc n + k ≡ n + suc k = omega arith in
     subst (λ i. P i x) e (at_position P (suc n) k xs x all.1 is)
 
-pub in_at : {A : Type 0} (f : A → List (Ended Job)) (xs : List A) (lists : List (List (Ended Job))) (k : ℕ) (x : A) → AllIn (map f xs) lists → slice_get xs k ≡ Some x → AreIn (f x) lists
+pub in_at : {A E : Type 0} (f : A → List E) (xs : List A) (lists : List (List E)) (k : ℕ) (x : A) → AllIn (map f xs) lists → slice_get xs k ≡ Some x → AreIn (f x) lists
 in_at f [] lists k x all is = absurd (cc)
 in_at f (y ∷ xs) lists zero x all is =
     let same : y ≡ x = cc in
@@ -92,13 +90,6 @@ all_taken shared cs closed hands all count services are =
 
 -- ---- answers
 
-senders_at : {A : Type 0} (f : A → List (SenderEnded Noted)) (xs : List A) (lists : List (List (SenderEnded Noted))) (k : ℕ) (x : A) → AllSendersIn (map f xs) lists → slice_get xs k ≡ Some x → AreSendersIn (f x) lists
-senders_at f [] lists k x all is = absurd (cc)
-senders_at f (y ∷ xs) lists zero x all is =
-    let same : y ≡ x = cc in
-    subst (λ z. AreSendersIn (f z) lists) same all.0
-senders_at f (y ∷ xs) lists (suc k) x all is = senders_at f xs lists k x all.1 is
-
 -- nothing had been said before
 none_at : (before : List (List (Entry Noted))) (p : ℕ) → All (λ e. e ≡ []) before → slice_index_or before p [] ≡ []
 none_at [] p all = refl
@@ -131,7 +122,7 @@ answers_of shared cs closed hands replied receivers all count are heard s p lane
     let said = left.2.said p channel in
     let taken : slice_index_or (map history closed) s [] ≡ got c.0.permit =
     ap (λ xs. slice_index_or xs s []) (lanes.histories_taken are.2 ∙ got_twice cs) ∙ mapped_at (λ (d : Consumed _). got d.permit) cs s c.0 [] c.1 in
-    let own = channels.said_on_is_history heard.2 s c.0.senders.items left.2.senders (senders_at (λ (d : Consumed _). d.senders.items) cs heard.0 s c.0 heard.1 c.1) in (
+    let own = lanes.said_is_history heard.2 is_of s c.0.senders.items left.2.senders (in_at (λ (d : Consumed _). d.senders.items) cs heard.0 s c.0 heard.1 c.1) in (
       said.0,
       subst (λ entries. WereAnswered (length shared.delivery.mailboxes.items) s p entries said.0) (sym taken) said.1,
       of_at s (map reply_history replied) p ∙ ap (λ xs. slice_index_or xs p []) (sym own) ∙ said.2 ∙ ap (λ b. (b ++ said.0) ++ End s ∷ []) (none_at left.0 p left.1),

@@ -1,33 +1,28 @@
 -- Hands that are collected, and rooms for them.
-use Rattle.std.proofs.Common.{◌≡◌, ◌≤◌, ◌+◌, ℕ, suc, List, [], ◌∷◌, All, Option, Some, None, MatchOption, Vec, length, map, ap, vec_len, vec_capacity, arith}
+use Rattle.std.proofs.Common.{◌≡◌, ◌≤◌, ◌+◌, ◌∙◌, ℕ, suc, List, [], ◌∷◌, All, Option, Some, None, MatchOption, Vec, length, map, ap, vec_len, vec_capacity, arith}
 use Rattle.std.specs.Global.{Global}
 use Rattle.std.proofs.lemmas.List.Elements.{All-cons, All-nil, All-map, All-weaker}
-use Rattle.delivery_token.specs.declared.Job.{Job}
-use Rattle.delivery_token.specs.declared.log.Noted.{Noted}
-use Rattle.shard_queue.specs.declared.ends.ReplyChannel.{ReplyChannel}
-use Rattle.shard_queue.specs.declared.queue.Ended.{Ended}
-use Rattle.shard_queue.specs.declared.queue.ShardQueue.{ShardQueue}
-use Rattle.shard_queue.specs.declared.reply.SenderEnded.{SenderEnded}
+use Rattle.shard_queue.specs.declared.shared.View.{View}
+use Rattle.shard_queue.specs.declared.permits.SharedLane.{SharedLane}
+use Rattle.shard_queue.specs.declared.permits.EndedPermit.{EndedPermit}
 use Rattle.lane_work.specs.Rooms.{AreRooms}
-use Rattle.lane_work.specs.LanePermits.{AreEndedHands}
-use Rattle.lane_work.specs.ChannelPermits.{AreSenderEndedHands}
-use Rattle.lane_work.proofs.RowLaws as lanes
-use Rattle.lane_work.proofs.SenderRowLaws as channels
+use Rattle.lane_work.specs.SharedLanes.{AreEndedHands}
+use Rattle.lane_work.proofs.RowLaws.{ended_hand_length}
 
-pub hands_length : (qs : List (ShardQueue Job)) (n : ℕ) → length qs ≡ n → (p : ℕ) (hs : List (Vec (Ended Job) Global)) → AreEndedHands qs p (map (λ h. h.items) hs) → All (λ v. vec_len v ≡ n) hs
-hands_length qs n same p [] are = All-nil (λ (v : Vec (Ended Job) Global). vec_len v ≡ n)
-hands_length qs n same p (v ∷ hs) are =
-    let l = lanes.ended_hand_length qs p v.items are.0 in
-    let o = v.ok.0 in
-    All-cons (λ (v : Vec (Ended Job) Global). vec_len v ≡ n) v hs (omega (arith, l, o, same)) (hands_length qs n same (suc p) hs are.1)
+module _ {T C P : Type 0} (view : P → View T) (is_of : C → P → Type 0) where
+  -- each hand has one for each lane
+  pub same_lengths : (ls : List (SharedLane C)) (n : ℕ) → length ls ≡ n → (p : ℕ) (hs : List (List (EndedPermit P))) → AreEndedHands view is_of ls p hs → All (λ h. length h ≡ n) hs
+  same_lengths ls n same p [] are = All-nil (λ (h : List (EndedPermit P)). length h ≡ n)
+  same_lengths ls n same p (h ∷ hs) are =
+      All-cons (λ (h : List (EndedPermit P)). length h ≡ n) h hs (ended_hand_length view is_of ls p h are.0 ∙ same) (same_lengths ls n same (suc p) hs are.1)
 
-pub sender_hands_length : (qs : List (ReplyChannel Noted)) (n : ℕ) → length qs ≡ n → (p : ℕ) (hs : List (Vec (SenderEnded Noted) Global)) → AreSenderEndedHands qs p (map (λ h. h.items) hs)
-    → All (λ v. vec_len v ≡ n) hs
-sender_hands_length qs n same p [] are = All-nil (λ (v : Vec (SenderEnded Noted) Global). vec_len v ≡ n)
-sender_hands_length qs n same p (v ∷ hs) are =
-    let l = channels.ended_hand_length qs p v.items are.0 in
-    let o = v.ok.0 in
-    All-cons (λ (v : Vec (SenderEnded Noted) Global). vec_len v ≡ n) v hs (omega (arith, l, o, same)) (sender_hands_length qs n same (suc p) hs are.1)
+  pub hands_length : (ls : List (SharedLane C)) (n : ℕ) → length ls ≡ n → (p : ℕ) (hs : List (Vec (EndedPermit P) Global)) → AreEndedHands view is_of ls p (map (λ h. h.items) hs)
+      → All (λ v. vec_len v ≡ n) hs
+  hands_length ls n same p [] are = All-nil (λ (v : Vec (EndedPermit P) Global). vec_len v ≡ n)
+  hands_length ls n same p (v ∷ hs) are =
+      let l = ended_hand_length view is_of ls p v.items are.0 in
+      let o = v.ok.0 in
+      All-cons (λ (v : Vec (EndedPermit P) Global). vec_len v ≡ n) v hs (omega (arith, l, o, same)) (hands_length ls n same (suc p) hs are.1)
 
 -- there is room in each list
 pub is_room : {T : Type 0} (count each : ℕ) (lists : Vec (Vec T Global) Global) → AreRooms count each lists → All (λ v. vec_len v + each ≤ vec_capacity v) lists.items

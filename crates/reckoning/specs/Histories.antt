@@ -7,7 +7,7 @@ use Rattle.house_history.specs.declared.event.Event.{Event}
 use Rattle.house_history.specs.Events.{sent_by}
 use Rattle.shard_queue.specs.Permits.{said}
 use Rattle.shard_queue.specs.declared.lane.Entry.{Entry}
-use Rattle.shard_queue.specs.declared.queue.Ended.{Ended}
+use Rattle.shard_queue.specs.Permits.{Ended}
 use Rattle.lane_work.specs.Backing.{IsBacked}
 use Rattle.lane_work.specs.declared.worker.Worked.{Worked}
 

@@ -11,8 +11,8 @@ use house_history::{Answer, Letter, Naming};
 use house_shared::{Baskets, HouseShared, Post, Ran, Spares, Stand};
 use lane_work::{Consumed, Desk, LanePermit, Stall, Worked, spend_lists};
 use shard_queue::{
-    ConsumerPermit, Ended, ProducerPermit, ReceiverPermit, ReplyChannel, SenderEnded, SenderPermit,
-    ShardQueue,
+    Carrier, ConsumerPermit, ConsumersPermit, Ended, EndedPermit, Permit, ProducerPermit,
+    ReceiverPermit, SenderEnded, SenderPermit, SharedLane,
 };
 use std::alloc::Global;
 
@@ -223,12 +223,12 @@ fn clear_consumers<B: Naming>(
 
 // Spends all lanes, with one consumer's end for each and with all permits that are there. A lane that is
 // abandoned asks no permit whose it is, so the first takes them all.
-fn abandon_lanes<B: Naming>(
+fn abandon_lanes<C: Carrier>(
     alloc: Global,
-    mut lanes: Vec<ShardQueue<Letter<B>>>,
-    mut consumers: Vec<ConsumerPermit<Letter<B>>>,
-    permits: Vec<ProducerPermit<Letter<B>>>,
-    ended: Vec<Ended<Letter<B>>>,
+    mut lanes: Vec<SharedLane<C>>,
+    mut consumers: Vec<ConsumersPermit<C::Pass>>,
+    permits: Vec<Permit<C::Pass>>,
+    ended: Vec<EndedPermit<C::Pass>>,
 )
     requires some { 0 < vec_len lanes }
     requires consumers { vec_len consumers ≡ vec_len lanes }
@@ -240,26 +240,6 @@ fn abandon_lanes<B: Naming>(
     }
     lanes.destroy_empty();
     consumers.destroy_empty();
-}
-
-// The same of all channels.
-fn abandon_channels<B: Naming>(
-    alloc: Global,
-    mut channels: Vec<ReplyChannel<Answer<B>>>,
-    mut receivers: Vec<ReceiverPermit<Answer<B>>>,
-    permits: Vec<SenderPermit<Answer<B>>>,
-    ended: Vec<SenderEnded<Answer<B>>>,
-)
-    requires some { 0 < vec_len channels }
-    requires receivers { vec_len receivers ≡ vec_len channels }
-{
-    let first = channels.remove(0);
-    first.abandon(permits, ended, receivers.remove(0));
-    while let Some(channel) = channels.pop() {
-        channel.abandon(Vec::new(alloc), Vec::new(alloc), receivers.remove(0));
-    }
-    channels.destroy_empty();
-    receivers.destroy_empty();
 }
 
 // Room for the permits of all queues.
@@ -351,5 +331,5 @@ pub fn abandon<B: Naming>(alloc: Global, shared: HouseShared<B>, ran: Ran<B>, ba
     clear_stands(stands, &mut consumers, &mut senders);
     clear_consumers(consumed, &mut consumers, &mut senders_ended);
     abandon_lanes(alloc, lanes, consumers, permits, ended);
-    abandon_channels(alloc, channels, receivers, senders, senders_ended);
+    abandon_lanes(alloc, channels, receivers, senders, senders_ended);
 }

@@ -7,7 +7,7 @@ ghost use Rattle.lane_work.specs.LanePermits.{AreConsumers, AreEndedHands};
 ghost use Rattle.lane_work.specs.ChannelPermits.{AreReceivers, AreSenderEndedHands};
 ghost use Rattle.reckoning.specs.Balancing.{IsClosing, IsGathered, IsBalanced, IsWhyNot};
 
-use crate::close::{close_all_channels, close_all_lanes};
+use crate::close::close_all;
 use crate::gather::{Fault, FromConsumers, FromWorkers, gather_consumers, gather_workers, graver};
 use delivery_token::{Job, WorkerLog};
 use house_history::{Answer, Letter, Naming};
@@ -166,8 +166,8 @@ pub fn close_queues<B: Naming>(
         hands: sender_hands,
         taken,
     } = consumers;
-    let lanes = close_all_lanes(alloc, lanes, hands, permits, lists, closed.lanes);
-    let channels = close_all_channels(
+    let lanes = close_all(alloc, lanes, hands, permits, lists, closed.lanes);
+    let channels = close_all(
         alloc,
         channels,
         sender_hands,

@@ -13,7 +13,7 @@ mod shelves;
 
 pub use abandoning::abandon;
 pub use balancing::{Books, Closes, Closings, Gathered, balance, close_queues, gather_all};
-pub use close::{close_all_channels, close_all_lanes};
+pub use close::close_all;
 pub use gather::{Fault, FromConsumers, FromWorkers};
 pub use learning::learn_all;
 pub use remains::{Remains, remains_of};

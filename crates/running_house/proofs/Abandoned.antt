@@ -2,7 +2,8 @@
 use Rattle.std.proofs.Common.{◌≡◌, ◌≤◌, ◌+◌, ℕ, suc, List, [], ◌∷◌, All, length, vec_len, arith}
 use Rattle.std.proofs.lemmas.List.Elements.{All-cons, All-nil}
 use Rattle.lane_work.proofs.RowLaws as lanes
-use Rattle.lane_work.proofs.SenderRowLaws as channels
+use Rattle.shard_queue.specs.Permits as queues
+use Rattle.shard_queue.specs.Reply as replies
 use Rattle.lane_work.specs.declared.consumer.Consumed.{Consumed}
 use Rattle.lane_work.specs.declared.worker.Worked.{Worked}
 use Rattle.house_shared.specs.Crew.{AllAt, IsHouse}
@@ -18,7 +19,7 @@ ended_lengths : {B : Type 0} (shared : HouseShared B) (plans : Plans) (guests : 
     → All (λ (w : Worked B). vec_len w.ended ≡ length shared.intake.lanes.items) ws
 ended_lengths shared plans guests n [] all = All-nil (λ (w : Worked _). vec_len w.ended ≡ length shared.intake.lanes.items)
 ended_lengths shared plans guests n (w ∷ ws) all =
-    let own = lanes.ended_hand_length shared.intake.lanes.items n w.ended.items all.0.ended in
+    let own = lanes.ended_hand_length queues.view queues.is_of shared.intake.lanes.items n w.ended.items all.0.ended in
     let o = w.ended.ok.0 in
     All-cons (λ (w : Worked _). vec_len w.ended ≡ length shared.intake.lanes.items) w ws (omega (arith, own, o)) (ended_lengths shared plans guests (suc n) ws all.1)
 
@@ -28,7 +29,7 @@ senders_lengths : {B : Type 0} (shared : HouseShared B) (n : ℕ) (cs : List (Co
 senders_lengths shared n [] all few = All-nil (λ (c : Consumed _). vec_len c.senders ≡ length shared.delivery.channels.items)
 senders_lengths shared n (c ∷ cs) all few =
     let lane = some_at shared.intake.lanes.items n (omega (arith, few)) in
-    let own = channels.ended_hand_length shared.delivery.channels.items n c.senders.items (all.0.each lane.0 lane.1).2.senders in
+    let own = lanes.ended_hand_length replies.view replies.is_of shared.delivery.channels.items n c.senders.items (all.0.each lane.0 lane.1).2.senders in
     let o = c.senders.ok.0 in
     All-cons (λ (c : Consumed _). vec_len c.senders ≡ length shared.delivery.channels.items) c cs (omega (arith, own, o)) (senders_lengths shared (suc n) cs all.1 (omega (arith, few)))
 

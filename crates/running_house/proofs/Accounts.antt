@@ -4,10 +4,10 @@ use Rattle.std.specs.Global.{Global}
 use Rattle.delivery_token.specs.declared.Job.{Job}
 use Rattle.delivery_token.specs.declared.log.Noted.{Noted}
 use Rattle.shard_queue.specs.declared.lane.Entry.{Entry}
-use Rattle.shard_queue.specs.declared.queue.Closed.{Closed}
-use Rattle.shard_queue.specs.declared.queue.ConsumerPermit.{ConsumerPermit}
-use Rattle.shard_queue.specs.declared.reply.ReplyClosed.{ReplyClosed}
-use Rattle.shard_queue.specs.declared.reply.SenderEnded.{SenderEnded}
+use Rattle.shard_queue.specs.Permits.{Closed}
+use Rattle.shard_queue.specs.Permits.{ConsumerPermit}
+use Rattle.shard_queue.specs.Reply.{ReplyClosed}
+use Rattle.shard_queue.specs.Reply.{SenderEnded}
 use Rattle.shard_queue.specs.Lane.{of}
 use Rattle.shard_queue.specs.Reply.{received, reply_history}
 use Rattle.shard_queue.specs.Permits.{history, said}
@@ -16,9 +16,8 @@ use Rattle.lane_work.specs.Awaiting.{copies_in, verdicts_in}
 use Rattle.lane_work.specs.Speaking.{premises_of}
 use Rattle.lane_work.specs.declared.worker.Fate.TheVariants as fates
 use Rattle.lane_work.specs.declared.worker.Worked.{Worked}
-use Rattle.lane_work.proofs.HistoryLaws.{said_is_taken}
+use Rattle.lane_work.proofs.HistoryLaws.{are_heard, said_is_taken}
 use Rattle.lane_work.proofs.CloseLaws as lanes
-use Rattle.lane_work.proofs.ChannelCloseLaws as channels
 use Rattle.house_shared.specs.Crew.{AllAt}
 use Rattle.house_shared.specs.declared.shared.HouseShared.{HouseShared}
 use Rattle.house_shared.specs.declared.shared.Guest.{Guest}
@@ -100,11 +99,11 @@ module _ {B : Type 0} (shared : HouseShared B) (plans : Plans) (guests : List Gu
         w.1,
         work,
         whole_of w.0.fate (all_at (λ (v : Worked B). fault_of_fate v.fate ≡ None) ws p w.0 fine w.1),
-        said_is_taken shared.intake.lanes.items p w.0.ended.items (map history closed) work.ended (lanes.are_heard are.2 w.0.ended.items within),
+        said_is_taken shared.intake.lanes.items p w.0.ended.items (map history closed) work.ended (are_heard are.2 w.0.ended.items within),
       )
 
   answers_are : map reply_history replied ≡ map (λ (v : Worked B). received v.receiver) ws
-  answers_are = channels.histories_taken heard.2 ∙ twice ws
+  answers_are = lanes.histories_taken heard.2 ∙ twice ws
 
   pub account_of : (p : ℕ) → p < length plans
       → HasAccount shared plans (map (λ (w : Worked B). map (λ b. b.items) w.replies.items) ws) (map (λ (w : Worked B). w.log.notes) ws) (map reply_history replied) (map history closed) p

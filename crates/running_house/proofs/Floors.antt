@@ -4,9 +4,9 @@ use Rattle.std.proofs.lemmas.List.Elements.{All-head, All-tail, All-weaker}
 use Rattle.settings.specs.Settings.{directory_for}
 use Rattle.delivery_token.specs.declared.Job.{Job}
 use Rattle.envelope.specs.Directory.{Directory}
-use Rattle.shard_queue.specs.declared.ends.ReplyChannel.{ReplyChannel}
+use Rattle.shard_queue.specs.Reply.{ReplyChannel}
 use Rattle.delivery_token.specs.declared.log.Noted.{Noted}
-use Rattle.shard_queue.specs.declared.queue.ShardQueue.{ShardQueue}
+use Rattle.shard_queue.specs.Permits.{ShardQueue}
 use Rattle.shard_queue.specs.Reply.{senders_of}
 use Rattle.shard_queue.specs.Permits.{capacity_of, producers_of}
 use Rattle.lane_work.specs.Account.{Premises}

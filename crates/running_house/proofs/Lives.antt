@@ -4,8 +4,8 @@ use Rattle.std.specs.Global.{Global}
 use Rattle.delivery_token.specs.declared.Job.{Job}
 use Rattle.delivery_token.specs.declared.log.Noted.{Noted}
 use Rattle.shard_queue.specs.declared.lane.Entry.{Entry}
-use Rattle.shard_queue.specs.declared.ends.ReplyChannel.{ReplyChannel}
-use Rattle.shard_queue.specs.declared.queue.ShardQueue.{ShardQueue}
+use Rattle.shard_queue.specs.Reply.{ReplyChannel}
+use Rattle.shard_queue.specs.Permits.{ShardQueue}
 use Rattle.lane_work.specs.declared.worker.Worked.{Worked}
 use Rattle.lane_work.specs.declared.consumer.Consumed.{Consumed}
 use Rattle.lane_work.specs.declared.worker.Fate.TheVariants.{NotBegun, Whole}
@@ -17,7 +17,7 @@ use Rattle.lane_work.specs.Speaking.{premises_of}
 use Rattle.lane_work.specs.Working.{IsWorked}
 use Rattle.shard_queue.specs.Reply.{IsReceiver, received}
 use Rattle.shard_queue.specs.Permits.{said}
-use Rattle.shard_queue.specs.declared.reply.ReceiverPermit.{ReceiverPermit}
+use Rattle.shard_queue.specs.Reply.{ReceiverPermit}
 use Rattle.house_shared.specs.declared.shared.Guest.{Guest}
 use Rattle.lane_work.specs.Consuming.{IsConsumed}
 use Rattle.house_shared.specs.declared.shared.HouseShared.{HouseShared}

@@ -2,6 +2,7 @@
 use Rattle.std.proofs.Common.{◌≡◌, ◌<◌, ◌+◌, ◌==◌, ◌∙◌, ℕ, zero, suc, Bool, List, [], ◌∷◌, All, Some, Vec, take, drop, length, map, slice_get, slice_index_or, sym, ap, subst, arith}
 use Rattle.std.specs.Global.{Global}
 use Rattle.std.proofs.lemmas.List.{length-map, length-take-le}
+use Rattle.std.proofs.lemmas.List.Elements.{All-weaker}
 use Rattle.running_house.specs.Lists.{ListsAgree}
 use Rattle.running_house.specs.Walk.{ListsMet}
 use Rattle.envelope.specs.Directory.{Directory, shard_of}
@@ -13,7 +14,7 @@ use Rattle.delivery_token.specs.declared.log.Noted.{Noted}
 use Rattle.shard_queue.specs.Closing.{IsWhole}
 use Rattle.shard_queue.specs.Lane.{of}
 use Rattle.shard_queue.specs.Reply.{reply_history}
-use Rattle.shard_queue.specs.Permits.{history, numbers}
+use Rattle.shard_queue.specs.Permits.{ShardQueue, capacity_of, history, numbers, producers_of}
 use Rattle.lane_work.specs.Account.{Account}
 use Rattle.lane_work.specs.Awaiting.{copies_in, verdicts_in}
 use Rattle.lane_work.specs.Consuming.{items_of}
@@ -21,7 +22,6 @@ use Rattle.lane_work.specs.Speaking.{premises_of}
 use Rattle.lane_work.specs.declared.consumer.Consumed.{Consumed}
 use Rattle.lane_work.specs.declared.worker.Worked.{Worked}
 use Rattle.lane_work.proofs.CloseLaws as lanes
-use Rattle.lane_work.proofs.ChannelCloseLaws as channels
 use Rattle.house_shared.specs.Crew.{AllAt}
 use Rattle.house_shared.specs.declared.shared.HouseShared.{HouseShared}
 use Rattle.house_shared.specs.declared.shared.Guest.{Guest}
@@ -225,8 +225,9 @@ module _ {B : Type 0} (plan : Plan) (shared : HouseShared B) (is : IsHouseShared
     said = count;
     shards = sym (ap length histories_same) ∙ length-map books.closed.lanes.items history ∙ lanes.closed_length balanced.lanes_closed.2 ∙ sym is.house.shards ∙ ap (λ h. h.directory.shards) is.premises;
     lanes = subst (λ c. All (λ d. IsEmptied (producers_in plan) (history d)) c.items) (sym lanes_are)
-        (all_emptied history (producers_in plan) plan.config.depth books.closed.lanes.items (lanes.all_whole balanced.lanes_closed.2 (producers_in plan) plan.config.depth is.lanes));
-    producers = ap (λ c. length c.items) channels_are ∙ channels.closed_length balanced.channels_closed.2 ∙ is.house.channels;
+        (all_emptied history (producers_in plan) plan.config.depth books.closed.lanes.items (lanes.all_whole balanced.lanes_closed.2 (producers_in plan) plan.config.depth
+        (All-weaker (λ (q : ShardQueue Job). (capacity_of q ≡ plan.config.depth) × (producers_of q ≡ producers_in plan)) (λ q. q.producers ≡ producers_in plan) (λ q h. h.1) shared.intake.lanes.items is.lanes)));
+    producers = ap (λ c. length c.items) channels_are ∙ lanes.closed_length balanced.channels_closed.2 ∙ is.house.channels;
     channels = subst (λ c. All (λ d. IsEmptied plan.config.shards (reply_history d)) c.items) (sym channels_are)
-        (channels.all_whole balanced.channels_closed.2 plan.config.shards is.channels);
+        (lanes.all_whole balanced.channels_closed.2 plan.config.shards 0 is.channels);
   }

@@ -15,7 +15,7 @@ use Rattle.house_shared.specs.Users.{user_numbered}
 use Rattle.house_shared.specs.Left.{most_of}
 use Rattle.house_shared.specs.declared.shared.Guest.{Guest}
 use Rattle.std.specs.Global.{Global}
-use Rattle.shard_queue.specs.declared.ends.ReplyChannel.{ReplyChannel}
+use Rattle.shard_queue.specs.Reply.{ReplyChannel}
 use Rattle.lane_work.specs.declared.worker.Worked.{Worked}
 use Rattle.lane_work.specs.declared.worker.Fate.TheVariants.{Whole}
 use Rattle.lane_work.specs.Account.{Account}

@@ -11,15 +11,15 @@ use Rattle.shard_queue.specs.Lane.{of}
 use Rattle.shard_queue.specs.Permits.{history, said}
 use Rattle.shard_queue.specs.Reply.{received, reply_history}
 use Rattle.shard_queue.specs.Shared.{IsStartOf}
-use Rattle.shard_queue.specs.declared.ends.ReplyChannel.{ReplyChannel}
+use Rattle.shard_queue.specs.Reply.{ReplyChannel}
 use Rattle.shard_queue.specs.declared.lane.Entry.{Entry}
-use Rattle.shard_queue.specs.declared.queue.Closed.{Closed}
-use Rattle.shard_queue.specs.declared.queue.ConsumerPermit.{ConsumerPermit}
-use Rattle.shard_queue.specs.declared.queue.Ended.{Ended}
-use Rattle.shard_queue.specs.declared.queue.ShardQueue.{ShardQueue}
-use Rattle.shard_queue.specs.declared.reply.ReceiverPermit.{ReceiverPermit}
-use Rattle.shard_queue.specs.declared.reply.ReplyClosed.{ReplyClosed}
-use Rattle.shard_queue.specs.declared.reply.SenderEnded.{SenderEnded}
+use Rattle.shard_queue.specs.Permits.{Closed}
+use Rattle.shard_queue.specs.Permits.{ConsumerPermit}
+use Rattle.shard_queue.specs.Permits.{Ended}
+use Rattle.shard_queue.specs.Permits.{ShardQueue}
+use Rattle.shard_queue.specs.Reply.{ReceiverPermit}
+use Rattle.shard_queue.specs.Reply.{ReplyClosed}
+use Rattle.shard_queue.specs.Reply.{SenderEnded}
 use Rattle.house_history.specs.declared.event.Event.{Event}
 use Rattle.lane_work.specs.Account.{Premises}
 use Rattle.lane_work.specs.Backing.{IsBacked}
@@ -27,12 +27,10 @@ use Rattle.lane_work.specs.Copies.{room_at}
 use Rattle.lane_work.specs.Speaking.{premises_of}
 use Rattle.lane_work.specs.declared.consumer.Consumed.{Consumed}
 use Rattle.lane_work.proofs.CopyLaws.{were_put_later}
-use Rattle.lane_work.proofs.HistoryLaws.{said_is_taken}
-use Rattle.lane_work.specs.ChannelClosings.{AreChannelsClosed}
-use Rattle.lane_work.specs.ChannelClosings as channel_closings
-use Rattle.lane_work.specs.Closings.{AreClosed}
-use Rattle.lane_work.specs.Closings as lane_closings
-use Rattle.lane_work.proofs.CloseLaws.{are_heard}
+use Rattle.lane_work.proofs.HistoryLaws.{are_heard, said_is_taken}
+use Rattle.lane_work.specs.ChannelPermits.{AreChannelsClosed}
+use Rattle.lane_work.specs.LanePermits.{AreClosed}
+use Rattle.lane_work.specs.SharedLanes as closings
 use Rattle.shared_consumers.specs.ConsumerSet.{IsService}
 use Rattle.shared_consumers.specs.declared.consumer_set.Dismissed.{Dismissed}
 use Rattle.envelope.specs.Directory.{Directory}
@@ -187,13 +185,13 @@ no_room : {T : Type 0} (producers room : ℕ) (got : List (Entry T)) → IsWhole
 no_room producers room got one = record { merge = record { each = one.merge.each; known = one.merge.known; within = omega arith; legal = one.merge.legal }; closed = one.closed }
 
 emptied : {qs : List (ShardQueue Job)} {rows : List (List (Ended Job))} {permits : List (ConsumerPermit Job)} {cs : List (Closed Job)} → AreClosed qs rows permits cs → WereEmptied qs cs
-emptied lane_closings.none = tt
-emptied (lane_closings.next q row permit c is others) = (no_room _ _ (history c) is.whole, emptied others)
+emptied closings.none = tt
+emptied (closings.next q row permit c is others) = (no_room _ _ (history c) is.whole, emptied others)
 
 heard_out : {qs : List (ReplyChannel Noted)} {rows : List (List (SenderEnded Noted))} {permits : List (ReceiverPermit Noted)} {cs : List (ReplyClosed Noted)} → AreChannelsClosed qs rows permits cs
     → WereHeardOut qs cs
-heard_out channel_closings.none = tt
-heard_out (channel_closings.next q row permit c is others) = (no_room _ _ (reply_history c) is.whole, heard_out others)
+heard_out closings.none = tt
+heard_out (closings.next q row permit c is others) = (no_room _ _ (reply_history c) is.whole, heard_out others)
 
 -- as many were closed as there were
 closed_count : (lanes : List (ShardQueue Job)) (closed : List (Closed Job)) → WereEmptied lanes closed → length closed ≡ length lanes

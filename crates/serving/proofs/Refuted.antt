@@ -1,9 +1,9 @@
 -- What a house that was served can't have come to.
 use Rattle.std.proofs.Common.{◌≡◌, ◌<◌, ℕ, List, [], ◌∷◌, length, subst, arith}
-use Rattle.shard_queue.specs.declared.ends.ReplyChannel.{ReplyChannel}
-use Rattle.shard_queue.specs.declared.queue.Closed.{Closed}
-use Rattle.shard_queue.specs.declared.queue.ShardQueue.{ShardQueue}
-use Rattle.shard_queue.specs.declared.reply.ReplyClosed.{ReplyClosed}
+use Rattle.shard_queue.specs.Reply.{ReplyChannel}
+use Rattle.shard_queue.specs.Permits.{Closed}
+use Rattle.shard_queue.specs.Permits.{ShardQueue}
+use Rattle.shard_queue.specs.Reply.{ReplyClosed}
 use Rattle.delivery_token.specs.declared.Job.{Job}
 use Rattle.delivery_token.specs.declared.log.Noted.{Noted}
 use Rattle.house_shared.specs.declared.shared.HouseShared.{HouseShared}

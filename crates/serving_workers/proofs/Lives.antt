@@ -2,7 +2,7 @@
 use Rattle.std.proofs.Common.{◌≡◌, ◌<◌, ◌∙◌, ℕ, true, false, map, sym, ap, subst, List, Some, length, slice_get, slice_index_or}
 use Rattle.std.proofs.lemmas.Option.{slice_get-get_or}
 use Rattle.delivery_token.specs.declared.log.Noted.{Noted}
-use Rattle.shard_queue.specs.declared.ends.ReplyChannel.{ReplyChannel}
+use Rattle.shard_queue.specs.Reply.{ReplyChannel}
 use Rattle.shard_queue.specs.Reply.{IsReceiver, received}
 use Rattle.lane_work.specs.Backing.{IsBackedBy}
 use Rattle.lane_work.specs.Permits.{AreEnded}

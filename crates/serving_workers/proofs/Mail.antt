@@ -5,7 +5,7 @@ use Rattle.delivery_token.specs.declared.Job.{Job}
 use Rattle.delivery_token.specs.declared.log.Noted.{Noted}
 use Rattle.shard_queue.specs.Reply.{received}
 use Rattle.shard_queue.specs.declared.lane.Entry.{Entry}
-use Rattle.shard_queue.specs.declared.reply.ReceiverPermit.{ReceiverPermit}
+use Rattle.shard_queue.specs.Reply.{ReceiverPermit}
 use Rattle.lane_work.specs.Account.{HaveEnded, Premises, setting_at}
 use Rattle.lane_work.specs.Copies.{rooms_of}
 use Rattle.lane_work.specs.Permits.{IsNew, put_by}

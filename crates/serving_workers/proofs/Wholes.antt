@@ -4,23 +4,23 @@ use Rattle.std.specs.Global.{Global}
 use Rattle.std.specs.List.{list_any}
 use Rattle.delivery_token.specs.declared.Job.{Job}
 use Rattle.delivery_token.specs.declared.log.Noted.{Noted}
-use Rattle.shard_queue.specs.declared.ends.ReplyChannel.{ReplyChannel}
+use Rattle.shard_queue.specs.Reply.{ReplyChannel}
 use Rattle.shard_queue.specs.Reply.{received}
 use Rattle.shard_queue.specs.declared.lane.Entry.{Entry}
-use Rattle.shard_queue.specs.declared.queue.ShardQueue.{ShardQueue}
+use Rattle.shard_queue.specs.Permits.{ShardQueue}
 use Rattle.lane_work.specs.declared.consumer.Consumed.{Consumed}
 use Rattle.lane_work.specs.declared.worker.Worked.{Worked}
 use Rattle.lane_work.specs.ChannelPermits.{AreReceivers}
 use Rattle.shared_consumers.specs.declared.consumer_set.Dismissed.{Dismissed}
 use Rattle.house_shared.specs.declared.shared.HouseShared.{HouseShared}
-use Rattle.lane_work.proofs.ChannelCloseLaws.{histories_taken}
+use Rattle.lane_work.proofs.CloseLaws.{histories_taken}
 use Rattle.reckoning.specs.Closing.{AreChannelsClosedWith, AreClosedWith}
 use Rattle.house_history.specs.declared.event.Event.{Event}
 use Rattle.house_history.specs.Legal.{Legal}
 use Rattle.locked_mailbox.specs.Locking.{LockedMailbox}
 use Rattle.house_shared.specs.Crew.{AllAt}
 use Rattle.shard_queue.specs.Reply.{reply_history}
-use Rattle.shard_queue.specs.declared.queue.Ended.{Ended}
+use Rattle.shard_queue.specs.Permits.{Ended}
 use Rattle.reckoning.specs.Histories.{AreBacked}
 use Rattle.reckoning.specs.Shelves.{IsRecorded}
 use Rattle.serving_workers.specs.Closing.{GoOn, WasClosed}

@@ -4,11 +4,11 @@ use Rattle.std.specs.List.{list_any}
 use Rattle.delivery_token.specs.declared.Job.{Job}
 use Rattle.delivery_token.specs.declared.log.Noted.{Noted}
 use Rattle.house_history.specs.Legal.{Legal}
-use Rattle.shard_queue.specs.declared.queue.Ended.{Ended}
+use Rattle.shard_queue.specs.Permits.{Ended}
 use Rattle.shard_queue.specs.Reply.{received, reply_history}
 use Rattle.shard_queue.specs.Shared.{IsStartOf}
 use Rattle.shard_queue.specs.declared.lane.Entry.{Entry}
-use Rattle.shard_queue.specs.declared.reply.ReceiverPermit.{ReceiverPermit}
+use Rattle.shard_queue.specs.Reply.{ReceiverPermit}
 use Rattle.lane_work.specs.ChannelPermits.{AreReceivers}
 use Rattle.shared_consumers.specs.declared.consumer_set.Dismissed.{Dismissed}
 use Rattle.house_shared.specs.declared.shared.HouseShared.{HouseShared}

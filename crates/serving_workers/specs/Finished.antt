@@ -6,8 +6,8 @@ use Rattle.delivery_token.specs.declared.log.Noted.{Noted}
 use Rattle.house_history.specs.declared.event.Event.{Event}
 use Rattle.locked_mailbox.specs.Locking.{LockedMailbox}
 use Rattle.serving_workers.specs.Lines.{Told}
-use Rattle.shard_queue.specs.declared.queue.Closed.{Closed}
-use Rattle.shard_queue.specs.declared.reply.ReplyClosed.{ReplyClosed}
+use Rattle.shard_queue.specs.Permits.{Closed}
+use Rattle.shard_queue.specs.Reply.{ReplyClosed}
 
 -- What was taken of each shard's lane and of each producer's reply channel, the mailboxes out of their locks, how the house's history begins; and of
 -- each producer what its line tells, if it is a worker.

@@ -1,9 +1,10 @@
 -- What the consumer's permit shows: the marks of the ends that were taken, and what is known when all of them were.
-use Rattle.std.proofs.Common.{None, ◌≡◌, ◌≢◌, ◌⊎◌, inl, inr, ℕ, zero, suc, ◌≤◌, ◌<◌, ◌+◌, ◌==◌, Bool, true, false, true≢false, eqb, List, [], ◌∷◌, ◌++◌, length, set, replicate, slice_index_or, map, All, Any, sym, refl, ap, ◌∙◌, subst, arith, append-nil, length-append, lt_of_not-le, Option, Some}
+use Rattle.std.proofs.Common.{None, ◌≡◌, ◌≢◌, ◌⊎◌, inl, inr, ℕ, zero, suc, ◌≤◌, ◌<◌, ◌+◌, ◌==◌, Bool, true, false, true≢false, eqb, List, [], ◌∷◌, ◌++◌, length, set, replicate, slice_index_or, map, All, Any, append_assoc, sym, refl, ap, ◌∙◌, subst, arith, append-nil, length-append, lt_of_not-le, Option, Some}
 use native.Mathlib.Decide.{ℕ_discrete, dec_le}
 use Rattle.std.specs.List.{list_any}
 use Rattle.std.proofs.lemmas.List.{map-append}
 use Rattle.std.proofs.lemmas.Bool.Decides.{eqb_tells}
+use Rattle.std.proofs.lemmas.List.Elements.{All-append, All-cons, All-nil}
 use Rattle.std.proofs.lemmas.List.Folds.{Any-from_list_any}
 use Rattle.std.proofs.Math.ListN.{get_or-append}
 use Rattle.std.proofs.Math.Seq.{get_or-set_other}
@@ -15,7 +16,7 @@ use Rattle.shard_queue.specs.declared.shared.View.TheVariants.{Consumer, Produce
 use Rattle.shard_queue.specs.Lane.{producer, of, has_end, Lane, IsMerge, EndsLast}
 use Rattle.shard_queue.specs.Shared.{consumer, sender, spent, list_of, seen_of, IsSharedBy, Saw, IsStartOf, Takes, Puts, heard_out}
 use Rattle.shard_queue.specs.Closing.{HasAllEnds, IsWhole}
-use Rattle.shard_queue.specs.Permits.{AreMarks, numbers, WasEmpty}
+use Rattle.shard_queue.specs.SharedLane.{AreMarks, numbers, WasEmpty}
 use Rattle.shard_queue.proofs.LaneLaws.{of_append, of_own, of_other, closed_is_empty}
 use Rattle.shard_queue.proofs.SharedLaws.{hears}
 
@@ -155,3 +156,13 @@ module _ {S : Type 0} (number : S → ℕ) where
 
 pub all_left : {X : Type 0} (P : X → Type 0) (xs ys : List X) → All P (xs ++ ys) → All P xs
 all_left P xs ys all k d less = subst P (get_or-append xs ys d k less) (all k d (let a = length-append xs ys in omega arith))
+
+-- of a list of which some elements were dealt with from the back, these are left, and each of the others has the property
+abbrev pub IsBehind : {X : Type 0} → (X → Type 0) → List X → List X → Type 0
+IsBehind {X} P left all = (done : List X) × (all ≡ left ++ done) × All P done
+
+pub one_more_behind : {X : Type 0} (P : X → Type 0) (xs left all : List X) (x : X) → IsBehind P xs all → xs ≡ left ++ x ∷ [] → P x → IsBehind P left all
+one_more_behind P xs left all x h is here = (x ∷ h.0, h.1 ∙ ap (λ l. l ++ h.0) is ∙ append_assoc left (x ∷ []) h.0, All-cons P x h.0 here h.2)
+
+pub one_more_permit : {X : Type 0} (P : X → Type 0) (xs more : List X) (x : X) → All P xs → P x → more ≡ xs ++ x ∷ [] → All P more
+one_more_permit P xs more x all here is = subst (All P) (sym is) (All-append P xs (x ∷ []) all (All-cons P x [] here (All-nil P)))

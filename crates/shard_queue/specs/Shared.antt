@@ -1,5 +1,5 @@
 -- A lane that threads share. Each permit knows a part of it; the rule is that there is one lane of which all that is true, and that it is a merge.
-use Rattle.std.specs.Prelude.{◌+◌, ◌≡◌, ℕ, suc, ◌<◌, ◌≤◌, true, List, [], ◌∷◌, ◌++◌, length, Option, Some, None, ⊤}
+use Rattle.std.specs.Prelude.{◌+◌, ◌≡◌, ℕ, suc, ◌<◌, ◌≤◌, true, false, List, [], ◌∷◌, ◌++◌, length, Option, Some, None, ⊤}
 use mathlib.Core.Option.{some}
 use lib.ListN.{get_elem?}
 use Rattle.shard_queue.specs.declared.lane.Entry.{Entry}
@@ -121,3 +121,11 @@ module _ {T : Type 0} where
   abbrev pub heard_out : View T → View T → View T
   heard_out (views.Consumer producers made got heard seen) (views.Producer n p sent late) = views.Consumer producers made got (Some (p, sent)) seen
   heard_out v w = v
+
+  -- the view of a producer of so many that has not ended and may put this entry
+  abbrev pub MayPut : ℕ → Entry T → View T → Type 0
+  MayPut producers e v = (v ≡ sender producers (producer e) (list_of v) (seen_of v)) × (has_end (list_of v) ≡ false)
+
+  -- nothing was put, since at one moment as many entries waited as there is room for
+  abbrev pub FoundFull : ℕ → View T → View T → Type 0
+  FoundFull room old new = (new ≡ old) × ((waiting : List (Entry T)) × (length waiting ≡ room) × Saw old waiting)

@@ -4,16 +4,22 @@
 #![tactic(auto)]
 
 mod calls;
+mod carrier;
 mod ends;
 mod lane;
 mod laws;
 mod marks;
+mod permits;
 mod queue;
 mod reply;
 mod shared;
 
-pub use ends::ReplyChannel;
+pub use carrier::Carrier;
+pub use ends::BothEnds;
 pub use lane::{Entry, Full, PlainLane, Taken};
 pub use laws::{each_lane_is_a_merge, shared_lanes_merge};
-pub use queue::{Closed, ConsumerPermit, Ended, NotAll, ProducerPermit, ShardQueue};
-pub use reply::{ReceiverPermit, ReplyClosed, ReplyNotAll, SenderEnded, SenderPermit};
+pub use permits::{ClosedLane, ConsumersPermit, EndedPermit, Permit, SharedLane, Unclosed};
+pub use queue::{Closed, ConsumerPermit, Ended, EntryQueue, NotAll, ProducerPermit, ShardQueue};
+pub use reply::{
+    ReceiverPermit, ReplyChannel, ReplyClosed, ReplyNotAll, SenderEnded, SenderPermit,
+};

@@ -3,7 +3,7 @@ use Rattle.std.proofs.Common.{◌≡◌, ◌≢◌, ◌⊎◌, inl, inr, ◌<◌
 use Rattle.std.proofs.lemmas.Bool.Decides.{eqb_tells}
 use Rattle.std.proofs.lemmas.List.Elements.{All-append}
 use Rattle.delivery_token.specs.declared.Job.{Job}
-use Rattle.shard_queue.specs.declared.queue.ShardQueue.{ShardQueue}
+use Rattle.shard_queue.specs.Permits.{ShardQueue}
 use Rattle.lane_work.specs.LanePermits.{AreConsumers}
 use Rattle.lane_work.specs.ChannelPermits.{AreSenderEndedHands}
 use Rattle.lane_work.specs.declared.consumer.Consumed.{Consumed}

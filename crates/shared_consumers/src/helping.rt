@@ -3,7 +3,7 @@
 
 ghost use Rattle.std.specs.Prelude.{ℕ, ◌≡◌, ◌≤◌, ◌<◌, ◌+◌, ◌*◌, Some};
 ghost use Rattle.delivery_token.specs.declared.Job.{Job};
-ghost use Rattle.shard_queue.specs.declared.queue.ShardQueue.{ShardQueue};
+ghost use Rattle.shard_queue.specs.Permits.{ShardQueue};
 ghost use Rattle.shared_consumers.specs.Keeping.{parts_of};
 
 use crate::shared_consumer::{LaneGroup, SharedConsumer};

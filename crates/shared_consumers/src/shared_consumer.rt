@@ -3,7 +3,7 @@
 
 ghost use Rattle.std.specs.Prelude.{◌≡◌, ◌≤◌, [], All, List, Option, None, Some, length, slice_get, vec_len, vec_capacity, true, false};
 ghost use Rattle.delivery_token.specs.declared.Job.{Job};
-ghost use Rattle.shard_queue.specs.declared.queue.ShardQueue.{ShardQueue};
+ghost use Rattle.shard_queue.specs.Permits.{ShardQueue};
 ghost use Rattle.shard_queue.specs.Reply.{sent_on};
 ghost use Rattle.shard_queue.specs.Permits.{WasEmpty, capacity_of, got, producers_of, take_seen};
 ghost use Rattle.shard_queue.specs.Shared.{IsStartOf};

@@ -5,12 +5,13 @@ use Rattle.std.proofs.lemmas.Option.{slice_get-get_or}
 use Rattle.std.proofs.lemmas.List.{length-map}
 use Rattle.std.proofs.lemmas.List.Elements.{All-cons, All-head, All-map, All-nil, All-tail, All-weaker}
 use Rattle.delivery_token.specs.declared.Job.{Job}
-use Rattle.shard_queue.specs.declared.queue.Ended.{Ended}
-use Rattle.shard_queue.specs.declared.queue.ShardQueue.{ShardQueue}
-use Rattle.shard_queue.specs.declared.queue.ConsumerPermit.{ConsumerPermit}
+use Rattle.shard_queue.specs.Permits.{Ended}
+use Rattle.shard_queue.specs.Permits.{ShardQueue}
+use Rattle.shard_queue.specs.Permits.{ConsumerPermit}
 use Rattle.lane_work.specs.Rooms.{AreRooms}
 use Rattle.lane_work.specs.LanePermits.{EndedRows}
 use Rattle.lane_work.proofs.RowLaws.{none_ended}
+use Rattle.shard_queue.specs.Permits.{is_of, view}
 use Rattle.lane_work.specs.declared.consumer.Consumed.{Consumed}
 use Rattle.house_shared.specs.Crew.{AllAt, IsPost}
 use Rattle.house_shared.specs.declared.shared.HouseShared.{HouseShared}
@@ -33,7 +34,7 @@ none_yet lanes count each lists are same =
     let m = length-map lists.items (λ v. v.items) in
     let n = are.0 in
     let o = lists.ok.0 in
-    none_ended lanes (map (λ v. v.items) lists.items) (omega (arith, m, n, o, same))
+    none_ended view is_of lanes (map (λ v. v.items) lists.items) (omega (arith, m, n, o, same))
     (All-map (λ (r : List (Ended Job)). r ≡ []) (λ (v : Vec (Ended Job) Global). v.items) lists.items
     (All-weaker (λ (v : Vec (Ended Job) Global). (v.items ≡ []) × (each ≤ vec_capacity v)) (λ v. v.items ≡ []) (λ v h. h.0) lists.items are.1))
 

@@ -6,9 +6,14 @@ use Rattle.envelope.specs.Directory.{Directory}
 use Rattle.lane_work.specs.Rooms.{AreHandRooms, ArePermitRooms, AreRooms}
 use Rattle.lane_work.specs.LanePermits.{AreConsumers, Rows}
 use Rattle.lane_work.specs.ChannelPermits.{AreReceivers, SenderRows}
-use Rattle.shard_queue.specs.declared.queue.ShardQueue.{ShardQueue}
-use Rattle.shard_queue.specs.declared.ends.ReplyChannel.{ReplyChannel}
+use Rattle.shard_queue.specs.Permits.{ShardQueue}
+use Rattle.shard_queue.specs.Reply.{ReplyChannel}
 use Rattle.shard_queue.specs.Reply.{received, senders_of}
+use Rattle.shard_queue.specs.Reply as replies
+use Rattle.shard_queue.specs.Permits as queues
+use Rattle.shard_queue.specs.SharedLane.{taken}
+use Rattle.shard_queue.specs.declared.shared.View.{View}
+use Rattle.lane_work.specs.SharedLanes as lanes
 use Rattle.shard_queue.specs.Permits.{capacity_of, got, producers_of}
 use Rattle.house_shared.specs.Opening.{AreNoSpares, AreSpares}
 use Rattle.house_shared.specs.declared.bells.Bells.{Bells}
@@ -21,7 +26,6 @@ use Rattle.house_shared.specs.declared.seating.Seating.{Seating}
 use Rattle.house_shared.specs.declared.stock.CrewLists.{CrewLists}
 use Rattle.house_shared.specs.declared.stock.Lists.{Lists}
 use Rattle.house_shared.specs.declared.stock.Stock.{Stock}
-use Rattle.lane_work.specs.declared.channels.Channels.{Channels}
 use Rattle.lane_work.specs.declared.lanes.Lanes.{Lanes}
 
 -- a bell for each consumer, both ends of it, and for each mailbox a list of its sessions' bells
@@ -78,29 +82,22 @@ pub record AreLists {B : Type 0} (producers shards : ℕ) (l : Lists B) : Type 0
   pub receivers : (l.ends.receivers.items ≡ []) × (producers ≤ vec_capacity l.ends.receivers)
   pub spares : AreSpares (producers * shards) l.ends.spares
 
--- a lane for each shard, with all its permits, which have put and taken nothing
-pub record AreNewLanes {B : Type 0} (producers shards depth : ℕ) (l : Lanes B) : Type 0 where
-  pub count : vec_len l.queues ≡ shards
-  pub queues : All (λ q. (capacity_of q ≡ depth) × (producers_of q ≡ producers)) l.queues.items
-  pub permits : Rows l.queues.items 0 (map (λ v. v.items) l.permits.items)
-  pub consumers : AreConsumers l.queues.items l.consumers.items
-  pub fresh : All (λ s. got s ≡ []) l.consumers.items
-
--- a reply channel for each producer, likewise
-pub record AreNewChannels {B : Type 0} (producers shards : ℕ) (c : Channels B) : Type 0 where
-  pub count : vec_len c.channels ≡ producers
-  pub channels : All (λ q. senders_of q ≡ shards) c.channels.items
-  pub permits : SenderRows c.channels.items 0 (map (λ v. v.items) c.permits.items)
-  pub receivers : AreReceivers c.channels.items c.receivers.items
-  pub fresh : All (λ s. received s ≡ []) c.receivers.items
+-- lanes with all their permits, which have put and taken nothing
+pub record AreNewLanes {T C I P : Type 0} (view : P → View T) (is_of : C → P → Type 0) (l : Lanes C I P) : Type 0 where
+  pub permits : lanes.Rows view is_of l.lanes.items 0 (map (λ v. v.items) l.permits.items)
+  pub consumers : lanes.AreConsumers view is_of l.lanes.items l.consumers.items
+  pub fresh : All (λ s. taken view s ≡ []) l.consumers.items
 
 -- all of a house that can't be let go
 pub record AreStock {B : Type 0} (producers shards depth : ℕ) (s : Stock B) : Type 0 where
   pub of_producers : ArePermitRooms producers shards s.rooms.producers
   pub of_consumers : ArePermitRooms shards producers s.rooms.consumers
   pub lists : AreLists producers shards s.lists
-  pub lanes : AreNewLanes producers shards depth s.lanes
-  pub channels : AreNewChannels producers shards s.channels
+  pub lanes : (vec_len s.lanes.lanes ≡ shards)
+      × All (λ q. (capacity_of q ≡ depth) × (producers_of q ≡ producers)) s.lanes.lanes.items
+  pub of_lanes : AreNewLanes queues.view queues.is_of s.lanes
+  pub channels : (vec_len s.channels.lanes ≡ producers) × All (λ q. senders_of q ≡ shards) s.channels.lanes.items
+  pub of_channels : AreNewLanes replies.view replies.is_of s.channels
 
 -- no seat was dealt yet, and there are tickets for 256 of them
 abbrev pub IsWholeSeating : {B : Type 0} → Seating B → Type 0

@@ -6,12 +6,12 @@ use Rattle.shard_queue.specs.Closing.{IsWhole}
 use Rattle.shard_queue.specs.Lane.{of}
 use Rattle.shard_queue.specs.Permits.{history, producers_of}
 use Rattle.shard_queue.specs.Reply.{reply_history, senders_of}
-use Rattle.shard_queue.specs.declared.ends.ReplyChannel.{ReplyChannel}
+use Rattle.shard_queue.specs.Reply.{ReplyChannel}
 use Rattle.shard_queue.specs.declared.lane.Entry.{Entry}
 use Rattle.shard_queue.specs.declared.lane.Entry.TheVariants.{End}
-use Rattle.shard_queue.specs.declared.queue.Closed.{Closed}
-use Rattle.shard_queue.specs.declared.queue.ShardQueue.{ShardQueue}
-use Rattle.shard_queue.specs.declared.reply.ReplyClosed.{ReplyClosed}
+use Rattle.shard_queue.specs.Permits.{Closed}
+use Rattle.shard_queue.specs.Permits.{ShardQueue}
+use Rattle.shard_queue.specs.Reply.{ReplyClosed}
 use Rattle.lane_work.specs.Answering.{WereAnswered}
 use Rattle.lane_work.specs.Speaking.{premises_of}
 use Rattle.house_shared.specs.declared.shared.HouseShared.{HouseShared}

@@ -1,7 +1,7 @@
 -- What bodies and proofs say besides: what the producers of a server leave.
 use Rattle.std.specs.Prelude.{◌≡◌, ℕ, Bool, true, false, Some, map, slice_get}
 use Rattle.delivery_token.specs.declared.log.Noted.{Noted}
-use Rattle.shard_queue.specs.declared.ends.ReplyChannel.{ReplyChannel}
+use Rattle.shard_queue.specs.Reply.{ReplyChannel}
 use Rattle.shard_queue.specs.Permits.{said}
 use Rattle.shard_queue.specs.Reply.{IsReceiver, received}
 use Rattle.lane_work.specs.Backing.{IsBackedBy}

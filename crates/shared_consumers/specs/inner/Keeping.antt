@@ -2,7 +2,7 @@
 use Rattle.std.specs.Prelude.{◌≡◌, Bool, List, [], length, map, Option, Some}
 use Rattle.std.specs.List.{list_any}
 use Rattle.delivery_token.specs.declared.Job.{Job}
-use Rattle.shard_queue.specs.declared.queue.ShardQueue.{ShardQueue}
+use Rattle.shard_queue.specs.Permits.{ShardQueue}
 use Rattle.shard_queue.specs.Reply.{sent_on}
 use Rattle.shard_queue.specs.Permits.{got}
 use Rattle.lane_work.specs.Answering.{is_nobodys}

@@ -1,9 +1,11 @@
-//! What the tests of lanes between threads share: what a shard queue and a reply channel have in common, a producer's life in a thread,
-//! how a permit is handed there, and whether what comes is in its order.
+//! What the tests of lanes between threads share: a producer's life in a thread, how a permit is handed there, and whether what comes is
+//! in its order.
 
-ghost use Rattle.std.specs.Prelude.{◌≡◌, ◌+◌, ◌≤◌, [], All, IfErr, IfOk, vec_len, vec_capacity};
+ghost use Rattle.std.specs.Prelude.{◌≡◌, ◌+◌, ◌≤◌, [], All, vec_len, vec_capacity};
 ghost use Rattle.std.specs.Mem.{manually_drop_value};
+ghost use Rattle.shard_queue.specs.SharedLane.{IsEndedPermit, IsPermit};
 
+use shard_queue::{Carrier, EndedPermit, Full, Permit, SharedLane};
 use std::mem::ManuallyDrop;
 use std::process::Abort;
 use std::sync::Wait;
@@ -11,31 +13,6 @@ use std::thread;
 
 /// What each thread puts before its end.
 pub(crate) const ITEMS: u32 = 50;
-
-/// A shard queue or a reply channel of numbers: whoever holds a permit puts there, until its end.
-pub(crate) trait SharedLane: Sized {
-    /// Whoever holds it puts for a producer.
-    type Permit;
-    /// What is left of it after the producer's end.
-    type Ended;
-
-    // It is of a producer of this lane that has not ended.
-    ghost is_permit: { Self → Self.Permit → Type 0 };
-
-    // It is of a producer of this lane that has ended.
-    ghost has_ended: { Self → Self.Ended → Type 0 };
-
-    /// Puts an item: it comes back where it had no room.
-    fn put<R: Wait>(&self, rt: &R, permit: &mut Self::Permit, item: u32) -> Option<u32>
-        requires { is_permit self.now permit.old }
-        ensures { is_permit self.now permit.new };
-
-    /// Ends the permit, which comes back where there was no room.
-    fn end<R: Wait>(&self, rt: &R, permit: Self::Permit) -> Result<Self::Ended, Self::Permit>
-        requires { is_permit self.now permit }
-        ensures ended { IfOk result (λ e. has_ended self.now e) }
-        ensures full { IfErr result (λ p. is_permit self.now p) };
-}
 
 /// A permit for a closure to hold or a thread to return. Whoever gets it takes it out.
 pub(crate) fn packed<T>(value: T) -> ManuallyDrop<T>
@@ -60,23 +37,47 @@ pub(crate) fn are_all(next: &[u32]) -> bool {
     next.iter().all(|one| *one == ITEMS + 1)
 }
 
+/// Puts an item: it comes back where it had no room.
+pub(crate) fn put<C: Carrier, R: Wait>(
+    rt: &R,
+    lane: &SharedLane<C>,
+    permit: &mut Permit<C::Pass>,
+    item: C::Item,
+) -> Option<C::Item>
+    requires { IsPermit C.view C.is_of lane.now permit.old }
+    ensures { IsPermit C.view C.is_of lane.now permit.new }
+{
+    match lane.put_as(rt, permit, item) {
+        Ok(()) => None,
+        Err(Full(back)) => Some(back),
+    }
+}
+
 // Puts the numbers from 0, each where there is room.
-fn put_all<L: SharedLane, R: Wait>(rt: &R, lane: &L, permit: &mut L::Permit)
-    requires { L.is_permit lane.now permit.old }
-    ensures { L.is_permit lane.now permit.new }
+fn put_all<C: Carrier<Item = u32>, R: Wait>(
+    rt: &R,
+    lane: &SharedLane<C>,
+    permit: &mut Permit<C::Pass>,
+)
+    requires { IsPermit C.view C.is_of lane.now permit.old }
+    ensures { IsPermit C.view C.is_of lane.now permit.new }
 {
     for item in 0..ITEMS {
-        let _ = lane.put(rt, permit, item);
+        let _ = put(rt, lane, permit, item);
     }
 }
 
 // Ends the permit, as soon as there is room.
-fn end<L: SharedLane, R: Wait>(rt: &R, lane: &L, mut permit: L::Permit) -> L::Ended
-    requires { L.is_permit lane.now permit }
-    ensures { L.has_ended lane.now result }
+fn end<C: Carrier, R: Wait>(
+    rt: &R,
+    lane: &SharedLane<C>,
+    mut permit: Permit<C::Pass>,
+) -> EndedPermit<C::Pass>
+    requires { IsPermit C.view C.is_of lane.now permit }
+    ensures { IsEndedPermit C.view C.is_of lane.now result }
 {
     for _ in rt.forever() {
-        match lane.end(rt, permit) {
+        match lane.end_as(rt, permit) {
             Ok(ended) => return ended,
             Err(back) => permit = back,
         }
@@ -86,13 +87,13 @@ fn end<L: SharedLane, R: Wait>(rt: &R, lane: &L, mut permit: L::Permit) -> L::En
 }
 
 /// A producer's whole life: it puts what it has, and ends.
-pub(crate) fn work<L: SharedLane, R: Wait>(
+pub(crate) fn work<C: Carrier<Item = u32>, R: Wait>(
     rt: &R,
-    lane: &L,
-    parcel: ManuallyDrop<L::Permit>,
-) -> ManuallyDrop<L::Ended>
-    requires { L.is_permit lane.now (manually_drop_value parcel) }
-    ensures { L.has_ended lane.now (manually_drop_value result) }
+    lane: &SharedLane<C>,
+    parcel: ManuallyDrop<Permit<C::Pass>>,
+) -> ManuallyDrop<EndedPermit<C::Pass>>
+    requires { IsPermit C.view C.is_of lane.now (manually_drop_value parcel) }
+    ensures { IsEndedPermit C.view C.is_of lane.now (manually_drop_value result) }
 {
     let mut permit = ManuallyDrop::into_inner(parcel);
     put_all(rt, lane, &mut permit);
@@ -100,14 +101,14 @@ pub(crate) fn work<L: SharedLane, R: Wait>(
 }
 
 /// The permits, for a closure to hold each.
-pub(crate) fn pack_all<L: SharedLane>(
-    lane: &L,
-    mut permits: Vec<L::Permit>,
-    mut parcels: Vec<ManuallyDrop<L::Permit>>,
-) -> Vec<ManuallyDrop<L::Permit>>
-    requires permits { All (L.is_permit lane.now) permits.items }
+pub(crate) fn pack_all<C: Carrier>(
+    lane: &SharedLane<C>,
+    mut permits: Vec<Permit<C::Pass>>,
+    mut parcels: Vec<ManuallyDrop<Permit<C::Pass>>>,
+) -> Vec<ManuallyDrop<Permit<C::Pass>>>
+    requires permits { All (IsPermit C.view C.is_of lane.now) permits.items }
     requires room { (vec_len permits ≤ vec_capacity parcels) × (parcels.items ≡ []) }
-    ensures permits { All (λ s. L.is_permit lane.now (manually_drop_value s)) result.items }
+    ensures permits { All (λ s. IsPermit C.view C.is_of lane.now (manually_drop_value s)) result.items }
     ensures len { vec_len result ≡ vec_len permits }
 {
     while let Some(permit) = permits.pop() {
@@ -118,14 +119,14 @@ pub(crate) fn pack_all<L: SharedLane>(
 }
 
 /// What is left of the permits, as the threads returned it.
-pub(crate) fn unpack_all<L: SharedLane>(
-    lane: &L,
-    mut parcels: Vec<ManuallyDrop<L::Ended>>,
-    mut ended: Vec<L::Ended>,
-) -> Vec<L::Ended>
-    requires parcels { All (λ e. L.has_ended lane.now (manually_drop_value e)) parcels.items }
+pub(crate) fn unpack_all<C: Carrier>(
+    lane: &SharedLane<C>,
+    mut parcels: Vec<ManuallyDrop<EndedPermit<C::Pass>>>,
+    mut ended: Vec<EndedPermit<C::Pass>>,
+) -> Vec<EndedPermit<C::Pass>>
+    requires parcels { All (λ e. IsEndedPermit C.view C.is_of lane.now (manually_drop_value e)) parcels.items }
     requires room { (vec_len parcels ≤ vec_capacity ended) × (ended.items ≡ []) }
-    ensures { All (L.has_ended lane.now) result.items }
+    ensures { All (IsEndedPermit C.view C.is_of lane.now) result.items }
 {
     while let Some(parcel) = parcels.pop() {
         ended.push_reserved(ManuallyDrop::into_inner(parcel));
@@ -134,14 +135,14 @@ pub(crate) fn unpack_all<L: SharedLane>(
 }
 
 /// The last of the permits.
-pub(crate) fn last_permit<L: SharedLane, R: Abort>(
+pub(crate) fn last_permit<C: Carrier, R: Abort>(
     rt: &R,
-    lane: &L,
-    permits: &mut Vec<L::Permit>,
-) -> L::Permit
-    requires { All (L.is_permit lane.now) permits.old.items }
-    ensures permit { L.is_permit lane.now result }
-    ensures others { All (L.is_permit lane.now) permits.new.items }
+    lane: &SharedLane<C>,
+    permits: &mut Vec<Permit<C::Pass>>,
+) -> Permit<C::Pass>
+    requires { All (IsPermit C.view C.is_of lane.now) permits.old.items }
+    ensures permit { IsPermit C.view C.is_of lane.now result }
+    ensures others { All (IsPermit C.view C.is_of lane.now) permits.new.items }
     ensures len { vec_len permits.old ≡ vec_len permits.new + 1 }
     ensures capacity { vec_capacity permits.new ≡ vec_capacity permits.old }
 {
@@ -149,15 +150,15 @@ pub(crate) fn last_permit<L: SharedLane, R: Abort>(
 }
 
 /// The permit, whose end has no room.
-pub(crate) fn handed_back<L: SharedLane, R: Wait + Abort>(
+pub(crate) fn handed_back<C: Carrier, R: Wait + Abort>(
     rt: &R,
-    lane: &L,
-    permit: L::Permit,
-) -> L::Permit
-    requires { L.is_permit lane.now permit }
-    ensures { L.is_permit lane.now result }
+    lane: &SharedLane<C>,
+    permit: Permit<C::Pass>,
+) -> Permit<C::Pass>
+    requires { IsPermit C.view C.is_of lane.now permit }
+    ensures { IsPermit C.view C.is_of lane.now result }
 {
-    match lane.end(rt, permit) {
+    match lane.end_as(rt, permit) {
         Err(permit) => permit,
         Ok(ended) => {
             packed(ended);
@@ -167,15 +168,15 @@ pub(crate) fn handed_back<L: SharedLane, R: Wait + Abort>(
 }
 
 /// What is left of the permit, whose end has room.
-pub(crate) fn at_end<L: SharedLane, R: Wait + Abort>(
+pub(crate) fn at_end<C: Carrier, R: Wait + Abort>(
     rt: &R,
-    lane: &L,
-    permit: L::Permit,
-) -> L::Ended
-    requires { L.is_permit lane.now permit }
-    ensures { L.has_ended lane.now result }
+    lane: &SharedLane<C>,
+    permit: Permit<C::Pass>,
+) -> EndedPermit<C::Pass>
+    requires { IsPermit C.view C.is_of lane.now permit }
+    ensures { IsEndedPermit C.view C.is_of lane.now result }
 {
-    match lane.end(rt, permit) {
+    match lane.end_as(rt, permit) {
         Ok(ended) => ended,
         Err(permit) => {
             packed(permit);

@@ -1,43 +1,17 @@
 //! A shard queue by its worked case, and shared by sixteen threads.
 
 ghost use Rattle.std.specs.Prelude.{◌≡◌, All};
-ghost use Rattle.shard_queue.specs.Permits.{IsProducer, IsEnded, IsConsumer};
+ghost use Rattle.shard_queue.specs.Permits.{IsEnded, IsConsumer};
 
 use super::parcels::{
-    ITEMS, SharedLane, are_all, at_end, handed_back, is_next, last_permit, pack_all, unpack_all,
-    work,
+    ITEMS, are_all, at_end, handed_back, is_next, last_permit, pack_all, put, unpack_all, work,
 };
-use shard_queue::{ConsumerPermit, Ended, Full, NotAll, ProducerPermit, ShardQueue, Taken};
+use shard_queue::{ConsumerPermit, Ended, NotAll, ShardQueue, Taken};
 use std::alloc::Global;
 use std::process::Abort;
 use std::sync::Wait;
 use std::test::Fail;
 use std::thread;
-
-impl SharedLane for ShardQueue<u32> {
-    type Permit = ProducerPermit<u32>;
-
-    type Ended = Ended<u32>;
-
-    ghost is_permit = { IsProducer };
-
-    ghost has_ended = { IsEnded };
-
-    fn put<R: Wait>(&self, rt: &R, permit: &mut ProducerPermit<u32>, item: u32) -> Option<u32> {
-        match self.put_as(rt, permit, item) {
-            Ok(()) => None,
-            Err(Full(back)) => Some(back),
-        }
-    }
-
-    fn end<R: Wait>(
-        &self,
-        rt: &R,
-        permit: ProducerPermit<u32>,
-    ) -> Result<Ended<u32>, ProducerPermit<u32>> {
-        self.end_as(rt, permit)
-    }
-}
 
 // Takes so many entries, and says whether each producer's items came in order, each before its end.
 fn take_all(
@@ -87,7 +61,7 @@ fn not_yet(
 ) -> NotAll<u32>
     requires permit { IsConsumer queue permit }
     requires ended { All (IsEnded queue) ended.items }
-    ensures { (result.queue ≡ queue) × (result.ended ≡ ended) × (result.permit ≡ permit) }
+    ensures { (result.lane ≡ queue) × (result.ended ≡ ended) × (result.permit ≡ permit) }
 {
     match queue.close(ended, permit) {
         Err(all) => all,
@@ -109,7 +83,7 @@ fn closes(
         Ok(_) => true,
         Err(
             NotAll {
-                queue,
+                lane: queue,
                 ended,
                 permit,
             },
@@ -130,9 +104,9 @@ fn a_full_queue_hands_back(rt: HostRuntime) {
     let mut second = last_permit(&rt, &queue, &mut permits);
     let mut first = last_permit(&rt, &queue, &mut permits);
     let numbers = [first.number(), second.number()];
-    let one = queue.put(&rt, &mut first, 7);
-    let two = queue.put(&rt, &mut second, 8);
-    let three = queue.put(&rt, &mut first, 9);
+    let one = put(&rt, &queue, &mut first, 7);
+    let two = put(&rt, &queue, &mut second, 8);
+    let three = put(&rt, &queue, &mut first, 9);
     let first = handed_back(&rt, &queue, first);
     let back = first.number();
     let one_taken = taken(&rt, &queue, &mut consumer);
@@ -170,13 +144,13 @@ fn a_queue_is_closed_after_all_ends(rt: HostRuntime) {
     ended.push_reserved(at_end(&rt, &queue, first));
     let first_end = taken(&rt, &queue, &mut consumer);
     let NotAll {
-        queue,
+        lane: queue,
         mut ended,
         permit,
     } = not_yet(&rt, queue, ended, consumer);
     ended.push_reserved(at_end(&rt, &queue, second));
     let NotAll {
-        queue,
+        lane: queue,
         ended,
         mut permit,
     } = not_yet(&rt, queue, ended, permit);

@@ -1,45 +1,17 @@
 //! A reply channel by its worked case, and shared by eight threads.
 
 ghost use Rattle.std.specs.Prelude.{◌≡◌, All};
-ghost use Rattle.shard_queue.specs.Reply.{IsSender, IsSenderEnded, IsReceiver};
+ghost use Rattle.shard_queue.specs.Reply.{IsSenderEnded, IsReceiver};
 
 use super::parcels::{
-    ITEMS, SharedLane, are_all, at_end, handed_back, is_next, last_permit, pack_all, unpack_all,
-    work,
+    ITEMS, are_all, at_end, handed_back, is_next, last_permit, pack_all, put, unpack_all, work,
 };
-use shard_queue::{
-    Entry, Full, ReceiverPermit, ReplyChannel, ReplyNotAll, SenderEnded, SenderPermit,
-};
+use shard_queue::{Entry, ReceiverPermit, ReplyChannel, ReplyNotAll, SenderEnded};
 use std::alloc::Global;
 use std::process::Abort;
 use std::sync::Wait;
 use std::test::Fail;
 use std::thread;
-
-impl SharedLane for ReplyChannel<u32> {
-    type Permit = SenderPermit<u32>;
-
-    type Ended = SenderEnded<u32>;
-
-    ghost is_permit = { IsSender };
-
-    ghost has_ended = { IsSenderEnded };
-
-    fn put<R: Wait>(&self, rt: &R, permit: &mut SenderPermit<u32>, item: u32) -> Option<u32> {
-        match self.send_as(rt, permit, item) {
-            Ok(()) => None,
-            Err(Full(back)) => Some(back),
-        }
-    }
-
-    fn end<R: Wait>(
-        &self,
-        rt: &R,
-        permit: SenderPermit<u32>,
-    ) -> Result<SenderEnded<u32>, SenderPermit<u32>> {
-        self.end_as(rt, permit)
-    }
-}
 
 // Takes so many entries, and says whether each producer's items came in order, each before its end.
 fn receive_all(
@@ -87,7 +59,7 @@ fn not_yet(
 ) -> ReplyNotAll<u32>
     requires permit { IsReceiver channel permit }
     requires ended { All (IsSenderEnded channel) ended.items }
-    ensures { (result.channel ≡ channel) × (result.ended ≡ ended) × (result.permit ≡ permit) }
+    ensures { (result.lane ≡ channel) × (result.ended ≡ ended) × (result.permit ≡ permit) }
 {
     match channel.close(ended, permit) {
         Err(all) => all,
@@ -109,7 +81,7 @@ fn closes(
         Ok(_) => true,
         Err(
             ReplyNotAll {
-                channel,
+                lane: channel,
                 ended,
                 permit,
             },
@@ -130,9 +102,9 @@ fn a_full_channel_hands_back(rt: HostRuntime) {
     let mut second = last_permit(&rt, &channel, &mut permits);
     let mut first = last_permit(&rt, &channel, &mut permits);
     let numbers = [first.number(), second.number()];
-    let one = channel.put(&rt, &mut first, 7);
-    let two = channel.put(&rt, &mut second, 8);
-    let three = channel.put(&rt, &mut first, 9);
+    let one = put(&rt, &channel, &mut first, 7);
+    let two = put(&rt, &channel, &mut second, 8);
+    let three = put(&rt, &channel, &mut first, 9);
     let first = handed_back(&rt, &channel, first);
     let back = first.number();
     let one_received = received(&rt, &channel, &mut receiver);
@@ -164,13 +136,13 @@ fn a_channel_is_closed_after_all_ends(rt: HostRuntime) {
     ended.push_reserved(at_end(&rt, &channel, first));
     let first_end = received(&rt, &channel, &mut receiver);
     let ReplyNotAll {
-        channel,
+        lane: channel,
         mut ended,
         permit,
     } = not_yet(&rt, channel, ended, receiver);
     ended.push_reserved(at_end(&rt, &channel, second));
     let ReplyNotAll {
-        channel,
+        lane: channel,
         ended,
         mut permit,
     } = not_yet(&rt, channel, ended, permit);

@@ -75,7 +75,7 @@ impl<'a, B: Naming> SharedConsumer<'a, B> {
     // Delivers a copy, and tells its producer.
     fn answer<R: Wait>(&mut self, rt: &R, letter: Letter<B>) {
         if let Some(answer) = self.shelf.judge(rt, letter) {
-            let _ = self.channel.send_as(rt, &mut self.sender, answer);
+            let _ = self.channel.put_as(rt, &mut self.sender, answer);
         }
     }
 

@@ -1,8 +1,8 @@
 -- What a worker of the tests has, and what it leaves.
 use Rattle.std.specs.Prelude.{ℕ, List}
 use Rattle.delivery_token.specs.declared.Job.{Job}
-use Rattle.shard_queue.specs.declared.queue.Ended.{Ended}
-use Rattle.shard_queue.specs.declared.queue.ShardQueue.{ShardQueue}
+use Rattle.shard_queue.specs.Permits.{Ended}
+use Rattle.shard_queue.specs.Permits.{ShardQueue}
 use Rattle.lane_work.specs.Permits.{AreEnded}
 use Rattle.house_shared.specs.Crew.{IsPost}
 use Rattle.house_shared.specs.declared.shared.HouseShared.{HouseShared}

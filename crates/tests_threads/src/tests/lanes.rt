@@ -12,7 +12,7 @@ use lane_work::{
     Hands, LanePermit, Lanes, PermitRooms, Rooms, close_lanes, collect_all, deal_all, make_lanes,
     make_rooms, spend_permit_rooms, spend_rooms,
 };
-use shard_queue::{ConsumerPermit, Ended, ProducerPermit, ShardQueue};
+use shard_queue::{ConsumerPermit, Ended, EntryQueue, ProducerPermit, ShardQueue};
 use std::alloc::{AllocError, Global};
 use std::marker::Brand;
 use std::sync::Wait;
@@ -135,7 +135,7 @@ fn close_after<B: Naming, R: Wait>(
 ) -> Result<bool, AllocError> {
     let closed = Vec::with_capacity(alloc, 2)?;
     let rooms = make_rooms(alloc, 3, 2)?;
-    let lanes = match make_lanes::<B>(alloc, 2, 4, 3) {
+    let lanes = match make_lanes::<EntryQueue<Letter<B>>>(alloc, &[4, 4], 3) {
         Ok(lanes) => lanes,
         Err(e) => {
             spend_rooms(rooms);
@@ -154,7 +154,7 @@ fn close_after<B: Naming, R: Wait>(
     } = producers;
     let Hands { each, all } = rooms;
     let Lanes {
-        queues,
+        lanes: queues,
         permits,
         mut consumers,
     } = lanes;

@@ -3,10 +3,11 @@ use Rattle.std.proofs.lemmas.List.Elements.{All-head, All-tail}
 use Rattle.delivery_token.specs.declared.Job.{Job}
 use Rattle.delivery_token.specs.declared.log.Noted.{Noted}
 use Rattle.shard_queue.specs.Reply.{received}
-use Rattle.shard_queue.specs.declared.reply.ReceiverPermit.{ReceiverPermit}
-use Rattle.shard_queue.specs.declared.queue.Ended.{Ended}
+use Rattle.shard_queue.specs.Reply.{ReceiverPermit}
+use Rattle.shard_queue.specs.Permits.{Ended}
+use Rattle.shard_queue.specs.Reply as replies
 use Rattle.house_shared.specs.Crew.{AllAt, IsPost}
-use Rattle.house_shared.proofs.DealLaws.{IsHand, IsReceiverAt, all_rest, hands_at, receivers_at}
+use Rattle.house_shared.proofs.DealLaws.{IsConsumerAt, IsHand, all_rest, consumers_at, hands_at}
 use Rattle.house_shared.proofs.Positions.{first_at, more_at}
 use Rattle.lane_work.proofs.StepLaws.{removed}
 use Rattle.house_shared.proofs.dealing.set_posts.Goals as goal
@@ -22,7 +23,7 @@ loop-number-init g c =
       search rules,
       search rules,
       hands_at lanes 0 c.args.hands.items c.requires.hands.1,
-      receivers_at channels 0 channels c.args.receivers.items (all_rest channels) c.requires.receivers.1,
+      consumers_at replies.view replies.is_of channels 0 channels c.args.receivers.items (all_rest channels) c.requires.receivers.1,
       c.requires.unheard,
       search rules,
       subst (AllAt (IsPost shared) 0) (sym c.requires.posts.0) tt,
@@ -47,7 +48,7 @@ loop-number-preserved g c =
     let some_room : 0 < length rooms = (let e = v.2 in let o = c.loop-number.rooms.ok.0 in omega (arith, under, e, o)) in
     let P : Vec (Ended Job) Global → Type 0 = λ v. (v.items ≡ []) × (length lanes ≤ vec_capacity v) in
     let hand = first_at (IsHand lanes) n hands c.remove.new.self.items c.remove.result some_hand c.remove.ensures.value c.remove.ensures.items v.5 in
-    let end = first_at (IsReceiverAt channels) n receivers c.remove-in-loop-number.new.self.items c.remove-in-loop-number.result some_end c.remove-in-loop-number.ensures.value c.remove-in-loop-number.ensures.items v.6 in
+    let end = first_at (IsConsumerAt replies.view replies.is_of channels) n receivers c.remove-in-loop-number.new.self.items c.remove-in-loop-number.result some_end c.remove-in-loop-number.ensures.value c.remove-in-loop-number.ensures.items v.6 in
     let Q : ReceiverPermit Noted → Type 0 = λ s. received s ≡ [] in
     let permit = c.remove-in-loop-number.result in
     let ends = c.remove-in-loop-number.ensures in

@@ -2,9 +2,10 @@ use Rattle.std.proofs.Common.{rules, refl, ◌≡◌, ◌≤◌, ◌<◌, ◌+�
 use Rattle.std.proofs.lemmas.List.Elements.{All-head, All-tail}
 use Rattle.delivery_token.specs.declared.log.Noted.{Noted}
 use Rattle.delivery_token.specs.declared.Job.{Job}
-use Rattle.shard_queue.specs.declared.queue.ConsumerPermit.{ConsumerPermit}
-use Rattle.shard_queue.specs.declared.reply.SenderEnded.{SenderEnded}
+use Rattle.shard_queue.specs.Permits.{ConsumerPermit}
+use Rattle.shard_queue.specs.Reply.{SenderEnded}
 use Rattle.shard_queue.specs.Permits.{got}
+use Rattle.shard_queue.specs.Permits as queues
 use Rattle.house_shared.specs.Crew.{AllAt, IsStand}
 use Rattle.house_shared.proofs.DealLaws.{IsConsumerAt, IsSenderHand, all_rest, consumers_at, sender_hands_at}
 use Rattle.house_shared.proofs.Positions.{first_at, more_at}
@@ -23,7 +24,7 @@ loop-shard-init g c =
       search rules,
       search rules,
       sender_hands_at channels 0 c.args.hands.items c.requires.hands.1,
-      consumers_at lanes 0 lanes c.args.consumers.items (all_rest lanes) c.requires.consumers.1,
+      consumers_at queues.view queues.is_of lanes 0 lanes c.args.consumers.items (all_rest lanes) c.requires.consumers.1,
       c.requires.fresh,
       search rules,
       subst (AllAt (IsStand shared) 0) (sym c.requires.stands.0) tt,
@@ -47,7 +48,7 @@ loop-shard-preserved g c =
     let P : Vec (SenderEnded Noted) Global → Type 0 = λ v. (v.items ≡ []) × (length channels ≤ vec_capacity v) in
     let Q : ConsumerPermit Job → Type 0 = λ s. got s ≡ [] in
     let permit = c.remove.result in
-    let end = first_at (IsConsumerAt lanes) n consumers c.remove.new.self.items permit some_end c.remove.ensures.value c.remove.ensures.items v.7 in
+    let end = first_at (IsConsumerAt queues.view queues.is_of lanes) n consumers c.remove.new.self.items permit some_end c.remove.ensures.value c.remove.ensures.items v.7 in
     let hand = first_at (IsSenderHand channels) n hands c.remove-in-loop-shard.new.self.items c.remove-in-loop-shard.result some_hand c.remove-in-loop-shard.ensures.value c.remove-in-loop-shard.ensures.items v.6 in
     let none = subst (All Q) (removed consumers c.remove.new.self.items permit some_end c.remove.ensures.value c.remove.ensures.items) v.8 in
     let room = c.remove-in-loop-shard-3.result in

@@ -9,7 +9,7 @@ use Rattle.lane_work.specs.Permits.{AreLive, put_by}
 use Rattle.lane_work.specs.Copies.{rooms_of}
 use Rattle.lane_work.specs.inner.Copies.{WasJudged}
 use Rattle.delivery_token.specs.declared.log.Noted.{Noted}
-use Rattle.shard_queue.specs.declared.reply.ReceiverPermit.{ReceiverPermit}
+use Rattle.shard_queue.specs.Reply.{ReceiverPermit}
 use Rattle.lane_work.specs.Awaiting.{copies_in, verdicts_in}
 use Rattle.lane_work.specs.Permits.{overs}
 use Rattle.delivery_token.specs.Verdicts.{unknown}

@@ -1,6 +1,6 @@
 use Rattle.std.proofs.Common.{rules, ◌+◌, ◌∙◌, sym, subst, map, take, drop, length-drop, arith}
 use Rattle.delivery_token.specs.declared.log.Noted.{Noted}
-use Rattle.shard_queue.specs.declared.ends.ReplyChannel.{ReplyChannel}
+use Rattle.shard_queue.specs.Reply.{ReplyChannel}
 use Rattle.shard_queue.specs.Reply.{IsSenderEnded, sent_on}
 use Rattle.lane_work.specs.Permits.{AreSenders, AreSendersEnded}
 use Rattle.lane_work.proofs.PermitLaws.{first_sender, sender_ended_next, senders_length, told_next}
@@ -22,10 +22,10 @@ loop-channel-preserved g c =
     let f = first_sender channels i p c.loop-channel.senders.items c.loop-channel-test.true v.0 c.index-channels-channel.result c.remove-sender.result c.remove-sender.ensures.value in (
       subst (AreSenders (drop (i + 1) channels) p) (sym c.remove-sender.ensures.items) f.3,
       subst (AreSendersEnded (take (i + 1) channels) p) (sym c.push_reserved.ensures.items)
-          (sender_ended_next channels i p c.loop-channel.ended.items c.end_sender.result c.loop-channel-test.true v.1 c.index-channels-channel.result
-          (subst (λ (q : ReplyChannel Noted). IsSenderEnded q c.end_sender.result) c.index-channels-channel.is c.end_sender.ensures.0) (c.end_sender.ensures.1 ∙ f.1)),
+          (sender_ended_next channels i p c.loop-channel.ended.items c.end_one.result c.loop-channel-test.true v.1 c.index-channels-channel.result
+          (subst (λ (q : ReplyChannel Noted). IsSenderEnded q c.end_one.result) c.index-channels-channel.is c.end_one.ensures.0) (c.end_one.ensures.1 ∙ f.1)),
       c.push_reserved.ensures.len ∙ search rules,
       search rules,
-      told_next p c.loop-channel.ended.items c.push_reserved.new.self.items c.loop-channel.senders.items c.remove-sender.new.self.items c.end_sender.result c.remove-sender.result (map sent_on c.args.senders.items)
-          c.push_reserved.ensures.items f.2 c.remove-sender.ensures.items f.1 c.end_sender.ensures.2 v.4,
+      told_next p c.loop-channel.ended.items c.push_reserved.new.self.items c.loop-channel.senders.items c.remove-sender.new.self.items c.end_one.result c.remove-sender.result (map sent_on c.args.senders.items)
+          c.push_reserved.ensures.items f.2 c.remove-sender.ensures.items f.1 c.end_one.ensures.2 v.4,
     )

@@ -6,4 +6,4 @@ use Rattle.lane_work.proofs.lanes.deal.Given as goal
 abbrev pub invariant-loop-lane : goal.invariant-loop-lane
 invariant-loop-lane g l =
     (vec_len l.hand ≡ l.lane) × (length l.lanes ≤ vec_capacity l.hand)
-    × StepTo (Dealt list) l.lane l.fn.permits.items l.permits.items l.hand.items
+    × StepTo (Dealt g.H.Held.held list) l.lane l.fn.permits.items l.permits.items l.hand.items

@@ -1,17 +1,17 @@
 use Rattle.std.proofs.Common.{rules, ◌≡◌, ◌≤◌, ◌+◌, ◌∷◌, [], ◌∙◌, suc, All, Vec, Global, ap, sym, subst, length, map, vec_capacity, arith}
 use Rattle.std.proofs.lemmas.List.{length-map, map-append}
 use Rattle.std.proofs.lemmas.List.Elements.{All-drop}
-use Rattle.delivery_token.specs.declared.Job.{Job}
-use Rattle.lane_work.specs.declared.desk.LanePermit.{LanePermit}
-use Rattle.lane_work.specs.LanePermits.{AreHands, Rows}
+use Rattle.lane_work.specs.SharedLanes.{AreHands, Rows}
 use Rattle.lane_work.proofs.StepLaws.{list}
 use Rattle.lane_work.proofs.RowLaws.{hands_next, none_left}
 use Rattle.lane_work.proofs.lanes.deal_all.Goals as goal
 
 pub loop-number-preserved : goal.loop-number-preserved
 loop-number-preserved g c =
+    let view = g.C.Carrier.view in
+    let is_of = g.C.Carrier.is_of in
     let v = c.loop-number.invariant in
-    let P : Vec (LanePermit Job) Global → Type 0 = λ v. (v.items ≡ []) × (length c.args.lanes.now ≤ vec_capacity v) in
+    let P : Vec g.row.H.Denot Global → Type 0 = λ v. (v.items ≡ []) × (length c.args.lanes.now ≤ vec_capacity v) in
     let n = c.loop-number.number in
     let hands = c.loop-number.hands.items in
     let e : suc n ≡ n + 1 = omega arith in
@@ -21,12 +21,13 @@ loop-number-preserved g c =
       subst (All P) (sym c.remove-room.ensures.items) (All-drop P 1 c.loop-number.rooms.items v.1),
       search rules,
       search rules,
-      subst (λ k. Rows c.args.lanes.now k (map list c.deal.new.permits.items)) e c.deal.ensures.left,
-      subst (AreHands c.args.lanes.now 0) (sym (ap (map list) c.push_reserved.ensures.items ∙ map-append list hands (c.deal.result ∷ [])))
-          (hands_next c.args.lanes.now 0 n (map list hands) c.deal.result.items v.5 count c.deal.ensures.hand.0 c.deal.ensures.hand.1),
+      subst (λ k. Rows view is_of c.args.lanes.now k (map list c.deal.new.permits.items)) e c.deal.ensures.left,
+      subst (AreHands view is_of g.H.Held.held c.args.lanes.now 0) (sym (ap (map list) c.push_reserved.ensures.items ∙ map-append list hands (c.deal.result ∷ [])))
+          (hands_next view is_of g.H.Held.held c.args.lanes.now 0 n (map list hands) c.deal.result.items v.5 count c.deal.ensures.hand),
     )
 
 pub spend_lists-requires : goal.spend_lists-requires
 spend_lists-requires g c =
     let e : c.loop-number.number ≡ c.args.producers = search rules in
-    none_left list c.args.lanes.now c.args.producers c.loop-number.permits.items (subst (λ k. Rows c.args.lanes.now k (map list c.loop-number.permits.items)) e c.loop-number.invariant.4) c.requires.producers
+    none_left g.C.Carrier.view g.C.Carrier.is_of list c.args.lanes.now c.args.producers c.loop-number.permits.items
+    (subst (λ k. Rows g.C.Carrier.view g.C.Carrier.is_of c.args.lanes.now k (map list c.loop-number.permits.items)) e c.loop-number.invariant.4) c.requires.producers

@@ -5,7 +5,7 @@ use Rattle.lmtp_machine.specs.Calls.{submission_of}
 use Rattle.delivery_token.specs.declared.Job.{Job}
 use Rattle.lane_work.specs.declared.desk.LanePermit.{LanePermit}
 use Rattle.delivery_token.specs.declared.log.Noted.{Noted}
-use Rattle.shard_queue.specs.declared.reply.ReceiverPermit.{ReceiverPermit}
+use Rattle.shard_queue.specs.Reply.{ReceiverPermit}
 use Rattle.shard_queue.specs.Reply.{received}
 use Rattle.shard_queue.specs.Shared.{IsStartOf}
 use Rattle.lane_work.specs.Permits.{put_by}

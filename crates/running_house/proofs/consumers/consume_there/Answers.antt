@@ -1,7 +1,7 @@
 use Rattle.std.proofs.Common.{rules, ◌≡◌, ℕ, [], All, map, sym, subst}
 use Rattle.std.proofs.lemmas.List.Elements.{All-map}
 use Rattle.delivery_token.specs.declared.Job.{Job}
-use Rattle.shard_queue.specs.declared.queue.ShardQueue.{ShardQueue}
+use Rattle.shard_queue.specs.Permits.{ShardQueue}
 use Rattle.shard_queue.specs.Permits.{IsConsumer}
 use Rattle.shard_queue.specs.Reply.{sent_on}
 use Rattle.lane_work.specs.Consuming.{IsConsumed}

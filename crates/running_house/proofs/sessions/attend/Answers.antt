@@ -2,7 +2,7 @@ use Rattle.std.proofs.Common.{rules, ◌≡◌, ◌≤◌, ◌∙◌, ℕ, [], V
 use Rattle.std.specs.Global.{Global}
 use Rattle.delivery_token.specs.WorkerLog.{WorkerLog}
 use Rattle.delivery_token.specs.declared.log.Noted.{Noted}
-use Rattle.shard_queue.specs.declared.ends.ReplyChannel.{ReplyChannel}
+use Rattle.shard_queue.specs.Reply.{ReplyChannel}
 use Rattle.lane_work.specs.declared.desk.Intake.{Intake}
 use Rattle.lane_work.specs.Copies.{rooms_of}
 use Rattle.lane_work.specs.Awaiting.{verdicts_in}

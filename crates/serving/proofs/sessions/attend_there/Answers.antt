@@ -1,7 +1,7 @@
 use Rattle.std.proofs.Common.{rules, ◌≡◌, ◌≤◌, ◌∙◌, ℕ, [], true, false, length, map, refl, sym, subst, vec_capacity}
 use Rattle.delivery_token.specs.declared.log.Noted.{Noted}
-use Rattle.shard_queue.specs.declared.ends.ReplyChannel.{ReplyChannel}
-use Rattle.shard_queue.specs.declared.reply.ReceiverPermit.{ReceiverPermit}
+use Rattle.shard_queue.specs.Reply.{ReplyChannel}
+use Rattle.shard_queue.specs.Reply.{ReceiverPermit}
 use Rattle.shard_queue.specs.Permits.{said}
 use Rattle.shard_queue.specs.Reply.{IsReceiver, received}
 use Rattle.lane_work.specs.Permits.{AreEnded, ArePermits, put_by}

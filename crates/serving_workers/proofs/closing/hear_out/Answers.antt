@@ -1,6 +1,6 @@
 use Rattle.std.proofs.Common.{rules, ◌≡◌, map, subst}
 use Rattle.delivery_token.specs.declared.log.Noted.{Noted}
-use Rattle.shard_queue.specs.declared.ends.ReplyChannel.{ReplyChannel}
+use Rattle.shard_queue.specs.Reply.{ReplyChannel}
 use Rattle.house_shared.proofs.Finding.{found_at}
 use Rattle.shard_queue.specs.Permits.{said}
 use Rattle.shard_queue.specs.Reply.{IsReceiver, received}

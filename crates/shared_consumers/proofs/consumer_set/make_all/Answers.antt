@@ -1,6 +1,6 @@
 use Rattle.std.proofs.Common.{rules, ◌<◌, ◌≤◌, ◌≡◌, [], Vec, Global, length, vec_capacity, arith}
 use Rattle.delivery_token.specs.declared.log.Noted.{Noted}
-use Rattle.shard_queue.specs.declared.reply.SenderEnded.{SenderEnded}
+use Rattle.shard_queue.specs.Reply.{SenderEnded}
 use Rattle.house_shared.specs.Crew.{IsStand}
 use Rattle.house_shared.proofs.Positions.{first_at}
 use Rattle.shared_consumers.proofs.ConsumerSetLaws.{one_more}

@@ -1,7 +1,7 @@
 use Rattle.std.proofs.Common.{rules, ◌<◌, ◌≤◌, ◌≡◌, [], All, Vec, Global, length, subst, vec_capacity, vec_len, arith}
 use Rattle.std.proofs.lemmas.List.Elements.{All-tail}
 use Rattle.delivery_token.specs.declared.log.Noted.{Noted}
-use Rattle.shard_queue.specs.declared.reply.SenderEnded.{SenderEnded}
+use Rattle.shard_queue.specs.Reply.{SenderEnded}
 use Rattle.lane_work.proofs.StepLaws.{removed}
 use Rattle.house_shared.specs.declared.shared.Stand.{Stand}
 use Rattle.shared_consumers.specs.Keeping.{parts_of}

@@ -1,4 +1,5 @@
-use Rattle.lane_work.proofs.SenderRowLaws.{ended_hand_length}
+use Rattle.shard_queue.specs.Reply.{is_of, view}
+use Rattle.lane_work.proofs.RowLaws.{ended_hand_length}
 use Rattle.std.proofs.Common.{◌≡◌, ◌∙◌, length, [], Some, ap, false, refl, slice_get, subst, sym}
 use Rattle.lane_work.specs.Consuming.{IsConsumed}
 use Rattle.lane_work.specs.Permits.{AreSenders, AreSendersEnded}
@@ -21,7 +22,7 @@ returns-clause-consumed g c lanes is lane here =
 pub returns-clause-count : goal.returns-clause-count
 returns-clause-count g c =
     let ended = c.end_senders-senders.result in
-    ended.ok.0 ∙ ended_hand_length c.deref.result.now c.self.inside.stall.shard ended.items c.end_senders-senders.ensures.ended ∙ ap length c.deref.ensures.value
+    ended.ok.0 ∙ ended_hand_length view is_of c.deref.result.now c.self.inside.stall.shard ended.items c.end_senders-senders.ensures.ended ∙ ap length c.deref.ensures.value
 
 pub end_senders-senders-requires-clause-senders : goal.end_senders-senders-requires-clause-senders
 end_senders-senders-requires-clause-senders g c =

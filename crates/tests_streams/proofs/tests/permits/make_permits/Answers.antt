@@ -1,8 +1,8 @@
 use Rattle.std.proofs.Common.{◌≡◌, ◌∷◌, [], List, map, All, slice_index_or, subst, sym}
 use Rattle.std.proofs.lemmas.List.Elements.{All-head}
 use Rattle.delivery_token.specs.declared.Job.{Job}
-use Rattle.shard_queue.specs.declared.queue.ShardQueue.{ShardQueue}
-use Rattle.shard_queue.specs.declared.queue.ProducerPermit.{ProducerPermit}
+use Rattle.shard_queue.specs.Permits.{ShardQueue}
+use Rattle.shard_queue.specs.Permits.{ProducerPermit}
 use Rattle.shard_queue.specs.Permits.{IsProducer, number_of, sent}
 use Rattle.tests_streams.proofs.tests.permits.make_permits.Goals as goal
 

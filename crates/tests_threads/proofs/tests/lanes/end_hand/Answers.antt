@@ -1,6 +1,6 @@
 use Rattle.std.proofs.Common.{rules, ◌+◌, ◌∙◌, sym, subst, take, drop, length-drop, arith}
 use Rattle.delivery_token.specs.declared.Job.{Job}
-use Rattle.shard_queue.specs.declared.queue.ShardQueue.{ShardQueue}
+use Rattle.shard_queue.specs.Permits.{ShardQueue}
 use Rattle.shard_queue.specs.Permits.{IsEnded}
 use Rattle.lane_work.specs.Permits.{AreEnded, ArePermits}
 use Rattle.lane_work.proofs.PermitLaws.{permits_length, first_permit, ended_next}

@@ -2,11 +2,24 @@ use Rattle.std.proofs.Common.{rules, ◌≡◌, ◌≤◌, ◌<◌, ◌+◌, ◌
 use Rattle.std.proofs.lemmas.List.{length-map, map-append}
 use Rattle.std.proofs.lemmas.List.Elements.{All-drop, All-push}
 use Rattle.delivery_token.specs.declared.Job.{Job}
-use Rattle.shard_queue.specs.declared.queue.Ended.{Ended}
+use Rattle.shard_queue.specs.Permits.{Ended}
 use Rattle.lane_work.specs.LanePermits.{AreEndedHands, AreHands}
 use Rattle.lane_work.proofs.StepLaws.{list, removed}
 use Rattle.lane_work.proofs.RowLaws.{ended_hands_next, first_hand}
+use Rattle.lane_work.proofs.PermitLaws.{new_permits}
+use Rattle.lane_work.specs.declared.desk.LanePermit.TheVariants.{Live}
+use Rattle.shard_queue.specs.Permits.{is_of, view}
 use Rattle.tests_threads.proofs.tests.lanes.end_hands.Goals as goal
+
+pub end_hand-requires-clause-permits : goal.end_hand-requires-clause-permits
+end_hand-requires-clause-permits g c =
+    let lanes = c.args.lanes.now in
+    let n = c.loop-number.number in
+    let hands = c.loop-number.hands.items in
+    let some : 0 < length hands = search rules in
+    let h = first_hand view is_of (λ permit. Live permit) lanes n (map list hands) (map list c.remove-hand.new.self.items) c.remove-hand.result.items
+    (ap (map list) (removed hands c.remove-hand.new.self.items c.remove-hand.result some c.remove-hand.ensures.value c.remove-hand.ensures.items)) c.loop-number.invariant.1 in
+    (new_permits lanes n c.remove-hand.result.items h.0).0
 
 pub loop-number-preserved : goal.loop-number-preserved
 loop-number-preserved g c =
@@ -20,7 +33,7 @@ loop-number-preserved g c =
     let some : 0 < length hands = search rules in
     let e : suc n ≡ n + 1 = omega arith in
     let m = length-map all list in
-    let h = first_hand lanes n (map list hands) (map list c.remove-hand.new.self.items) c.remove-hand.result.items
+    let h = first_hand view is_of (λ permit. Live permit) lanes n (map list hands) (map list c.remove-hand.new.self.items) c.remove-hand.result.items
     (ap (map list) (removed hands c.remove-hand.new.self.items c.remove-hand.result some c.remove-hand.ensures.value c.remove-hand.ensures.items)) v.1 in
     let count : n ≡ 0 + length (map list all) = (let a = v.4 in let o = c.loop-number.all.ok.0 in omega (arith, a, o, m)) in (
       search rules,
@@ -31,5 +44,5 @@ loop-number-preserved g c =
       search rules,
       subst (All Q) (sym c.push_reserved.ensures.items) (All-push Q all c.end_hand.result v.6 c.end_hand.ensures.len),
       subst (AreEndedHands lanes 0) (sym (ap (map list) c.push_reserved.ensures.items ∙ map-append list all (c.end_hand.result ∷ [])))
-          (ended_hands_next lanes 0 n (map list all) c.end_hand.result.items v.7 count c.end_hand.ensures.ended),
+          (ended_hands_next view is_of lanes 0 n (map list all) c.end_hand.result.items v.7 count c.end_hand.ensures.ended),
     )

@@ -1,0 +1,5 @@
+use Rattle.shard_queue.proofs.SharedLaws.{learns}
+use Rattle.shard_queue.proofs.queue.EntryQueueCarrier.look.Goals as goal
+
+pub learn_as-requires-clause-rule : goal.learn_as-requires-clause-rule
+learn_as-requires-clause-rule g c = learns _ _

@@ -1,5 +1,0 @@
-use Rattle.shard_queue.proofs.SharedLaws.{announces}
-use Rattle.shard_queue.proofs.queue.announce.Goals as goal
-
-pub another-requires-clause-rule : goal.another-requires-clause-rule
-another-requires-clause-rule g c = announces _ _ _ _ _ _ c.loop.invariant.1

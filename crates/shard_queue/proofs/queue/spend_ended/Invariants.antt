@@ -1,8 +1,0 @@
-use Rattle.std.specs.Prelude.{⊤}
-use Rattle.shard_queue.proofs.queue.spend_ended.Given as goal
-
-abbrev pub invariant-loop-one : goal.invariant-loop-one
-invariant-loop-one g l = ⊤
-
-abbrev pub decreases-loop-one : goal.decreases-loop-one
-decreases-loop-one g l = goal.left-loop-one g l
