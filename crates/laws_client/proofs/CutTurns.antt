@@ -1,10 +1,8 @@
 -- A turn of a session says one answer: it has one tagged line at most, and that is its last.
-use Rattle.std.proofs.Common.{◌≡◌, ◌⊎◌, inl, inr, append_assoc, ℕ, zero, suc, ◌^◌, ◌<◌, Bool, true, false, List, [], ◌∷◌, ◌++◌, length, refl, sym, ap, ◌∙◌, subst, append-nil, Option, Some, None, Result, Ok, Err}
-use Rattle.std.specs.Prelude.{codes, decimal, reverse, IfSome, nat_le, nat_lt, ◌==◌, if◌then◌else◌}
-use Rattle.std.specs.List.{list_all, list_any}
-use Rattle.std.specs.Option.{option_map}
+use Rattle.std.proofs.Common.{◌≡◌, ◌⊎◌, inl, inr, append_assoc, ℕ, ◌^◌, ◌<◌, Bool, true, false, List, [], ◌∷◌, ◌++◌, length, refl, sym, ap, ◌∙◌, subst, append-nil, Option, Some, None, Result, Ok, Err}
+use Rattle.std.specs.Prelude.{codes, decimal, reverse, IfSome, ◌==◌}
+use Rattle.std.specs.List.{list_all}
 use Rattle.std.proofs.lemmas.List.{reverse-append}
-use Rattle.change_ring.specs.declared.change.Change.{Change}
 use Rattle.change_ring.specs.declared.change.Flags.{Flags}
 use Rattle.cursor_set.specs.Lines.{lines}
 use Rattle.change_ring.specs.View.{position}
@@ -15,34 +13,26 @@ use Rattle.mailbox.specs.declared.clients.MailFault.TheVariants.{Stranger, Lappe
 use Rattle.mailbox.specs.declared.clients.Opening.{Opening}
 use Rattle.mailbox.specs.declared.clients.Row.{Row}
 use Rattle.mailbox.specs.declared.mailbox.Status.{Status}
-use Rattle.imap_grammar.specs.Reading.{is_done, read}
-use Rattle.imap_grammar.specs.Sets.{named_in, last_uid, named_at}
-use Rattle.imap_grammar.specs.declared.command.Append.{Append}
+use Rattle.imap_grammar.specs.Reading.{read}
 use Rattle.imap_grammar.specs.declared.command.Command.{Command}
 use Rattle.imap_grammar.specs.declared.command.Command.TheVariants as commands
-use Rattle.imap_grammar.specs.declared.command.Fetch.{Fetch}
 use Rattle.imap_grammar.specs.declared.command.ImapFault.{ImapFault}
 use Rattle.imap_grammar.specs.declared.command.ImapFault.TheVariants as faults
-use Rattle.imap_grammar.specs.declared.command.Store.{Store}
 use Rattle.imap_grammar.specs.Verbs.{verb_of, copy_verb}
 use Rattle.imap_session.specs.declared.standing.After.{After}
-use Rattle.imap_session.specs.declared.standing.After.TheVariants.{Go, Bye}
-use Rattle.imap_session.specs.declared.standing.After.TheVariants as afters
 use Rattle.imap_session.specs.declared.standing.Selected.{Selected}
-use Rattle.imap_session.proofs.Unkept.{unkept_by}
 use Rattle.imap_session.specs.Exchange as ex
-use Rattle.imap_session.specs.Exchange.{Answer, PendingLiteral, Call, Entered, Looked, Found, Counted, Altered, Expunged, Fed, Left, Refused, Starved, Event as Happened, Exchange, Folder, ForVerdict, Mailing, Sent, Standing, Turn, bye, closed, having, is_idling, kept_behind, kept_tag, played, refusal_after, refusal_text, refused, saying, tagged, untagged, Discarded, Origin, Client, Copied, Batch}
-use Rattle.imap_session.specs.Commands.{appended_words, appending, closing, completed, counting, entering, expunge_set, fetch_messages, fetched, fetching, folder_of, idle_turn_in, if_writable, is_over, last_number, long_rest_text, long_text, messages_done, most_unasked, nowhere, number_named, on_chosen, on_command, on_found, on_idle_line, on_read, on_rest, on_text, on_verdict, over, refused_text, says, showing, store_messages, storing, turn_of, turn_with, unlimited, wanting, wanting_for, without_begun, without_sent, wrong_state, arguments_text, entered_text, logged_in, subscribing, telling_recent, found_in, search_done, search_known, search_messages, searching, on_text_line, flags_for, date_for, mailbox_for, wants_response, awaiting_response, moving, copied_words, moved_words, on_stored, move_done, with_copy, copies_of}
+use Rattle.imap_session.specs.Exchange.{Answer, PendingLiteral, Call, Entered, Looked, Found, Counted, Altered, Expunged, Fed, Left, Refused, Starved, Event as Happened, Exchange, Mailing, Sent, Standing, Turn, bye, closed, having, is_idling, played, refusal_after, refusal_text, refused, saying, tagged, untagged, Discarded, Origin, Client, Copied, Batch}
+use Rattle.imap_session.specs.Commands.{appended_words, completed, idle_turn_in, long_rest_text, long_text, on_command, on_idle_line, on_read, on_rest, on_verdict, refused_text, says, turn_of, turn_with, without_begun, without_sent, arguments_text, logged_in, on_text_line, wants_response, awaiting_response, copied_words, moved_words, on_stored, move_done, with_copy, copies_of, told_copied}
 use Rattle.laws_client.specs.Commands.{AreNames, HasToldParts, whole_line}
 use Rattle.laws_client.specs.Talks.{Happening, Line, LongLine, Turned, Literal, Heard, leads_to}
 use Rattle.laws_client.specs.ListTurns.{IsPlain, is_inner}
 use Rattle.laws_client.proofs.IdleTags.{AreTagsOf}
 use Rattle.laws_client.proofs.Tags.{TaggedOf, read_tagged_so}
 use Rattle.laws_client.proofs.Turns.{the_turn}
-use Rattle.laws_client.proofs.Untold.{folder_plain, plain_inner}
+use Rattle.laws_client.proofs.Untold.{named_plain, plain_inner}
 use Rattle.laws_client.specs.Cuts.{EndsItself, IsOneAnswer, SaysBye, ends, leaves_open, opens}
 use Rattle.laws_client.proofs.CutBytes.{Ends, Passes, both_pass, passes_none, then_ends}
-use Rattle.laws_client.specs.Fetches.{AreToldParts}
 use Rattle.laws_client.proofs.Parts.{HasTold, read_told}
 use Rattle.laws_client.proofs.CutTexts.{bye_passes, challenge_passes, continuing_passes, text_end, untagged_passes, flags_pass, lines_pass, list_passes, opening_passes, plain_end, row_passes, status_passes, tagged_ends, server_passes, found_passes, plain_name, star_passes}
 use Rattle.laws_client.proofs.LastLines.{IsWord}
@@ -51,21 +41,16 @@ use Rattle.imap_session.specs.declared.texts.ResponseText.TheVariants as texts
 use Rattle.imap_session.specs.Texts.{response_text}
 use Rattle.imap_session.specs.declared.texts.ResponseText.{ResponseText}
 use Rattle.laws_client.proofs.TextRows.{row_inner}
-use Rattle.imap_session.specs.declared.standing.Profile.{Profile}
-use Rattle.imap_session.specs.declared.standing.Profile.TheVariants.{Standard, Compatible}
 use Rattle.imap_session.proofs.Barring.{line_has}
-use Rattle.imap_answers.specs.declared.list.Listing.TheVariants.{All, Subscribed}
-use Rattle.imap_session.specs.declared.texts.ServerText.TheVariants as server
 use Rattle.laws_client.proofs.Barred.{line_case}
-use Rattle.imap_grammar.specs.declared.command.Search.{Search}
-use Rattle.imap_grammar.specs.declared.view.Named.{Named}
-use Rattle.imap_grammar.specs.Keys.{all_messages}
 use Rattle.std.proofs.lemmas.Bool.{false≢true}
 use Rattle.imap_session.proofs.Parts.{IsPart, tells_part, ends_part, asks_part, comes_part, challenge_part}
 use Rattle.laws_client.proofs.WholeLines.{turn_has, text_has, whole_turn, said_has}
 use Rattle.laws_client.proofs.CopyWords.{copied_plain, moved_plain}
-use Rattle.exactly_once.proofs.Copying.{copies_so, TakesBack, back_so, stored_so}
-use Rattle.imap_grammar.specs.declared.command.CopyMessages.{CopyMessages}
+use Rattle.exactly_once.proofs.Copying.{TakesBack, back_so, stored_so}
+use Rattle.laws_client.proofs.EachExchange.{Plays, closed_so, exchange_if, idle_so}
+use Rattle.laws_client.proofs.EachCommand.{Steps, Tells, append_so, command_so, copied_so, idle_line_so, rest_so, select_so, shows_so}
+use Rattle.imap_grammar.specs.declared.command.Verb.TheVariants as verbs
 
 -- ---- what is read
 
@@ -107,8 +92,7 @@ pub data OneOf (tag : List ℕ) (o : Bool) (bytes : List ℕ) : Type 0 where
 
 -- of a turn, if there is one, whose texts are short
 abbrev pub TurnCut : (tag : List ℕ) → (o : Bool) → Option Turn → Type 0
-TurnCut tag o None = Unit {0}
-TurnCut tag o (Some turn) = AreShort turn.events → OneOf tag o turn.bytes
+TurnCut tag o turn = IfSome turn (λ s. AreShort s.events → OneOf tag o s.bytes)
 
 pub one_of : (tag : List ℕ) (o : Bool) (bytes : List ℕ) → OneOf tag o bytes → IsOneAnswer bytes
 one_of tag o bytes (kept_open p why) = opens p
@@ -131,28 +115,8 @@ tagged_one tag words o t h k = ended (tagged_ends tag words t h k) ([], words, r
 bye_of : (tag : List ℕ) (text : ResponseText) (o : Bool) → OneOf tag o (bye (response_text text))
 bye_of tag text o = kept_open (bye_passes text) (inr ([], response_text text, refl))
 
-then_having : (tag : List ℕ) (o : Bool) (call : Call) (answer : Answer) (t : Option Turn) → TurnCut tag o t → TurnCut tag o (option_map (having call answer) t)
-then_having tag o call answer None p = tt
-then_having tag o call answer (Some turn) p = λ short. p short.1
-
-then_reading : (tag : List ℕ) (o : Bool) (uid : ℕ) (mark : Bool) (row : Option Row) (t : Option Turn) → (IsShort row → TurnCut tag o t) → TurnCut tag o (option_map (having (ex.Read uid mark) (Found row)) t)
-then_reading tag o uid mark row None p = tt
-then_reading tag o uid mark row (Some turn) p = λ short. p short.0 short.1
-
-then_saying : (tag : List ℕ) (o : Bool) (bytes : List ℕ) (t : Option Turn) → Passes bytes → TurnCut tag o t → TurnCut tag o (option_map (saying bytes) t)
-then_saying tag o bytes None w p = tt
-then_saying tag o bytes (Some turn) w p = λ short. behind_text tag o bytes turn.bytes w (p short)
-
-then_showing : (tag : List ℕ) (o : Bool) (call : Call) (answer : Answer) (view : List ℕ) (changes : List Change) (t : Option Turn) → TurnCut tag o t → TurnCut tag o (option_map (λ turn. having call answer (saying (lines view changes) turn)) t)
-then_showing tag o call answer view changes None p = tt
-then_showing tag o call answer view changes (Some turn) p = λ short. behind_text tag o (lines view changes) turn.bytes (lines_pass view changes) (p short.1)
-
 closed_cut : (tag : List ℕ) (o : Bool) (bytes : List ℕ) (now : Standing) (how : After) → OneOf tag o bytes → OneOf tag o (saying bytes (closed now how)).bytes
-closed_cut tag o bytes now Go p = subst (OneOf tag o) (sym (append-nil bytes)) p
-closed_cut tag o bytes now Bye p = subst (OneOf tag o) (sym (append-nil bytes)) p
-closed_cut tag o bytes now afters.Idle p = subst (OneOf tag o) (sym (append-nil bytes)) p
-closed_cut tag o bytes now (afters.Literal due) p = subst (OneOf tag o) (sym (append-nil bytes)) p
-closed_cut tag o bytes now afters.Submit p = subst (OneOf tag o) (sym (append-nil bytes)) p
+closed_cut tag o bytes now how p = let whole = subst (OneOf tag o) (sym (append-nil bytes)) p in closed_so (λ s. OneOf tag o (saying bytes s).bytes) now how whole whole
 
 refusal_one : (tag : List ℕ) → IsWord tag → (o : Bool) (fault : MailFault) → OneOf tag o (refusal_text tag fault)
 refusal_one tag t o Stranger = bye_of tag texts.InternalFault o
@@ -163,318 +127,75 @@ refusal_one tag t o NoMemory = tagged_one tag (response_text texts.OutOfMemory) 
 refused_one : (tag : List ℕ) → IsWord tag → (o : Bool) (now : Standing) (fault : MailFault) → OneOf tag o (refused tag now fault).bytes
 refused_one tag t o now fault = closed_cut tag o (refusal_text tag fault) now (refusal_after fault) (refusal_one tag t o fault)
 
+cutting : (tag : List ℕ) → IsWord tag → (o : Bool) → Plays tag (λ now x turn. SaysCut o x → AreShort turn.events → OneOf tag o turn.bytes)
+cutting tag t o = record {
+  done = λ now words how p short. closed_cut tag o (tagged tag words) now how (tagged_one tag words o t p.0 p.1);
+  waits = λ now bytes w p short. subst (OneOf tag o) (sym (append-nil bytes)) (kept_open p.1 (inl p.0));
+  drops = λ now bytes purpose size p short. kept_open passes_none (inl p.0);
+  parts = λ now bytes purpose size p short. subst (OneOf tag o) (sym (append-nil (bye (response_text texts.ByeOutOfMemory)))) (bye_of tag texts.ByeOutOfMemory o);
+  starves = λ now x p short. refused_one tag t o now NoMemory;
+  fails = λ now x call fault p short. refused_one tag t o now fault;
+  writes = λ now bytes x s so p short. behind_text tag o bytes s.bytes p.0 (so p.1 short);
+  puts = λ now bytes x s so p short. behind_text tag o bytes s.bytes p.0 (so p.1 short);
+  enters = λ now selected next a s so p short. so (p a) short.1;
+  looks = λ now by_uid set next a s so p short. so (p a) short.1;
+  reads = λ now uid mark next a s so p short. so (p a short.0) short.1;
+  counts = λ now mailbox next a s so p short. so (p a) short.1;
+  alters = λ now uid op next a s so p short. so (p a) short.1;
+  expunges = λ now uids x met changes gone s so p short. behind_text tag o (lines met changes) s.bytes (lines_pass met changes) (so p short.1);
+  feeds = λ now limit x met changes s so p short. behind_text tag o (lines met changes) s.bytes (lines_pass met changes) (so p short.1);
+  leaves = λ now remove x gone s so p short. so p short.1;
+  discards = λ now mailbox uids x s so p short. so p short.1;
+}
+
 played_cut : (tag : List ℕ) → IsWord tag → (o : Bool) (now : Standing) (x : Exchange) (answers : List Answer) → SaysCut o x → TurnCut tag o (played tag now x answers)
-played_cut tag t o now (ex.Done words how) [] p = (λ short. closed_cut tag o (tagged tag words) now how (tagged_one tag words o t p.0 p.1))
-played_cut tag t o now (ex.Done words how) (answer ∷ more) p = tt
-played_cut tag t o now (ex.Wait bytes waits) [] p = (λ short. subst (OneOf tag o) (sym (append-nil bytes)) (kept_open p.1 (inl p.0)))
-played_cut tag t o now (ex.Wait bytes waits) ((Entered a) ∷ more) p = tt
-played_cut tag t o now (ex.Wait bytes waits) ((Looked a) ∷ more) p = tt
-played_cut tag t o now (ex.Wait bytes waits) ((Found a) ∷ more) p = tt
-played_cut tag t o now (ex.Wait bytes waits) ((Counted a) ∷ more) p = tt
-played_cut tag t o now (ex.Wait bytes waits) ((Altered a) ∷ more) p = tt
-played_cut tag t o now (ex.Wait bytes waits) ((Expunged a b c) ∷ more) p = tt
-played_cut tag t o now (ex.Wait bytes waits) ((Fed a b) ∷ more) p = tt
-played_cut tag t o now (ex.Wait bytes waits) ((Left a) ∷ more) p = tt
-played_cut tag t o now (ex.Wait bytes waits) (Discarded ∷ more) p = tt
-played_cut tag t o now (ex.Wait bytes waits) ((Refused a) ∷ more) p = tt
-played_cut tag t o now (ex.Wait bytes waits) (Starved n ∷ []) p =
-    unkept_by (TurnCut tag o) tt tag now (λ short. refused_one tag t o now NoMemory) (λ purpose size short. kept_open passes_none (inl p.0)) (λ short. subst (OneOf tag o) (sym (append-nil (bye (response_text texts.ByeOutOfMemory)))) (bye_of tag texts.ByeOutOfMemory o)) waits n
-played_cut tag t o now (ex.Wait bytes waits) (Starved n ∷ d ∷ more) p = tt
-played_cut tag t o now (ex.Write bytes x) [] p = then_saying tag o bytes (played tag now x []) p.0 (played_cut tag t o now x [] p.1)
-played_cut tag t o now (ex.Write bytes x) ((Entered a) ∷ more) p = then_saying tag o bytes (played tag now x ((Entered a) ∷ more)) p.0 (played_cut tag t o now x ((Entered a) ∷ more) p.1)
-played_cut tag t o now (ex.Write bytes x) ((Looked a) ∷ more) p = then_saying tag o bytes (played tag now x ((Looked a) ∷ more)) p.0 (played_cut tag t o now x ((Looked a) ∷ more) p.1)
-played_cut tag t o now (ex.Write bytes x) ((Found a) ∷ more) p = then_saying tag o bytes (played tag now x ((Found a) ∷ more)) p.0 (played_cut tag t o now x ((Found a) ∷ more) p.1)
-played_cut tag t o now (ex.Write bytes x) ((Counted a) ∷ more) p = then_saying tag o bytes (played tag now x ((Counted a) ∷ more)) p.0 (played_cut tag t o now x ((Counted a) ∷ more) p.1)
-played_cut tag t o now (ex.Write bytes x) ((Altered a) ∷ more) p = then_saying tag o bytes (played tag now x ((Altered a) ∷ more)) p.0 (played_cut tag t o now x ((Altered a) ∷ more) p.1)
-played_cut tag t o now (ex.Write bytes x) ((Expunged a b c) ∷ more) p = then_saying tag o bytes (played tag now x ((Expunged a b c) ∷ more)) p.0 (played_cut tag t o now x ((Expunged a b c) ∷ more) p.1)
-played_cut tag t o now (ex.Write bytes x) ((Fed a b) ∷ more) p = then_saying tag o bytes (played tag now x ((Fed a b) ∷ more)) p.0 (played_cut tag t o now x ((Fed a b) ∷ more) p.1)
-played_cut tag t o now (ex.Write bytes x) ((Left a) ∷ more) p = then_saying tag o bytes (played tag now x ((Left a) ∷ more)) p.0 (played_cut tag t o now x ((Left a) ∷ more) p.1)
-played_cut tag t o now (ex.Write bytes x) (Discarded ∷ more) p = then_saying tag o bytes (played tag now x (Discarded ∷ more)) p.0 (played_cut tag t o now x (Discarded ∷ more) p.1)
-played_cut tag t o now (ex.Write bytes x) ((Refused a) ∷ more) p = then_saying tag o bytes (played tag now x ((Refused a) ∷ more)) p.0 (played_cut tag t o now x ((Refused a) ∷ more) p.1)
-played_cut tag t o now (ex.Write bytes x) (Starved zero ∷ []) p = (λ short. refused_one tag t o now NoMemory)
-played_cut tag t o now (ex.Write bytes x) (Starved zero ∷ d ∷ more) p = then_saying tag o bytes (played tag now x (Starved zero ∷ d ∷ more)) p.0 (played_cut tag t o now x (Starved zero ∷ d ∷ more) p.1)
-played_cut tag t o now (ex.Write bytes x) (Starved (suc a) ∷ []) p = then_saying tag o bytes (played tag now x (Starved a ∷ [])) p.0 (played_cut tag t o now x (Starved a ∷ []) p.1)
-played_cut tag t o now (ex.Write bytes x) (Starved (suc a) ∷ d ∷ more) p = then_saying tag o bytes (played tag now x (Starved (suc a) ∷ d ∷ more)) p.0 (played_cut tag t o now x (Starved (suc a) ∷ d ∷ more) p.1)
-played_cut tag t o now (ex.Put bytes x) answers p = then_saying tag o bytes (played tag now x answers) p.0 (played_cut tag t o now x answers p.1)
-played_cut tag t o now (ex.Enter selected next) [] p = tt
-played_cut tag t o now (ex.Enter selected next) ((Entered a) ∷ more) p = then_having tag o (ex.Enter selected.mailbox) (Entered a) (played tag (record now { selected = Some selected }) (next a) more) (played_cut tag t o (record now { selected = Some selected }) (next a) more (p a))
-played_cut tag t o now (ex.Enter selected next) ((Looked a) ∷ more) p = tt
-played_cut tag t o now (ex.Enter selected next) ((Found a) ∷ more) p = tt
-played_cut tag t o now (ex.Enter selected next) ((Counted a) ∷ more) p = tt
-played_cut tag t o now (ex.Enter selected next) ((Altered a) ∷ more) p = tt
-played_cut tag t o now (ex.Enter selected next) ((Expunged a b c) ∷ more) p = tt
-played_cut tag t o now (ex.Enter selected next) ((Fed a b) ∷ more) p = tt
-played_cut tag t o now (ex.Enter selected next) ((Left a) ∷ more) p = tt
-played_cut tag t o now (ex.Enter selected next) (Discarded ∷ more) p = tt
-played_cut tag t o now (ex.Enter selected next) (Refused a ∷ []) p = (λ short. refused_one tag t o now a)
-played_cut tag t o now (ex.Enter selected next) (Refused a ∷ d ∷ more) p = tt
-played_cut tag t o now (ex.Enter selected next) ((Starved zero) ∷ more) p = tt
-played_cut tag t o now (ex.Enter selected next) ((Starved (suc a)) ∷ more) p = tt
-played_cut tag t o now (ex.Look by_uid set next) [] p = tt
-played_cut tag t o now (ex.Look by_uid set next) ((Entered a) ∷ more) p = tt
-played_cut tag t o now (ex.Look by_uid set next) ((Looked a) ∷ more) p = then_having tag o (ex.Look by_uid set) (Looked a) (played tag now (next a) more) (played_cut tag t o now (next a) more (p a))
-played_cut tag t o now (ex.Look by_uid set next) ((Found a) ∷ more) p = tt
-played_cut tag t o now (ex.Look by_uid set next) ((Counted a) ∷ more) p = tt
-played_cut tag t o now (ex.Look by_uid set next) ((Altered a) ∷ more) p = tt
-played_cut tag t o now (ex.Look by_uid set next) ((Expunged a b c) ∷ more) p = tt
-played_cut tag t o now (ex.Look by_uid set next) ((Fed a b) ∷ more) p = tt
-played_cut tag t o now (ex.Look by_uid set next) ((Left a) ∷ more) p = tt
-played_cut tag t o now (ex.Look by_uid set next) (Discarded ∷ more) p = tt
-played_cut tag t o now (ex.Look by_uid set next) (Refused a ∷ []) p = (λ short. refused_one tag t o now a)
-played_cut tag t o now (ex.Look by_uid set next) (Refused a ∷ d ∷ more) p = tt
-played_cut tag t o now (ex.Look by_uid set next) (Starved a ∷ more) p = tt
-played_cut tag t o now (ex.Read uid mark next) [] p = tt
-played_cut tag t o now (ex.Read uid mark next) ((Entered a) ∷ more) p = tt
-played_cut tag t o now (ex.Read uid mark next) ((Looked a) ∷ more) p = tt
-played_cut tag t o now (ex.Read uid mark next) ((Found a) ∷ more) p = then_reading tag o uid mark a (played tag now (next a) more) (λ row. played_cut tag t o now (next a) more (p a row))
-played_cut tag t o now (ex.Read uid mark next) ((Counted a) ∷ more) p = tt
-played_cut tag t o now (ex.Read uid mark next) ((Altered a) ∷ more) p = tt
-played_cut tag t o now (ex.Read uid mark next) ((Expunged a b c) ∷ more) p = tt
-played_cut tag t o now (ex.Read uid mark next) ((Fed a b) ∷ more) p = tt
-played_cut tag t o now (ex.Read uid mark next) ((Left a) ∷ more) p = tt
-played_cut tag t o now (ex.Read uid mark next) (Discarded ∷ more) p = tt
-played_cut tag t o now (ex.Read uid mark next) (Refused a ∷ []) p = (λ short. refused_one tag t o now a)
-played_cut tag t o now (ex.Read uid mark next) (Refused a ∷ d ∷ more) p = tt
-played_cut tag t o now (ex.Read uid mark next) ((Starved zero) ∷ more) p = tt
-played_cut tag t o now (ex.Read uid mark next) ((Starved (suc a)) ∷ more) p = tt
-played_cut tag t o now (ex.Count mailbox next) [] p = tt
-played_cut tag t o now (ex.Count mailbox next) ((Entered a) ∷ more) p = tt
-played_cut tag t o now (ex.Count mailbox next) ((Looked a) ∷ more) p = tt
-played_cut tag t o now (ex.Count mailbox next) ((Found a) ∷ more) p = tt
-played_cut tag t o now (ex.Count mailbox next) ((Counted a) ∷ more) p = then_having tag o (ex.Count mailbox) (Counted a) (played tag now (next a) more) (played_cut tag t o now (next a) more (p a))
-played_cut tag t o now (ex.Count mailbox next) ((Altered a) ∷ more) p = tt
-played_cut tag t o now (ex.Count mailbox next) ((Expunged a b c) ∷ more) p = tt
-played_cut tag t o now (ex.Count mailbox next) ((Fed a b) ∷ more) p = tt
-played_cut tag t o now (ex.Count mailbox next) ((Left a) ∷ more) p = tt
-played_cut tag t o now (ex.Count mailbox next) (Discarded ∷ more) p = tt
-played_cut tag t o now (ex.Count mailbox next) (Refused a ∷ []) p = (λ short. refused_one tag t o now a)
-played_cut tag t o now (ex.Count mailbox next) (Refused a ∷ d ∷ more) p = tt
-played_cut tag t o now (ex.Count mailbox next) ((Starved zero) ∷ more) p = tt
-played_cut tag t o now (ex.Count mailbox next) ((Starved (suc a)) ∷ more) p = tt
-played_cut tag t o now (ex.Alter uid op next) [] p = tt
-played_cut tag t o now (ex.Alter uid op next) ((Entered a) ∷ more) p = tt
-played_cut tag t o now (ex.Alter uid op next) ((Looked a) ∷ more) p = tt
-played_cut tag t o now (ex.Alter uid op next) ((Found a) ∷ more) p = tt
-played_cut tag t o now (ex.Alter uid op next) ((Counted a) ∷ more) p = tt
-played_cut tag t o now (ex.Alter uid op next) ((Altered a) ∷ more) p = then_having tag o (ex.Alter uid op) (Altered a) (played tag now (next a) more) (played_cut tag t o now (next a) more (p a))
-played_cut tag t o now (ex.Alter uid op next) ((Expunged a b c) ∷ more) p = tt
-played_cut tag t o now (ex.Alter uid op next) ((Fed a b) ∷ more) p = tt
-played_cut tag t o now (ex.Alter uid op next) ((Left a) ∷ more) p = tt
-played_cut tag t o now (ex.Alter uid op next) (Discarded ∷ more) p = tt
-played_cut tag t o now (ex.Alter uid op next) (Refused a ∷ []) p = (λ short. refused_one tag t o now a)
-played_cut tag t o now (ex.Alter uid op next) (Refused a ∷ d ∷ more) p = tt
-played_cut tag t o now (ex.Alter uid op next) ((Starved zero) ∷ more) p = tt
-played_cut tag t o now (ex.Alter uid op next) ((Starved (suc a)) ∷ more) p = tt
-played_cut tag t o now (ex.Expunge uids x) [] p = tt
-played_cut tag t o now (ex.Expunge uids x) ((Entered a) ∷ more) p = tt
-played_cut tag t o now (ex.Expunge uids x) ((Looked a) ∷ more) p = tt
-played_cut tag t o now (ex.Expunge uids x) ((Found a) ∷ more) p = tt
-played_cut tag t o now (ex.Expunge uids x) ((Counted a) ∷ more) p = tt
-played_cut tag t o now (ex.Expunge uids x) ((Altered a) ∷ more) p = tt
-played_cut tag t o now (ex.Expunge uids x) ((Expunged a b c) ∷ more) p = then_showing tag o (ex.Expunge uids) (Expunged a b c) a b (played tag now x more) (played_cut tag t o now x more p)
-played_cut tag t o now (ex.Expunge uids x) ((Fed a b) ∷ more) p = tt
-played_cut tag t o now (ex.Expunge uids x) ((Left a) ∷ more) p = tt
-played_cut tag t o now (ex.Expunge uids x) (Discarded ∷ more) p = tt
-played_cut tag t o now (ex.Expunge uids x) (Refused a ∷ []) p = (λ short. refused_one tag t o now a)
-played_cut tag t o now (ex.Expunge uids x) (Refused a ∷ d ∷ more) p = tt
-played_cut tag t o now (ex.Expunge uids x) ((Starved zero) ∷ more) p = tt
-played_cut tag t o now (ex.Expunge uids x) ((Starved (suc a)) ∷ more) p = tt
-played_cut tag t o now (ex.Feed limit x) [] p = tt
-played_cut tag t o now (ex.Feed limit x) ((Entered a) ∷ more) p = tt
-played_cut tag t o now (ex.Feed limit x) ((Looked a) ∷ more) p = tt
-played_cut tag t o now (ex.Feed limit x) ((Found a) ∷ more) p = tt
-played_cut tag t o now (ex.Feed limit x) ((Counted a) ∷ more) p = tt
-played_cut tag t o now (ex.Feed limit x) ((Altered a) ∷ more) p = tt
-played_cut tag t o now (ex.Feed limit x) ((Expunged a b c) ∷ more) p = tt
-played_cut tag t o now (ex.Feed limit x) ((Fed a b) ∷ more) p = then_showing tag o (ex.Feed limit) (Fed a b) a b (played tag now x more) (played_cut tag t o now x more p)
-played_cut tag t o now (ex.Feed limit x) ((Left a) ∷ more) p = tt
-played_cut tag t o now (ex.Feed limit x) (Discarded ∷ more) p = tt
-played_cut tag t o now (ex.Feed limit x) (Refused a ∷ []) p = (λ short. refused_one tag t o now a)
-played_cut tag t o now (ex.Feed limit x) (Refused a ∷ d ∷ more) p = tt
-played_cut tag t o now (ex.Feed limit x) ((Starved zero) ∷ more) p = tt
-played_cut tag t o now (ex.Feed limit x) ((Starved (suc a)) ∷ more) p = tt
-played_cut tag t o now (ex.Leave remove x) [] p = tt
-played_cut tag t o now (ex.Leave remove x) ((Entered a) ∷ more) p = tt
-played_cut tag t o now (ex.Leave remove x) ((Looked a) ∷ more) p = tt
-played_cut tag t o now (ex.Leave remove x) ((Found a) ∷ more) p = tt
-played_cut tag t o now (ex.Leave remove x) ((Counted a) ∷ more) p = tt
-played_cut tag t o now (ex.Leave remove x) ((Altered a) ∷ more) p = tt
-played_cut tag t o now (ex.Leave remove x) ((Expunged a b c) ∷ more) p = tt
-played_cut tag t o now (ex.Leave remove x) ((Fed a b) ∷ more) p = tt
-played_cut tag t o now (ex.Leave remove x) (Discarded ∷ more) p = tt
-played_cut tag t o now (ex.Leave remove x) ((Left a) ∷ more) p = then_having tag o (ex.Leave remove) (Left a) (played tag (record now { selected = None }) x more) (played_cut tag t o (record now { selected = None }) x more p)
-played_cut tag t o now (ex.Leave remove x) (Refused a ∷ []) p = (λ short. refused_one tag t o now a)
-played_cut tag t o now (ex.Leave remove x) (Refused a ∷ d ∷ more) p = tt
-played_cut tag t o now (ex.Leave remove x) ((Starved zero) ∷ more) p = tt
-played_cut tag t o now (ex.Leave remove x) ((Starved (suc a)) ∷ more) p = tt
-played_cut tag t o now (ex.Discard mailbox uids x) [] p = tt
-played_cut tag t o now (ex.Discard mailbox uids x) ((Entered a) ∷ more) p = tt
-played_cut tag t o now (ex.Discard mailbox uids x) ((Looked a) ∷ more) p = tt
-played_cut tag t o now (ex.Discard mailbox uids x) ((Found a) ∷ more) p = tt
-played_cut tag t o now (ex.Discard mailbox uids x) ((Counted a) ∷ more) p = tt
-played_cut tag t o now (ex.Discard mailbox uids x) ((Altered a) ∷ more) p = tt
-played_cut tag t o now (ex.Discard mailbox uids x) ((Expunged a b c) ∷ more) p = tt
-played_cut tag t o now (ex.Discard mailbox uids x) ((Fed a b) ∷ more) p = tt
-played_cut tag t o now (ex.Discard mailbox uids x) ((Left a) ∷ more) p = tt
-played_cut tag t o now (ex.Discard mailbox uids x) (Discarded ∷ more) p = then_having tag o (ex.Discard mailbox uids) Discarded (played tag now x more) (played_cut tag t o now x more p)
-played_cut tag t o now (ex.Discard mailbox uids x) (Refused a ∷ []) p = (λ short. refused_one tag t o now a)
-played_cut tag t o now (ex.Discard mailbox uids x) (Refused a ∷ d ∷ more) p = tt
-played_cut tag t o now (ex.Discard mailbox uids x) ((Starved zero) ∷ more) p = tt
-played_cut tag t o now (ex.Discard mailbox uids x) ((Starved (suc a)) ∷ more) p = tt
+played_cut tag t o now x answers p = exchange_if tag (SaysCut o) (λ now turn. AreShort turn.events → OneOf tag o turn.bytes) (cutting tag t o) now x answers p
 
 -- ---- what an exchange is made of
-
-in_either : (o : Bool) → (b : Bool) (x y : Exchange) → SaysCut o x → SaysCut o y → SaysCut o (if b then x else y)
-in_either o true x y p q = p
-in_either o false x y p q = q
-
-in_showing : (o : Bool) → (selected : Option Selected) (x : Exchange) → SaysCut o x → SaysCut o (showing selected x)
-in_showing o None x p = p
-in_showing o (Some selected) x p = p
-
-in_closing : (o : Bool) → (selected : Option Selected) (x : Exchange) → SaysCut o x → SaysCut o (closing selected x)
-in_closing o None x p = p
-in_closing o (Some selected) x p = (untagged_passes texts.PreviousClosed, p)
-
-in_found : {A : Type 0} (o : Bool) (next : A → Exchange) (gone : Exchange) → ((a : A) → SaysCut o (next a)) → SaysCut o gone → (found : Option A) → SaysCut o (on_found next gone found)
-in_found o next gone p q None = q
-in_found o next gone p q (Some a) = p a
-
-in_folder : (o : Bool) → (next : Folder → Exchange) → ((folder : Folder) → IsPlain folder.name → SaysCut o (next folder)) → (found : Option Folder) → IfSome found (λ (folder : Folder). IsPlain folder.name)
-    → SaysCut o (on_found next (says (response_text texts.NoSuchMailbox)) found)
-in_folder o next p None plain = (refl, refl)
-in_folder o next p (Some folder) plain = p folder plain
-
-in_writable : (o : Bool) → (selected : Option Selected) (x : Exchange) → SaysCut o x → SaysCut o (on_found (if_writable x) wrong_state selected)
-in_writable o selected x p = in_found o (if_writable x) wrong_state (λ (s : Selected). in_either o s.read_only (says (response_text texts.ReadOnly)) x (refl, refl) p) (refl, refl) selected
-
-in_chosen : (o : Bool) → (chosen : Option (List ℕ)) (next : List ℕ → Exchange) → ((uids : List ℕ) → SaysCut o (next uids)) → SaysCut o (on_chosen chosen next)
-in_chosen o None next p = (refl, refl)
-in_chosen o (Some uids) next p = p uids
-
-in_done : (o : Bool) → (command : Command) (by_uid gone : Bool) → SaysCut o (completed command) → SaysCut o (messages_done command by_uid gone)
-in_done o command true gone p = p
-in_done o command false true p = (refl, refl)
-in_done o command false false p = p
-
-in_fetching : (o : Bool) → (fetch : Fetch) → AreToldParts fetch.items → (mark : Bool) (view : List ℕ) (done : Bool → Exchange) → ((gone : Bool) → SaysCut o (done gone))
-    → (uids : List ℕ) (gone : Bool) → SaysCut o (fetching fetch mark view done uids gone)
-in_fetching o fetch told mark view done p [] gone = p gone
-in_fetching o fetch told mark view done p (uid ∷ uids) gone =
-    λ row short. by (in_fetching o fetch told mark view done p uids true) (in_fetching o fetch told mark view done p uids gone) row short
-  where
-    by : SaysCut o (fetching fetch mark view done uids true) → SaysCut o (fetching fetch mark view done uids gone) → (row : Option Row) → IsShort row
-        → SaysCut o (on_found (λ (r : Row). ex.Write (fetched fetch view uid r) (fetching fetch mark view done uids gone)) (fetching fetch mark view done uids true) row)
-    by without with None short = without
-    by without with (Some row) short = (row_passes (position uid view) fetch.by_uid fetch.items row short told, with)
-
-in_searching : (o : Bool) (tag : List ℕ) → IsWord tag → (search : Search) (last : Named) (view uids found : List ℕ) → SaysCut o (completed (commands.Search search)) → SaysCut o (searching search last view (search_done tag search) uids found)
-in_searching o tag word search last view [] found p = (found_passes tag word search.by_uid search.returns found, in_done o (commands.Search search) search.by_uid false p)
-in_searching o tag word search last view (uid ∷ uids) found p =
-    λ row short. by (in_searching o tag word search last view uids) row
-  where
-    by : ((more : List ℕ) → SaysCut o (completed (commands.Search search)) → SaysCut o (searching search last view (search_done tag search) uids more)) → (row : Option Row)
-        → SaysCut o (on_found (λ (r : Row). searching search last view (search_done tag search) uids (found ++ found_in search last (named_at view uid) r)) (searching search last view (search_done tag search) uids found) row)
-    by more None = more found p
-    by more (Some row) = more (found ++ found_in search last (named_at view uid) row) p
-
-in_silence : (o : Bool) → (silent : Bool) (text : List ℕ) (x : Exchange) → Passes text → SaysCut o x → SaysCut o (if silent then x else ex.Write text x)
-in_silence o true text x w p = p
-in_silence o false text x w p = (w, p)
-
-in_storing : (o : Bool) → (store : Store) (view : List ℕ) (done : Bool → Exchange) → ((gone : Bool) → SaysCut o (done gone))
-    → (uids : List ℕ) (gone : Bool) → SaysCut o (storing store view done uids gone)
-in_storing o store view done p [] gone = p gone
-in_storing o store view done p (uid ∷ uids) gone =
-    elim [ None ↦ in_storing o store view done p uids true | Some flags ↦ in_silence o store.silent _ _ (flags_pass store.by_uid (position uid view) uid flags) (in_storing o store view done p uids gone) ]
 
 says_cut : (o : Bool) (text : ResponseText) → SaysCut o (says (response_text text))
 says_cut o text = (row_inner text, text_end text)
 
-in_recent : (o : Bool) → (profile : Profile) (x : Exchange) → SaysCut o x → SaysCut o (telling_recent profile x)
-in_recent o Standard x p = p
-in_recent o Compatible x p = (untagged_passes texts.NoneRecent, p)
-
-in_entering : (o : Bool) → (profile : Profile) (read_only : Bool) (folder : Folder) → IsPlain folder.name → SaysCut o (entering profile read_only folder)
-in_entering o profile read_only folder plain opening = (opening_passes read_only folder.name opening plain, in_recent o profile _ (says_cut o (entered_text read_only)))
-
-in_selecting : (o : Bool) → (now : Standing) (read_only : Bool) (name : List ℕ) → AreNames now.folders → SaysCut o (closing now.selected (wanting (on_found (entering now.profile read_only) (says (response_text texts.NoSuchMailbox)) (folder_of name now.folders))))
-in_selecting o now read_only name names = in_closing o now.selected _ (passes_none, in_folder o (entering now.profile read_only) (in_entering o now.profile read_only) (folder_of name now.folders) (folder_plain name now.folders names))
-
-in_subscribing : (o : Bool) → (folders : List Folder) (name : List ℕ) (command : Command) → SaysCut o (wanting (subscribing folders name command))
-in_subscribing o folders name command = (passes_none, in_found o (λ (folder : Folder). completed command) (says (response_text texts.NoSuchMailbox)) (λ folder. says_cut o (texts.Completed (verb_of command))) (refl, refl) (folder_of name folders))
-
-in_over : (o : Bool) → (most : Option ℕ) → SaysCut o (over most)
-in_over o None = (refl, refl)
-in_over o (Some most) = (refl, refl)
+cut_told : (o : Bool) → Tells (SaysCut o)
+cut_told o = record { told = says_cut o; wanted = λ x p. (passes_none, p) }
 
 -- ---- commands
 
-append_cut : (most : Option ℕ) (folders : List Folder) (a : Append) → SaysCut true (appending most folders a)
-append_cut most folders a =
-    in_either true a.literal.waits _ _
-    (passes_none, in_found true _ nowhere (λ (mailbox : ℕ). in_either true (is_over most a.literal.size) (over most) _ (in_over true most) (refl, continuing_passes texts.Ready)) (refl, refl) (number_named a.name folders))
-    (in_either true (nat_lt most_unasked a.literal.size) _ _ (refl, bye_passes texts.LiteralTooBig) (refl, passes_none))
-
-copy_cut : (tag : List ℕ) (now : Standing) (copy : CopyMessages) → SaysCut true (on_command tag now (commands.Copy copy))
-copy_cut tag now copy =
-    copies_so (SaysCut true) (record {
-      told = says_cut true;
-      wanted = λ x p. (passes_none, p);
-      looked = λ by_uid set next p. p;
-      found = λ uid mark next p row short. p row;
-    }) tag now copy
-    (λ batch mailbox row copied. (refl, passes_none))
+cut_steps : (tag : List ℕ) → IsWord tag → (now : Standing) (command : Command) → HasToldParts command → AreNames now.folders → Steps tag now command (λ view. SaysCut (leaves_open command))
+cut_steps tag word now command parts names =
+    let o : Bool = leaves_open command in
+    let done : SaysCut o (completed command) = says_cut o (texts.Completed (verb_of command)) in
+    record {
+      told = λ view text may. says_cut o text;
+      wanted = λ view x p. (passes_none, p);
+      shown = λ view. done;
+      removed = λ view uids. done;
+      noticed = λ view text x p. (server_passes text, p);
+      listed = λ view listing reference pattern x p. (list_passes listing reference pattern now.folders names, p);
+      counted = λ view name items folder x is p status. (status_passes folder.name items status (named_plain name now.folders folder names is), p);
+      looked = λ view by_uid set next p. p;
+      reads = λ view uid mark next p row short. p row;
+      fetches = λ fetch is view mark uid there gone known p q.
+          elim [ None ↦ (λ short. q) | Some row ↦ (λ short. (row_passes (position uid view) fetch.by_uid fetch.items row short (subst HasToldParts is parts), p)) ];
+      alters = λ view uid op there gone p q. elim [ None ↦ q | Some flags ↦ p ];
+      stores = λ by_uid view uid op there gone known p q. elim [ None ↦ q | Some flags ↦ (flags_pass by_uid (position uid view) uid flags, p) ];
+      finds = λ search view found x p. (found_passes tag word search.by_uid search.returns found, p);
+      enters = λ view read_only name off quiet. select_so (SaysCut o) (cut_told o) now read_only name (λ x p. (untagged_passes texts.PreviousClosed, p)) (λ x p. (untagged_passes texts.NoneRecent, p))
+          (λ folder is p opening. (opening_passes read_only folder.name opening (named_plain name now.folders folder names is), p));
+      leaves = λ view remove off quiet. done;
+      idles = λ view is. (ap leaves_open is, continuing_passes texts.Idling);
+      parts = λ view is. (bye_passes texts.LoggingOut, says_cut o (texts.Completed verbs.Logout));
+      appends = λ view append is. append_so (SaysCut o) (cut_told o) now.mailing.most now.folders append (λ mailbox named. (ap leaves_open is, continuing_passes texts.Ready))
+          (ap leaves_open is, passes_none) (ap leaves_open is, bye_passes texts.LiteralTooBig);
+      submits = λ view copy is batch mailbox row copied. (ap leaves_open is, passes_none);
+    }
 
 command_cut : (tag : List ℕ) → IsWord tag → (now : Standing) (command : Command) → HasToldParts command → AreNames now.folders → SaysCut (leaves_open command) (on_command tag now command)
-command_cut tag word now commands.Noop told names = in_showing false now.selected (completed commands.Noop) (refl, refl)
-command_cut tag word now commands.Logout told names = (bye_passes texts.LoggingOut, (refl, refl))
-command_cut tag word now commands.Idle told names = (refl, continuing_passes texts.Idling)
-command_cut tag word now (commands.Login user password) told names = (refl, refl)
-command_cut tag word now (commands.Authenticate a) told names = (refl, refl)
-command_cut tag word now commands.StartTls told names = (refl, refl)
-command_cut tag word now commands.Capability told names = (server_passes (server.Capabilities now.profile), (refl, refl))
-command_cut tag word now commands.Namespace told names = (server_passes server.Namespaces, (refl, refl))
-command_cut tag word now commands.Id told names = (server_passes server.Identity, (refl, refl))
-command_cut tag word now commands.Enable told names = (server_passes server.NoneEnabled, (refl, refl))
-command_cut tag word now (commands.Select name) told names = in_selecting false now false name names
-command_cut tag word now (commands.Examine name) told names = in_selecting false now true name names
-command_cut tag word now (commands.List reference pattern) told names = (list_passes All reference pattern now.folders names, in_showing false now.selected (completed (commands.List reference pattern)) (refl, refl))
-command_cut tag word now (commands.Lsub reference pattern) told names = (list_passes Subscribed reference pattern now.folders names, in_showing false now.selected (completed (commands.Lsub reference pattern)) (refl, refl))
-command_cut tag word now (commands.Subscribe name) told names = in_subscribing false now.folders name (commands.Subscribe name)
-command_cut tag word now (commands.Unsubscribe name) told names = in_subscribing false now.folders name (commands.Unsubscribe name)
-command_cut tag word now commands.Check told names = in_showing false now.selected (completed commands.Check) (refl, refl)
-command_cut tag word now (commands.Status name items) told names =
-    (passes_none, in_folder false (counting now.selected name items) (λ folder plain status. (status_passes folder.name items status plain, in_showing false now.selected (completed (commands.Status name items)) (refl, refl))) (folder_of name now.folders) (folder_plain name now.folders names))
-command_cut tag word now commands.Close told names = in_found false _ wrong_state (λ (s : Selected). (refl, refl)) (refl, refl) now.selected
-command_cut tag word now commands.Unselect told names = in_found false _ wrong_state (λ (s : Selected). (refl, refl)) (refl, refl) now.selected
-command_cut tag word now commands.Expunge told names = in_writable false now.selected (ex.Expunge None (ex.Feed unlimited (completed commands.Expunge))) (refl, refl)
-command_cut tag word now (commands.UidExpunge set) told names =
-    in_writable false now.selected (expunge_set set)
-    (λ view. in_chosen false (named_in true set view) (λ uids. wanting_for uids (ex.Expunge (Some uids) (ex.Feed unlimited (completed (commands.UidExpunge set))))) (elim [ [] ↦ (refl, refl) | uid ∷ uids ↦ (passes_none, (refl, refl)) ]))
-command_cut tag word now (commands.Fetch fetch) told names =
-    in_found false (fetch_messages fetch) wrong_state
-    (λ (s : Selected). (
-      passes_none,
-      λ view. in_chosen false (named_in fetch.by_uid fetch.set view) _
-          (λ uids. in_fetching false fetch told _ view (messages_done (commands.Fetch fetch) fetch.by_uid) (λ gone. in_done false (commands.Fetch fetch) fetch.by_uid gone (says_cut false (texts.Completed (verb_of (commands.Fetch fetch))))) uids false),
-    )) (refl, refl) now.selected
-command_cut tag word now (commands.Search search) told names =
-    in_found false (search_known tag search) wrong_state
-    (λ (s : Selected). in_either false search.known_charset (search_messages tag search) (says (response_text texts.BadCharset))
-    (λ view. in_chosen false (named_in true all_messages view) (λ uids. wanting (searching search (named_at view (last_uid uids)) view (search_done tag search) uids []))
-    (λ uids. (passes_none, in_searching false tag word search (named_at view (last_uid uids)) view uids [] (says_cut false (texts.Completed (verb_of (commands.Search search))))))) (refl, refl)) (refl, refl) now.selected
-command_cut tag word now (commands.Store store) told names =
-    in_writable false now.selected (store_messages store)
-    (λ view. in_chosen false (named_in store.by_uid store.set view) _
-    (λ uids. in_storing false store view (messages_done (commands.Store store) store.by_uid) (λ gone. in_done false (commands.Store store) store.by_uid gone (says_cut false (texts.Completed (verb_of (commands.Store store))))) uids false))
-command_cut tag word now (commands.Append append) told names = append_cut now.mailing.most now.folders append
-command_cut tag word now (commands.Copy copy) told names = copy_cut tag now copy
+command_cut tag word now command parts names = command_so tag now command (λ view. SaysCut (leaves_open command)) (cut_steps tag word now command parts names) []
 
 -- a turn says one answer, whatever its tag
 abbrev pub TurnOne : Option Turn → Type 0
-TurnOne None = Unit {0}
-TurnOne (Some turn) = AreShort turn.events → IsOneAnswer turn.bytes
+TurnOne turn = IfSome turn (λ s. AreShort s.events → IsOneAnswer s.bytes)
 
 plain : (tag : List ℕ) (o : Bool) (turn : Option Turn) → TurnCut tag o turn → TurnOne turn
 plain tag o None p = tt
@@ -485,21 +206,11 @@ plain_turn tag t o now x answers p = plain tag o (played tag now x answers) (pla
 
 -- ---- lines
 
-text_cut : (mailing : Mailing) (a : PendingLiteral) (text : List ℕ) (mailbox : ℕ) → SaysCut true (on_text mailing a text mailbox)
-text_cut mailing a text mailbox =
-    in_either true (is_over mailing.most a.size) (over mailing.most) _ (in_over true mailing.most)
-    (in_either true (list_any (λ b. b == 0) text) (says (response_text texts.NulByte)) _ (refl, refl)
-    (in_either true (nat_le last_number mailing.number) (says (response_text texts.MailboxSpent)) (wanting (ex.Wait [] (ForVerdict Client mailbox (flags_for a.purpose) (record { bytes = text; date = date_for a.purpose })))) (refl, refl) (passes_none, (refl, passes_none))))
-
 rest_cut : (mailing : Mailing) (a : PendingLiteral) (empty : Bool) → SaysCut true (on_rest mailing a empty)
-rest_cut mailing a empty =
-    in_found true (λ text. if empty then on_found (on_text mailing a text) nowhere (mailbox_for a.purpose) else says (response_text texts.InvalidArguments)) (says (response_text texts.OutOfMemory))
-    (λ (text : List ℕ). in_either true empty (on_found (on_text mailing a text) nowhere (mailbox_for a.purpose)) (says (response_text texts.InvalidArguments)) (in_found true (on_text mailing a text) nowhere (text_cut mailing a text) (refl, refl) (mailbox_for a.purpose)) (refl, refl))
-    (refl, refl) a.text
+rest_cut mailing a empty = rest_so (SaysCut true) (cut_told true) mailing a empty (λ text mailbox is named whole fits. (refl, passes_none))
 
 idling_cut : (selected : Option Selected) (line : List ℕ) → SaysCut true (on_idle_line selected line)
-idling_cut selected line =
-    in_either true (is_done line) (showing selected (completed commands.Idle)) (says (response_text texts.ExpectedDone)) (in_showing true selected (completed commands.Idle) (refl, refl)) (refl, refl)
+idling_cut selected line = idle_line_so (SaysCut true) selected line (refl, refl) (refl, refl) (refl, refl)
 
 fault_cut : (fault : ImapFault) (now : Standing) (answers : List Answer) → TaggedOf IsWord (Err fault) → TurnOne (on_read now (Err fault) answers)
 fault_cut faults.NoTag now [] t = λ short. subst IsOneAnswer (sym (append-nil (untagged (response_text texts.MissingTag)))) (opens (untagged_passes texts.MissingTag))
@@ -550,28 +261,9 @@ bye_one : (text : ResponseText) → IsOneAnswer (bye (response_text text) ++ [])
 bye_one text = subst IsOneAnswer (sym (append-nil (bye (response_text text)))) (opens (bye_passes text))
 
 idle_cut : (selected : Option Selected) (idling : Bool) (now : Standing) (answers : List Answer) → TurnOne (idle_turn_in selected idling now answers)
-idle_cut None idling now [] = λ short. opens passes_none
-idle_cut None idling now (answer ∷ more) = tt
-idle_cut (Some s) false now [] = λ short. opens passes_none
-idle_cut (Some s) false now (answer ∷ more) = tt
-idle_cut (Some s) true now [] = tt
-idle_cut (Some s) true now ((Entered a) ∷ more) = tt
-idle_cut (Some s) true now ((Looked a) ∷ more) = tt
-idle_cut (Some s) true now ((Found a) ∷ more) = tt
-idle_cut (Some s) true now ((Counted a) ∷ more) = tt
-idle_cut (Some s) true now ((Altered a) ∷ more) = tt
-idle_cut (Some s) true now ((Expunged a b c) ∷ more) = tt
-idle_cut (Some s) true now (Fed a b ∷ []) = λ short. subst IsOneAnswer (sym (append-nil (lines a b))) (opens (lines_pass a b))
-idle_cut (Some s) true now (Fed a b ∷ d ∷ more) = tt
-idle_cut (Some s) true now ((Left a) ∷ more) = tt
-idle_cut (Some s) true now (Discarded ∷ more) = tt
-idle_cut (Some s) true now (Refused Lapped ∷ []) = λ short. bye_one texts.ChangesMissed
-idle_cut (Some s) true now (Refused Lapped ∷ d ∷ more) = tt
-idle_cut (Some s) true now (Refused Stranger ∷ []) = λ short. bye_one texts.InternalFault
-idle_cut (Some s) true now (Refused Stranger ∷ d ∷ more) = tt
-idle_cut (Some s) true now (Refused Spent ∷ more) = tt
-idle_cut (Some s) true now (Refused NoMemory ∷ more) = tt
-idle_cut (Some s) true now ((Starved a) ∷ more) = tt
+idle_cut selected idling now answers =
+    idle_so (λ turn. AreShort turn.events → IsOneAnswer turn.bytes) now (λ met changes short. subst IsOneAnswer (sym (append-nil (lines met changes))) (opens (lines_pass met changes)))
+    (λ short. bye_one texts.ChangesMissed) (λ short. bye_one texts.InternalFault) (λ short. opens passes_none) selected idling answers
 
 appended_end : (v uid : ℕ) → plain_end (reverse (appended_words v uid)) ≡ true
 appended_end v uid = ap plain_end (reverse-append (codes "OK [APPENDUID " ++ decimal v ++ codes " " ++ decimal uid) (codes "] APPEND completed"))
@@ -580,26 +272,24 @@ appended_end v uid = ap plain_end (reverse-append (codes "OK [APPENDUID " ++ dec
 plain_cut : (words : List ℕ) → IsPlain words → SaysCut true (says words)
 plain_cut words plain = (plain_inner words plain, plain_name words plain)
 
-copied_cut : (selected : Option Selected) (batch : Batch) (moves : Bool) (uidvalidity : ℕ)
-    → SaysCut true (if moves then moving selected uidvalidity batch else showing selected (says (copied_words uidvalidity batch)))
-copied_cut selected batch true uidvalidity =
-    let plain : IsPlain (moved_words uidvalidity batch) = moved_plain uidvalidity batch in (
-      star_passes [] (moved_words uidvalidity batch) refl (plain_inner _ plain) (plain_name _ plain),
-      in_found true (λ (s : Selected). ex.Discard s.mailbox batch.uids (ex.Feed unlimited (move_done batch))) (move_done batch)
-          (λ s. says_cut true (texts.Completed (copy_verb batch.by_uid true))) (says_cut true (texts.Completed (copy_verb batch.by_uid true))) selected,
-    )
-copied_cut selected batch false uidvalidity =
-    in_showing true selected (says (copied_words uidvalidity batch)) (plain_cut (copied_words uidvalidity batch) (copied_plain uidvalidity batch))
+copied_cut : (selected : Option Selected) (batch : Batch) (uidvalidity : ℕ) → SaysCut true (told_copied selected batch uidvalidity)
+copied_cut selected batch uidvalidity =
+    let words : SaysCut true (says (copied_words uidvalidity batch)) = plain_cut (copied_words uidvalidity batch) (copied_plain uidvalidity batch) in
+    let plain : IsPlain (moved_words uidvalidity batch) = moved_plain uidvalidity batch in
+    let done : SaysCut true (move_done batch) = says_cut true (texts.Completed (copy_verb batch.by_uid true)) in
+    copied_so (SaysCut true) selected batch uidvalidity words words (λ x p. (star_passes [] (moved_words uidvalidity batch) refl (plain_inner _ plain) (plain_name _ plain), p)) done (λ s. done)
 
 takes_back : TakesBack (SaysCut true)
 takes_back = record { told = says_cut true; removed = λ mailbox uids x p. p }
 
 stored_cut : (mailing : Mailing) (selected : Option Selected) (origin : Origin) (mailbox uid : ℕ) → SaysCut true (on_stored mailing selected origin mailbox uid)
 stored_cut mailing selected Client mailbox uid =
-    λ status. in_showing true selected (says (appended_words status.uidvalidity uid)) (appended_inner status.uidvalidity uid, appended_end status.uidvalidity uid)
+    λ status.
+    let words : SaysCut true (says (appended_words status.uidvalidity uid)) = (appended_inner status.uidvalidity uid, appended_end status.uidvalidity uid) in
+    shows_so (SaysCut true) selected (says (appended_words status.uidvalidity uid)) words words
 stored_cut mailing selected (Copied batch) mailbox uid =
     stored_so (SaysCut true) takes_back mailing selected batch mailbox uid (λ row left is. (refl, passes_none))
-    (λ none status. copied_cut selected (with_copy uid batch) batch.moves status.uidvalidity)
+    (λ none status. copied_cut selected (with_copy uid batch) status.uidvalidity)
 
 verdict_cut : (mailing : Mailing) (selected : Option Selected) (origin : Origin) (mailbox : ℕ) (verdict : Verdict)
     → SaysCut true (on_verdict mailing selected origin mailbox verdict)

@@ -1,53 +1,40 @@
--- A client reads what a session says in a turn, over whatever store: by induction over the exchange, a clause for each answer that there is.
-use Rattle.std.proofs.Common.{zero, suc, ◌≡◌, ℕ, List, [], ◌∷◌, refl}
+-- A client reads what a session says in a turn, over whatever store.
+use Rattle.std.proofs.Common.{◌≡◌, ℕ, List, [], refl}
 use Rattle.std.specs.Prelude.{Some}
-use Rattle.std.proofs.lemmas.Option.{none-some}
 use Rattle.mailbox.specs.declared.clients.MailFault.TheVariants.{NoMemory}
-use Rattle.imap_session.specs.Exchange.{Answer, Looked, Found, Counted, Altered, Expunged, Fed, Refused, Starved, Exchange, Done, Wait, Write, Put, Enter, Look, Read, Count, Alter, Expunge, Feed, Leave, Standing, Turn, after_waiting, tagged, played, waiting, Discard, Discarded}
+use Rattle.imap_session.specs.Exchange.{Answer, Looked, Found, Counted, Altered, Expunged, Fed, Exchange, Look, Read, Count, Alter, Expunge, Feed, Standing, Turn, bye, tagged, played, Discard, Discarded}
 use Rattle.laws_client.specs.Flags.{Point}
 use Rattle.laws_client.specs.FlagTurns.{LeadsFlags}
 use Rattle.laws_client.proofs.FlagMoments.{SeesAllMoments}
-use Rattle.laws_client.proofs.Turning.{Refusals, SaysFlags, calls, ends, gives_up, goes_without, is_refused, shows, waits_on, writes}
+use Rattle.imap_session.specs.declared.texts.ResponseText.TheVariants as texts
+use Rattle.imap_session.specs.Texts.{response_text}
+use Rattle.laws_client.proofs.EachExchange.{Plays, turn_so}
+use Rattle.laws_client.proofs.Turning.{Refusals, SaysFlags, called_first, ends_so, starved_so, refused_so, leaves, shown_first, said_waiting, said_first}
+
+telling : (tag : List ℕ) → Refusals tag → Plays tag (λ now x turn. (p q : Point) → SaysFlags tag p x → SeesAllMoments p turn.events q → LeadsFlags p turn.bytes q)
+telling tag refusals = record {
+  done = λ now words how p q says sees. ends_so p now (tagged tag words) how q says sees;
+  waits = λ now bytes w p q says sees. said_waiting p bytes q says sees;
+  drops = λ now bytes purpose size p q says sees. said_waiting p [] q (leaves p [] (λ messages. refl)) sees;
+  parts = λ now bytes purpose size p q says sees. said_waiting p (bye (response_text texts.ByeOutOfMemory)) q (leaves p _ (λ messages. refl)) sees;
+  starves = λ now x p q says sees. starved_so tag refusals p now NoMemory q sees;
+  fails = λ now x call fault p q says sees. refused_so tag refusals p now call fault q sees;
+  writes = λ now bytes x s so p q says sees. said_first p bytes s q says.0 (so p q says.1 sees);
+  puts = λ now bytes x s so p q says sees. said_first p bytes s q says.0 (so p q says.1 sees);
+  enters = λ now selected next a s so p q says sees. absurd says;
+  looks = λ now by_uid set next a s so p q says sees. called_first p (Look by_uid set) (Looked a) s q sees refl (λ mid is. is) (λ mid is more. so mid q (says a mid is) more);
+  reads = λ now uid mark next a s so p q says sees. called_first p (Read uid mark) (Found a) s q sees refl (λ mid is. is) (λ mid is more. so mid q (says a mid is) more);
+  counts = λ now mailbox next a s so p q says sees. called_first p (Count mailbox) (Counted a) s q sees refl (λ mid is. is) (λ mid is more. so mid q (says a mid is) more);
+  alters = λ now uid op next a s so p q says sees. called_first p (Alter uid op) (Altered a) s q sees refl (λ mid is. is) (λ mid is more. so mid q (says a mid is) more);
+  expunges = λ now uids x met changes gone s so p q says sees.
+      shown_first p (Expunge uids) (Expunged met changes gone) met changes (λ mid is. (is.sees.leads.0, is.sees.fits)) refl (λ mid is. is) s q sees (λ mid more. so mid q (says mid) more);
+  feeds = λ now limit x met changes s so p q says sees.
+      shown_first p (Feed limit) (Fed met changes) met changes (λ mid is. (is.sees.leads.0, is.sees.fits)) refl (λ mid is. is) s q sees (λ mid more. so mid q (says mid) more);
+  leaves = λ now remove x gone s so p q says sees. absurd says;
+  discards = λ now mailbox uids x s so p q says sees. called_first p (Discard mailbox uids) Discarded s q sees refl (λ mid is. is) (λ mid is more. so mid q (says mid is) more);
+}
 
 pub turn_tells : (tag : List ℕ) (refusals : Refusals tag) (p : Point) (now : Standing) (x : Exchange) (answers : List Answer) (turn : Turn) (q : Point)
     → played tag now x answers ≡ Some turn → SaysFlags tag p x → SeesAllMoments p turn.events q → LeadsFlags p turn.bytes q
-turn_tells tag refusals p now (Done words how) [] turn q e says sees = ends p now (tagged tag words) how turn q e says sees
-turn_tells tag refusals p now (Done words how) (a ∷ more) turn q e says sees = absurd (none-some turn e)
-turn_tells tag refusals p now (Wait bytes w) [] turn q e says sees = waits_on p bytes (after_waiting w) (waiting tag w now) turn q e says sees
-turn_tells tag refusals p now (Wait bytes w) (Starved n ∷ []) turn q e says sees = goes_without tag refusals p now w n turn q e sees
-turn_tells tag refusals p now (Wait bytes w) (_ ∷ more) turn q e says sees = absurd (none-some turn e)
-turn_tells tag refusals p now (Write bytes x) [] turn q e says sees = writes p bytes (played tag now x []) turn q e sees says.0 (λ t d s. turn_tells tag refusals p now x [] t q d says.1 s)
-turn_tells tag refusals p now (Write bytes x) (Starved zero ∷ []) turn q e says sees = gives_up tag refusals p now NoMemory turn q e sees
-turn_tells tag refusals p now (Write bytes x) (Starved (suc n) ∷ []) turn q e says sees = writes p bytes (played tag now x (Starved n ∷ [])) turn q e sees says.0 (λ t d s. turn_tells tag refusals p now x (Starved n ∷ []) t q d says.1 s)
-turn_tells tag refusals p now (Write bytes x) (given ∷ more) turn q e says sees = writes p bytes (played tag now x (given ∷ more)) turn q e sees says.0 (λ t d s. turn_tells tag refusals p now x (given ∷ more) t q d says.1 s)
-turn_tells tag refusals p now (Put bytes x) answers turn q e says sees = writes p bytes (played tag now x answers) turn q e sees says.0 (λ t d s. turn_tells tag refusals p now x answers t q d says.1 s)
-turn_tells tag refusals p now (Enter selected next) answers turn q e says sees = absurd says
-turn_tells tag refusals p now (Leave remove x) answers turn q e says sees = absurd says
-turn_tells tag refusals p now (Look by_uid set next) [] turn q e says sees = absurd (none-some turn e)
-turn_tells tag refusals p now (Look by_uid set next) (Looked a ∷ more) turn q e says sees = calls p (Look by_uid set) (Looked a) (played tag now (next a) more) turn q e sees refl (λ mid s. s) (λ t mid s d more_seen. turn_tells tag refusals mid now (next a) more t q d (says a mid s) more_seen)
-turn_tells tag refusals p now (Look by_uid set next) (Refused a ∷ []) turn q e says sees = is_refused tag refusals p now (Look by_uid set) a turn q e sees
-turn_tells tag refusals p now (Look by_uid set next) (_ ∷ more) turn q e says sees = absurd (none-some turn e)
-turn_tells tag refusals p now (Read uid mark next) [] turn q e says sees = absurd (none-some turn e)
-turn_tells tag refusals p now (Read uid mark next) (Found a ∷ more) turn q e says sees = calls p (Read uid mark) (Found a) (played tag now (next a) more) turn q e sees refl (λ mid s. s) (λ t mid s d more_seen. turn_tells tag refusals mid now (next a) more t q d (says a mid s) more_seen)
-turn_tells tag refusals p now (Read uid mark next) (Refused a ∷ []) turn q e says sees = is_refused tag refusals p now (Read uid mark) a turn q e sees
-turn_tells tag refusals p now (Read uid mark next) (_ ∷ more) turn q e says sees = absurd (none-some turn e)
-turn_tells tag refusals p now (Count mailbox next) [] turn q e says sees = absurd (none-some turn e)
-turn_tells tag refusals p now (Count mailbox next) (Counted a ∷ more) turn q e says sees = calls p (Count mailbox) (Counted a) (played tag now (next a) more) turn q e sees refl (λ mid s. s) (λ t mid s d more_seen. turn_tells tag refusals mid now (next a) more t q d (says a mid s) more_seen)
-turn_tells tag refusals p now (Count mailbox next) (Refused a ∷ []) turn q e says sees = is_refused tag refusals p now (Count mailbox) a turn q e sees
-turn_tells tag refusals p now (Count mailbox next) (_ ∷ more) turn q e says sees = absurd (none-some turn e)
-turn_tells tag refusals p now (Alter uid op next) [] turn q e says sees = absurd (none-some turn e)
-turn_tells tag refusals p now (Alter uid op next) (Altered a ∷ more) turn q e says sees = calls p (Alter uid op) (Altered a) (played tag now (next a) more) turn q e sees refl (λ mid s. s) (λ t mid s d more_seen. turn_tells tag refusals mid now (next a) more t q d (says a mid s) more_seen)
-turn_tells tag refusals p now (Alter uid op next) (Refused a ∷ []) turn q e says sees = is_refused tag refusals p now (Alter uid op) a turn q e sees
-turn_tells tag refusals p now (Alter uid op next) (_ ∷ more) turn q e says sees = absurd (none-some turn e)
-turn_tells tag refusals p now (Expunge uids x) [] turn q e says sees = absurd (none-some turn e)
-turn_tells tag refusals p now (Expunge uids x) (Expunged a b c ∷ more) turn q e says sees = shows p (Expunge uids) (Expunged a b c) a b (λ mid s. (s.sees.leads.0, s.sees.fits)) refl (λ mid s. s) (played tag now x more) turn q e sees (λ t mid d s. turn_tells tag refusals mid now x more t q d (says mid) s)
-turn_tells tag refusals p now (Expunge uids x) (Refused a ∷ []) turn q e says sees = is_refused tag refusals p now (Expunge uids) a turn q e sees
-turn_tells tag refusals p now (Expunge uids x) (_ ∷ more) turn q e says sees = absurd (none-some turn e)
-turn_tells tag refusals p now (Feed limit x) [] turn q e says sees = absurd (none-some turn e)
-turn_tells tag refusals p now (Feed limit x) (Fed a b ∷ more) turn q e says sees = shows p (Feed limit) (Fed a b) a b (λ mid s. (s.sees.leads.0, s.sees.fits)) refl (λ mid s. s) (played tag now x more) turn q e sees (λ t mid d s. turn_tells tag refusals mid now x more t q d (says mid) s)
-turn_tells tag refusals p now (Feed limit x) (Refused a ∷ []) turn q e says sees = is_refused tag refusals p now (Feed limit) a turn q e sees
-turn_tells tag refusals p now (Feed limit x) (_ ∷ more) turn q e says sees = absurd (none-some turn e)
-turn_tells tag refusals p now (Discard mailbox uids x) [] turn q e says sees = absurd (none-some turn e)
-turn_tells tag refusals p now (Discard mailbox uids x) (Discarded ∷ more) turn q e says sees = calls p (Discard mailbox uids) Discarded (played tag now x more) turn q e sees refl (λ mid s. s) (λ t mid s d more_seen. turn_tells tag refusals mid now x more t q d (says mid s) more_seen)
-turn_tells tag refusals p now (Discard mailbox uids x) (Refused a ∷ []) turn q e says sees = is_refused tag refusals p now (Discard mailbox uids) a turn q e sees
-turn_tells tag refusals p now (Discard mailbox uids x) (_ ∷ more) turn q e says sees = absurd (none-some turn e)
+turn_tells tag refusals p now x answers turn q e says sees =
+    turn_so tag (λ now x turn. (p q : Point) → SaysFlags tag p x → SeesAllMoments p turn.events q → LeadsFlags p turn.bytes q) (telling tag refusals) now x answers turn e p q says sees

@@ -1,10 +1,8 @@
--- What stays so of a session while it answers, by induction over the exchange, a clause for each answer that there is; and so the tags that it keeps are tags.
-use Rattle.std.proofs.Common.{zero, suc, ◌≡◌, ℕ, Bool, true, List, [], ◌∷◌, length, ap, refl, subst, sym}
+-- What stays so of a session while it answers; and so the tags that it keeps are tags.
+use Rattle.std.proofs.Common.{◌≡◌, ℕ, Bool, true, List, [], ◌∷◌, length, ap, subst}
 use Rattle.std.specs.Prelude.{Option, Some, None, IfSome, Result, Ok, Err, ◌==◌}
 use Rattle.std.specs.Option.{option_map}
 use Rattle.std.proofs.lemmas.Option.{none-some}
-use Rattle.cursor_set.specs.Lines.{lines}
-use Rattle.mailbox.specs.declared.clients.MailFault.{MailFault}
 use Rattle.mailbox.specs.declared.clients.MailFault.TheVariants.{NoMemory}
 use Rattle.imap_grammar.specs.Bytes.{is_tag}
 use Rattle.imap_grammar.specs.Items.{is_word_of}
@@ -12,16 +10,14 @@ use Rattle.imap_grammar.specs.Reading.{read}
 use Rattle.imap_grammar.specs.declared.command.Command.{Command}
 use Rattle.imap_grammar.specs.declared.command.ImapFault.{ImapFault}
 use Rattle.imap_session.specs.declared.standing.After.{After}
-use Rattle.imap_session.specs.declared.standing.After.TheVariants.{Go, Bye}
-use Rattle.imap_session.specs.declared.standing.After.TheVariants as afters
 use Rattle.imap_session.specs.declared.standing.Selected.{Selected}
-use Rattle.imap_session.specs.Exchange.{Answer, Entered, Looked, Found, Counted, Altered, Expunged, Fed, Left, Refused, Starved, Exchange, ForDone, ForLiteral, ForVerdict, ForNothing, Done, Wait, Write, Put, Enter, Look, Read, Count, Alter, Expunge, Feed, Leave, Standing, Turn, PendingLiteral, Sent, Waiting, closed, having, played, refusal_after, refusal_text, refused, saying, tagged, waiting, Dropped, unkept, Discard, Discarded}
-use Rattle.imap_session.proofs.Unkept.{unkept_by}
+use Rattle.imap_session.specs.Exchange.{Answer, Exchange, ForDone, ForLiteral, ForVerdict, ForNothing, Standing, Turn, PendingLiteral, Sent, Waiting, closed, played, refusal_after, waiting, Dropped, nameless}
 use Rattle.imap_session.specs.Commands.{fault_text, on_command, on_idle_line, on_read, on_rest, on_verdict, only_says, taking, turn_of, turn_of_verdict, turn_with, with_bytes, without_begun, without_sent, logged_in, completed, on_text_line, says}
 use Rattle.delivery_token.specs.declared.Verdict.{Verdict}
 use Rattle.laws_client.specs.ListTurns.{IsTag}
 use Rattle.laws_client.specs.ListLaws.{KeptTagsAreTags}
 use Rattle.laws_client.proofs.Tags.{TaggedOf, read_tagged_so, word_is_tag}
+use Rattle.laws_client.proofs.EachExchange.{Plays, closed_so, turn_so}
 use Rattle.laws_client.proofs.Turns.{the_turn}
 use Rattle.imap_session.specs.Texts.{response_text}
 use Rattle.laws_client.proofs.Barred.{line_case}
@@ -36,81 +32,32 @@ pub record Keeps (Q : Standing → Type 0) (tag : List ℕ) : Type 0 where
 abbrev pub Kept : (Standing → Type 0) → Turn → Type 0
 Kept Q turn = Q turn.standing
 
--- a turn with an event or a text more
-maps : (Q : Standing → Type 0) → (f : Turn → Turn) → ((s : Turn) → (f s).standing ≡ s.standing) → (rest : Option Turn) (turn : Turn) → option_map f rest ≡ Some turn → ((more : Turn) → rest ≡ Some more → Kept Q more) → Kept Q turn
-maps Q f same None turn e behind = absurd (none-some turn e)
-maps Q f same (Some more) turn e behind =
-    subst (λ (s : Turn). Kept Q s) (ap (the_turn turn) e) (subst Q (sym (same more)) (behind more refl))
-
 closed_keeps : (Q : Standing → Type 0) (tag : List ℕ) → Keeps Q tag → (now : Standing) (how : After) → Q now → Kept Q (closed now how)
-closed_keeps Q tag K now Go k = k
-closed_keeps Q tag K now Bye k = K.ends now k
-closed_keeps Q tag K now afters.Idle k = k
-closed_keeps Q tag K now (afters.Literal due) k = k
-closed_keeps Q tag K now afters.Submit k = k
+closed_keeps Q tag K now how k = closed_so (Kept Q) now how k (K.ends now k)
 
--- a turn that ends
-told : (Q : Standing → Type 0) (tag : List ℕ) → Keeps Q tag → (now : Standing) (f : Turn → Turn) → ((s : Turn) → (f s).standing ≡ s.standing) → (how : After) (turn : Turn) → Q now → Some (f (closed now how)) ≡ Some turn → Kept Q turn
-told Q tag K now f same how turn k e = maps Q f same (Some (closed now how)) turn e (λ more d. subst (λ (s : Turn). Kept Q s) (ap (the_turn more) d) (closed_keeps Q tag K now how k))
-
-given_up : (Q : Standing → Type 0) (tag : List ℕ) → Keeps Q tag → (now : Standing) (fault : MailFault) (turn : Turn) → Q now → Some (refused tag now fault) ≡ Some turn → Kept Q turn
-given_up Q tag K now fault turn k e = told Q tag K now (saying (refusal_text tag fault)) (λ s. refl) (refusal_after fault) turn k e
-
--- memory is refused to who was to wait
-goes_without : (Q : Standing → Type 0) (tag : List ℕ) → Keeps Q tag → (now : Standing) (w : Waiting) (n : ℕ) (turn : Turn) → Q now → unkept tag w now n ≡ Some turn → Kept Q turn
-goes_without Q tag K now w n turn k e =
-    let R : Option Turn → Type 0 = λ o. o ≡ Some turn → Kept Q turn in
-    unkept_by R (λ d. absurd (none-some turn d)) tag now (λ d. given_up Q tag K now NoMemory turn k d)
-    (λ purpose size d. subst (λ (s : Turn). Kept Q s) (ap (the_turn turn) d) (K.waits now (ForLiteral Dropped purpose size) k))
-    (λ d. subst (λ (s : Turn). Kept Q s) (ap (the_turn turn) d) (K.waits now ForNothing k)) w n e
+keeping : (Q : Standing → Type 0) (tag : List ℕ) → Keeps Q tag → Plays tag (λ now x turn. Q now → Kept Q turn)
+keeping Q tag K = record {
+  done = λ now words how. closed_keeps Q tag K now how;
+  waits = λ now bytes w. K.waits now w;
+  drops = λ now bytes purpose size. K.waits now (ForLiteral Dropped (nameless purpose) size);
+  parts = λ now bytes purpose size. K.waits now ForNothing;
+  starves = λ now x. closed_keeps Q tag K now (refusal_after NoMemory);
+  fails = λ now x call fault. closed_keeps Q tag K now (refusal_after fault);
+  writes = λ now bytes x s so. so;
+  puts = λ now bytes x s so. so;
+  enters = λ now selected next a s so k. so (K.enters now (Some selected) k);
+  looks = λ now by_uid set next a s so. so;
+  reads = λ now uid mark next a s so. so;
+  counts = λ now mailbox next a s so. so;
+  alters = λ now uid op next a s so. so;
+  expunges = λ now uids x met changes gone s so. so;
+  feeds = λ now limit x met changes s so. so;
+  leaves = λ now remove x gone s so k. so (K.enters now None k);
+  discards = λ now mailbox uids x s so. so;
+}
 
 pub played_keeps : (Q : Standing → Type 0) (tag : List ℕ) → Keeps Q tag → (now : Standing) (x : Exchange) (answers : List Answer) (turn : Turn) → Q now → played tag now x answers ≡ Some turn → Kept Q turn
-played_keeps Q tag K now (Done words how) [] turn k e = told Q tag K now (saying (tagged tag words)) (λ s. refl) how turn k e
-played_keeps Q tag K now (Done words how) (a ∷ more) turn k e = absurd (none-some turn e)
-played_keeps Q tag K now (Wait bytes w) [] turn k e = subst (λ (s : Turn). Kept Q s) (ap (the_turn turn) e) (K.waits now w k)
-played_keeps Q tag K now (Wait bytes w) (Starved n ∷ []) turn k e = goes_without Q tag K now w n turn k e
-played_keeps Q tag K now (Wait bytes w) (_ ∷ more) turn k e = absurd (none-some turn e)
-played_keeps Q tag K now (Write bytes x) [] turn k e = maps Q (saying bytes) (λ s. refl) (played tag now x []) turn e (λ s d. played_keeps Q tag K now x [] s k d)
-played_keeps Q tag K now (Write bytes x) (Starved zero ∷ []) turn k e = given_up Q tag K now NoMemory turn k e
-played_keeps Q tag K now (Write bytes x) (Starved (suc n) ∷ []) turn k e = maps Q (saying bytes) (λ s. refl) (played tag now x (Starved n ∷ [])) turn e (λ s d. played_keeps Q tag K now x (Starved n ∷ []) s k d)
-played_keeps Q tag K now (Write bytes x) (given ∷ more) turn k e = maps Q (saying bytes) (λ s. refl) (played tag now x (given ∷ more)) turn e (λ s d. played_keeps Q tag K now x (given ∷ more) s k d)
-played_keeps Q tag K now (Put bytes x) answers turn k e = maps Q (saying bytes) (λ s. refl) (played tag now x answers) turn e (λ s d. played_keeps Q tag K now x answers s k d)
-played_keeps Q tag K now (Enter selected next) [] turn k e = absurd (none-some turn e)
-played_keeps Q tag K now (Enter selected next) (Entered a ∷ more) turn k e = maps Q (having (Enter selected.mailbox) (Entered a)) (λ s. refl) (played tag (record now { selected = Some selected }) (next a) more) turn e (λ s d. played_keeps Q tag K (record now { selected = Some selected }) (next a) more s (K.enters now (Some selected) k) d)
-played_keeps Q tag K now (Enter selected next) (Refused a ∷ []) turn k e = told Q tag K now (λ s. having (Enter selected.mailbox) (Refused a) (saying (refusal_text tag a) s)) (λ s. refl) (refusal_after a) turn k e
-played_keeps Q tag K now (Enter selected next) (_ ∷ more) turn k e = absurd (none-some turn e)
-played_keeps Q tag K now (Look by_uid set next) [] turn k e = absurd (none-some turn e)
-played_keeps Q tag K now (Look by_uid set next) (Looked a ∷ more) turn k e = maps Q (having (Look by_uid set) (Looked a)) (λ s. refl) (played tag now (next a) more) turn e (λ s d. played_keeps Q tag K now (next a) more s k d)
-played_keeps Q tag K now (Look by_uid set next) (Refused a ∷ []) turn k e = told Q tag K now (λ s. having (Look by_uid set) (Refused a) (saying (refusal_text tag a) s)) (λ s. refl) (refusal_after a) turn k e
-played_keeps Q tag K now (Look by_uid set next) (_ ∷ more) turn k e = absurd (none-some turn e)
-played_keeps Q tag K now (Read uid mark next) [] turn k e = absurd (none-some turn e)
-played_keeps Q tag K now (Read uid mark next) (Found a ∷ more) turn k e = maps Q (having (Read uid mark) (Found a)) (λ s. refl) (played tag now (next a) more) turn e (λ s d. played_keeps Q tag K now (next a) more s k d)
-played_keeps Q tag K now (Read uid mark next) (Refused a ∷ []) turn k e = told Q tag K now (λ s. having (Read uid mark) (Refused a) (saying (refusal_text tag a) s)) (λ s. refl) (refusal_after a) turn k e
-played_keeps Q tag K now (Read uid mark next) (_ ∷ more) turn k e = absurd (none-some turn e)
-played_keeps Q tag K now (Count mailbox next) [] turn k e = absurd (none-some turn e)
-played_keeps Q tag K now (Count mailbox next) (Counted a ∷ more) turn k e = maps Q (having (Count mailbox) (Counted a)) (λ s. refl) (played tag now (next a) more) turn e (λ s d. played_keeps Q tag K now (next a) more s k d)
-played_keeps Q tag K now (Count mailbox next) (Refused a ∷ []) turn k e = told Q tag K now (λ s. having (Count mailbox) (Refused a) (saying (refusal_text tag a) s)) (λ s. refl) (refusal_after a) turn k e
-played_keeps Q tag K now (Count mailbox next) (_ ∷ more) turn k e = absurd (none-some turn e)
-played_keeps Q tag K now (Alter uid op next) [] turn k e = absurd (none-some turn e)
-played_keeps Q tag K now (Alter uid op next) (Altered a ∷ more) turn k e = maps Q (having (Alter uid op) (Altered a)) (λ s. refl) (played tag now (next a) more) turn e (λ s d. played_keeps Q tag K now (next a) more s k d)
-played_keeps Q tag K now (Alter uid op next) (Refused a ∷ []) turn k e = told Q tag K now (λ s. having (Alter uid op) (Refused a) (saying (refusal_text tag a) s)) (λ s. refl) (refusal_after a) turn k e
-played_keeps Q tag K now (Alter uid op next) (_ ∷ more) turn k e = absurd (none-some turn e)
-played_keeps Q tag K now (Expunge uids x) [] turn k e = absurd (none-some turn e)
-played_keeps Q tag K now (Expunge uids x) (Expunged a b c ∷ more) turn k e = maps Q (λ s. having (Expunge uids) (Expunged a b c) (saying (lines a b) s)) (λ s. refl) (played tag now x more) turn e (λ s d. played_keeps Q tag K now x more s k d)
-played_keeps Q tag K now (Expunge uids x) (Refused a ∷ []) turn k e = told Q tag K now (λ s. having (Expunge uids) (Refused a) (saying (refusal_text tag a) s)) (λ s. refl) (refusal_after a) turn k e
-played_keeps Q tag K now (Expunge uids x) (_ ∷ more) turn k e = absurd (none-some turn e)
-played_keeps Q tag K now (Feed limit x) [] turn k e = absurd (none-some turn e)
-played_keeps Q tag K now (Feed limit x) (Fed a b ∷ more) turn k e = maps Q (λ s. having (Feed limit) (Fed a b) (saying (lines a b) s)) (λ s. refl) (played tag now x more) turn e (λ s d. played_keeps Q tag K now x more s k d)
-played_keeps Q tag K now (Feed limit x) (Refused a ∷ []) turn k e = told Q tag K now (λ s. having (Feed limit) (Refused a) (saying (refusal_text tag a) s)) (λ s. refl) (refusal_after a) turn k e
-played_keeps Q tag K now (Feed limit x) (_ ∷ more) turn k e = absurd (none-some turn e)
-played_keeps Q tag K now (Leave remove x) [] turn k e = absurd (none-some turn e)
-played_keeps Q tag K now (Leave remove x) (Left a ∷ more) turn k e = maps Q (having (Leave remove) (Left a)) (λ s. refl) (played tag (record now { selected = None }) x more) turn e (λ s d. played_keeps Q tag K (record now { selected = None }) x more s (K.enters now None k) d)
-played_keeps Q tag K now (Leave remove x) (Refused a ∷ []) turn k e = told Q tag K now (λ s. having (Leave remove) (Refused a) (saying (refusal_text tag a) s)) (λ s. refl) (refusal_after a) turn k e
-played_keeps Q tag K now (Leave remove x) (_ ∷ more) turn k e = absurd (none-some turn e)
-played_keeps Q tag K now (Discard mailbox uids x) [] turn k e = absurd (none-some turn e)
-played_keeps Q tag K now (Discard mailbox uids x) (Discarded ∷ more) turn k e = maps Q (having (Discard mailbox uids) Discarded) (λ s. refl) (played tag now x more) turn e (λ s d. played_keeps Q tag K now x more s k d)
-played_keeps Q tag K now (Discard mailbox uids x) (Refused a ∷ []) turn k e = told Q tag K now (λ s. having (Discard mailbox uids) (Refused a) (saying (refusal_text tag a) s)) (λ s. refl) (refusal_after a) turn k e
-played_keeps Q tag K now (Discard mailbox uids x) (_ ∷ more) turn k e = absurd (none-some turn e)
+played_keeps Q tag K now x answers turn k e = turn_so tag (λ now x turn. Q now → Kept Q turn) (keeping Q tag K) now x answers turn e k
 
 -- ---- tags
 

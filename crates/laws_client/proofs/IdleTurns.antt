@@ -1,38 +1,26 @@
 -- A client reads what a session says in a turn while it idles.
-use Rattle.std.proofs.Common.{◌≡◌, ℕ, List, [], ◌∷◌, Bool, true, false, refl}
-use Rattle.std.specs.Prelude.{Option, Some, None}
-use Rattle.std.proofs.lemmas.Option.{none-some}
-use Rattle.mailbox.specs.declared.clients.MailFault.TheVariants.{Stranger, Lapped, Spent, NoMemory}
-use Rattle.imap_session.specs.declared.standing.Selected.{Selected}
+use Rattle.std.proofs.Common.{ℕ, List, [], refl}
+use Rattle.mailbox.specs.declared.clients.MailFault.{MailFault}
+use Rattle.mailbox.specs.declared.clients.MailFault.TheVariants.{Stranger, Lapped}
 use Rattle.imap_session.specs.declared.standing.After.TheVariants as afters
-use Rattle.imap_session.specs.Exchange.{Answer, Fed, Refused, Feed, Standing, Turn, is_idling, nothing_more, refusal_text, refusal_after, refused}
+use Rattle.imap_session.specs.Exchange.{Fed, Refused, Feed, Standing, Turn, having, is_idling, nothing_more, refusal_text, refusal_after, refused}
 use Rattle.imap_session.specs.Commands.{idle_turn_in, most_changes}
-use Rattle.laws_client.specs.Beliefs.{Leads}
+use Rattle.laws_client.specs.Beliefs.{Leads, TellsNothing}
 use Rattle.laws_client.specs.ListTurns.{SeesAll}
 use Rattle.laws_client.specs.ListLaws.{IdleTurnIsFollowed}
-use Rattle.laws_client.proofs.Turns.{calls, ends, rests, shows}
+use Rattle.laws_client.proofs.EachExchange.{at_turn, idle_so}
+use Rattle.laws_client.proofs.Turns.{called_first, ends_so, rested_so, shown_first}
 use Rattle.laws_client.proofs.Ends.{leaves}
 
-follows_in : (selected : Option Selected) (idling : Bool) (view : List ℕ) (now : Standing) (answers : List Answer) (turn : Turn) (new : List ℕ)
-    → idle_turn_in selected idling now answers ≡ Some turn → SeesAll view turn.events new → Leads view turn.bytes new
-follows_in (Some selected) true view now [] turn new e sees = absurd (none-some turn e)
-follows_in (Some selected) true view now (Fed met changes ∷ []) turn new e sees =
-    shows view (Feed most_changes) (Fed met changes) met changes (λ mid s. s) (λ may. may) (Some (nothing_more afters.Idle now)) turn new e sees (λ t mid d s. rests mid now t new d s)
-follows_in (Some selected) true view now (Refused Lapped ∷ []) turn new e sees =
-    calls view (Feed most_changes) (Refused Lapped) (Some (refused [] now Lapped)) turn new e sees (λ mid s. s)
-    (λ t mid after fits d s. ends view now (refusal_text [] Lapped) (refusal_after Lapped) t new d (leaves view (refusal_text [] Lapped) (λ messages. refl)) s)
-follows_in (Some selected) true view now (Refused Stranger ∷ []) turn new e sees =
-    calls view (Feed most_changes) (Refused Stranger) (Some (refused [] now Stranger)) turn new e sees (λ mid s. s)
-    (λ t mid after fits d s. ends view now (refusal_text [] Stranger) (refusal_after Stranger) t new d (leaves view (refusal_text [] Stranger) (λ messages. refl)) s)
-follows_in (Some selected) true view now (Refused Spent ∷ []) turn new e sees = absurd (none-some turn e)
-follows_in (Some selected) true view now (Refused NoMemory ∷ []) turn new e sees = absurd (none-some turn e)
-follows_in (Some selected) true view now (_ ∷ more) turn new e sees = absurd (none-some turn e)
-follows_in (Some selected) false view now [] turn new e sees = rests view now turn new e sees
-follows_in (Some selected) false view now (a ∷ more) turn new e sees = absurd (none-some turn e)
-follows_in None true view now [] turn new e sees = rests view now turn new e sees
-follows_in None true view now (a ∷ more) turn new e sees = absurd (none-some turn e)
-follows_in None false view now [] turn new e sees = rests view now turn new e sees
-follows_in None false view now (a ∷ more) turn new e sees = absurd (none-some turn e)
+-- the store refused
+gives_up : (view : List ℕ) (now : Standing) (fault : MailFault) (new : List ℕ) → TellsNothing (refusal_text [] fault) → SeesAll view (having (Feed most_changes) (Refused fault) (refused [] now fault)).events new
+    → Leads view (refused [] now fault).bytes new
+gives_up view now fault new silent sees =
+    called_first view (Feed most_changes) (Refused fault) (refused [] now fault) new sees (λ mid s. s) (λ mid after fits s. ends_so view now (refusal_text [] fault) (refusal_after fault) new (leaves view _ silent) s)
 
 pub idle_turn_is_followed : IdleTurnIsFollowed
-idle_turn_is_followed view now answers turn new e sees = follows_in now.selected (is_idling now) view now answers turn new e sees
+idle_turn_is_followed view now answers turn new e sees =
+    let P : Turn → Type 0 = λ t. SeesAll view t.events new → Leads view t.bytes new in
+    at_turn P (idle_turn_in now.selected (is_idling now) now answers) turn
+    (idle_so P now (λ met changes sees. shown_first view (Feed most_changes) (Fed met changes) met changes (λ mid s. s) (λ may. may) (nothing_more afters.Idle now) new sees (λ mid s. rested_so mid new s))
+    (gives_up view now Lapped new (λ messages. refl)) (gives_up view now Stranger new (λ messages. refl)) (rested_so view new) now.selected (is_idling now) answers) e sees

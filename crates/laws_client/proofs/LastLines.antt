@@ -1,13 +1,12 @@
 -- How an answer ends: in a last line of which a test tells nothing, as that of words that tell a UID; or it says nothing.
 use Rattle.std.proofs.Common.{◌≡◌, ◌⊎◌, inl, inr, ℕ, zero, suc, Bool, true, false, List, [], ◌∷◌, ◌++◌, refl, sym, ap, ◌∙◌, subst, arith, append_assoc, append-nil, Option, Some, None}
-use Rattle.std.specs.Prelude.{codes, drop, length, nat_lt, not, reverse, ◌==◌, if◌then◌else◌}
+use Rattle.std.specs.Prelude.{codes, IfSome, drop, length, not, reverse, ◌==◌, if◌then◌else◌}
 use Rattle.std.specs.List.{list_all}
 use Rattle.std.specs.Option.{option_map}
 use Rattle.std.proofs.lemmas.Bool.{eqb-true, false≢true}
 use Rattle.std.proofs.lemmas.Grind.{reverse_onto}
 use Rattle.std.proofs.lemmas.List.{reverse-append, reverse-reverse}
 use Rattle.std.proofs.lemmas.List.Folds.{list_all-append}
-use Rattle.change_ring.specs.declared.change.Change.{Change}
 use Rattle.change_ring.specs.declared.change.Flags.{Flags}
 use Rattle.cursor_set.specs.Lines.{lines}
 use Rattle.line_io.specs.Wire.{crlf}
@@ -19,13 +18,12 @@ use Rattle.mailbox.specs.declared.mailbox.Status.{Status}
 use Rattle.imap_grammar.specs.Bytes.{is_tag}
 use Rattle.imap_grammar.specs.Items.{is_word_of}
 use Rattle.imap_session.specs.declared.standing.After.{After}
-use Rattle.imap_session.specs.declared.standing.After.TheVariants.{Go, Bye}
-use Rattle.imap_session.specs.declared.standing.After.TheVariants as afters
 use Rattle.imap_session.specs.Exchange as ex
 use Rattle.imap_session.specs.Exchange.{Answer, Call, Entered, Looked, Found, Counted, Altered, Expunged, Fed, Left, Refused, Starved, Exchange, Standing, Turn, Waiting, Asked, Unasked, Dropped, ForDone, ForLiteral, ForVerdict, ForNothing, played, refused, refusal_text, refusal_after, saying, having, closed, tagged, bye, unkept, where_long, continuing, untagged, Discarded}
 use Rattle.imap_session.proofs.Unkept.{unkept_by}
 use Rattle.exactly_once.proofs.Whole.{IsWhole, lines_whole, whole_append}
 use Rattle.laws_client.specs.ListTurns.{is_inner}
+use Rattle.laws_client.proofs.EachExchange.{Plays, closed_so, exchange_if}
 use Rattle.laws_client.proofs.Bytes.{both, first_of, rest_of}
 use Rattle.laws_client.proofs.Tags.{inner_all}
 use Rattle.laws_client.proofs.Untold.{inner_both}
@@ -198,11 +196,7 @@ refusal_apart tells spares tag t Spent = tagged_apart tells tag (response_text t
 refusal_apart tells spares tag t NoMemory = tagged_apart tells tag (response_text texts.OutOfMemory) t refl (spares.no (behind 3 texts.OutOfMemory))
 
 closed_apart : (tells : List ℕ → Bool) → (bytes : List ℕ) (now : Standing) (how : After) → Apart tells bytes → Apart tells (saying bytes (closed now how)).bytes
-closed_apart tells bytes now Go p = subst (Apart tells) (sym (append-nil bytes)) p
-closed_apart tells bytes now Bye p = subst (Apart tells) (sym (append-nil bytes)) p
-closed_apart tells bytes now afters.Idle p = subst (Apart tells) (sym (append-nil bytes)) p
-closed_apart tells bytes now (afters.Literal due) p = subst (Apart tells) (sym (append-nil bytes)) p
-closed_apart tells bytes now afters.Submit p = subst (Apart tells) (sym (append-nil bytes)) p
+closed_apart tells bytes now how p = let whole = subst (Apart tells) (sym (append-nil bytes)) p in closed_so (λ s. Apart tells (saying bytes s).bytes) now how whole whole
 
 pub refused_apart : (tells : List ℕ → Bool) → Spares tells → (tag : List ℕ) → IsWord tag → (now : Standing) (fault : MailFault) → Apart tells (refused tag now fault).bytes
 refused_apart tells spares tag t now fault = closed_apart tells (refusal_text tag fault) now (refusal_after fault) (refusal_apart tells spares tag t fault)
@@ -247,206 +241,37 @@ SaysApart tells (ex.Discard mailbox uids x) = SaysApart tells x
 
 -- of a turn, if there is one
 abbrev pub TurnApart : (List ℕ → Bool) → Option Turn → Type 0
-TurnApart tells None = Unit {0}
-TurnApart tells (Some turn) = Apart tells turn.bytes
+TurnApart tells turn = IfSome turn (λ s. Apart tells s.bytes)
 
-then_having : (tells : List ℕ → Bool) → (call : Call) (answer : Answer) (o : Option Turn) → TurnApart tells o → TurnApart tells (option_map (having call answer) o)
-then_having tells call answer None p = tt
-then_having tells call answer (Some turn) p = p
-
-then_saying : (tells : List ℕ → Bool) → (bytes : List ℕ) (o : Option Turn) → IsWhole bytes → TurnApart tells o → TurnApart tells (option_map (saying bytes) o)
-then_saying tells bytes None w p = tt
-then_saying tells bytes (Some turn) w p = behind_lines tells bytes turn.bytes w p
-
-then_showing : (tells : List ℕ → Bool) → (call : Call) (answer : Answer) (view : List ℕ) (changes : List Change) (o : Option Turn) → TurnApart tells o → TurnApart tells (option_map (λ turn. having call answer (saying (lines view changes) turn)) o)
-then_showing tells call answer view changes None p = tt
-then_showing tells call answer view changes (Some turn) p = behind_lines tells (lines view changes) turn.bytes (lines_whole view changes) p
-
-long_apart : (tells : List ℕ → Bool) → (tag : List ℕ) (turn : Turn) → Apart tells turn.bytes → TurnApart tells (where_long tag turn)
-long_apart tells tag turn p = by (nat_lt ex.most_in_place (length tag))
-  where
-    by : (b : Bool) → TurnApart tells (if b then Some turn else None)
-    by true = p
-    by false = tt
-
-aloud_unkept : (tells : List ℕ → Bool) → Spares tells → (tag : List ℕ) → IsWord tag → (waits : Waiting) (now : Standing) (n : ℕ) → IsAloud waits → TurnApart tells (unkept tag waits now n)
-aloud_unkept tells spares tag t ForDone now zero p = long_apart tells tag (refused tag now NoMemory) (refused_apart tells spares tag t now NoMemory)
-aloud_unkept tells spares tag t ForDone now (suc n) p = tt
-aloud_unkept tells spares tag t (ForLiteral Asked purpose size) now zero p = long_apart tells tag (refused tag now NoMemory) (refused_apart tells spares tag t now NoMemory)
-aloud_unkept tells spares tag t (ForLiteral Asked purpose size) now (suc n) p = tt
-aloud_unkept tells spares tag t (ForLiteral Unasked purpose size) now n p = absurd p
-aloud_unkept tells spares tag t (ForLiteral Dropped purpose size) now zero p = tt
-aloud_unkept tells spares tag t (ForLiteral Dropped purpose size) now (suc n) p = tt
-aloud_unkept tells spares tag t (ForVerdict origin mailbox flags text) now zero p = tt
-aloud_unkept tells spares tag t (ForVerdict origin mailbox flags text) now (suc n) p = tt
-aloud_unkept tells spares tag t ForNothing now zero p = tt
-aloud_unkept tells spares tag t ForNothing now (suc n) p = tt
+ending : (tells : List ℕ → Bool) → Spares tells → (tag : List ℕ) → IsWord tag → Plays tag (λ now x turn. SaysApart tells x → Apart tells turn.bytes)
+ending tells spares tag t = record {
+  done = λ now words how p. closed_apart tells (tagged tag words) now how (tagged_apart tells tag words t p.0 p.1);
+  waits = λ now bytes w p. subst (Apart tells) (sym (append-nil bytes)) p.0;
+  drops = λ now bytes purpose size p. absurd p.1;
+  parts = λ now bytes purpose size p. absurd p.1;
+  starves = λ now x p. refused_apart tells spares tag t now NoMemory;
+  fails = λ now x call fault p. refused_apart tells spares tag t now fault;
+  writes = λ now bytes x s so p. behind_lines tells bytes s.bytes p.0 (so p.1);
+  puts = λ now bytes x s so p. behind_lines tells bytes s.bytes p.0 (so p.1);
+  enters = λ now selected next a s so p. so (p a);
+  looks = λ now by_uid set next a s so p. so (p a);
+  reads = λ now uid mark next a s so p. so (p a);
+  counts = λ now mailbox next a s so p. so (p a);
+  alters = λ now uid op next a s so p. so (p a);
+  expunges = λ now uids x met changes gone s so p. behind_lines tells (lines met changes) s.bytes (lines_whole met changes) (so p);
+  feeds = λ now limit x met changes s so p. behind_lines tells (lines met changes) s.bytes (lines_whole met changes) (so p);
+  leaves = λ now remove x gone s so. so;
+  discards = λ now mailbox uids x s so. so;
+}
 
 pub played_apart : (tells : List ℕ → Bool) → Spares tells → (tag : List ℕ) → IsWord tag → (now : Standing) (x : Exchange) (answers : List Answer) → SaysApart tells x → TurnApart tells (played tag now x answers)
-played_apart tells spares tag t now (ex.Done words how) [] p = closed_apart tells (tagged tag words) now how (tagged_apart tells tag words t p.0 p.1)
-played_apart tells spares tag t now (ex.Done words how) (answer ∷ more) p = tt
-played_apart tells spares tag t now (ex.Wait bytes waits) [] p = subst (Apart tells) (sym (append-nil bytes)) p.0
-played_apart tells spares tag t now (ex.Wait bytes waits) ((Entered a) ∷ more) p = tt
-played_apart tells spares tag t now (ex.Wait bytes waits) ((Looked a) ∷ more) p = tt
-played_apart tells spares tag t now (ex.Wait bytes waits) ((Found a) ∷ more) p = tt
-played_apart tells spares tag t now (ex.Wait bytes waits) ((Counted a) ∷ more) p = tt
-played_apart tells spares tag t now (ex.Wait bytes waits) ((Altered a) ∷ more) p = tt
-played_apart tells spares tag t now (ex.Wait bytes waits) ((Expunged a b c) ∷ more) p = tt
-played_apart tells spares tag t now (ex.Wait bytes waits) ((Fed a b) ∷ more) p = tt
-played_apart tells spares tag t now (ex.Wait bytes waits) ((Left a) ∷ more) p = tt
-played_apart tells spares tag t now (ex.Wait bytes waits) (Discarded ∷ more) p = tt
-played_apart tells spares tag t now (ex.Wait bytes waits) ((Refused a) ∷ more) p = tt
-played_apart tells spares tag t now (ex.Wait bytes waits) (Starved n ∷ []) p =
-    aloud_unkept tells spares tag t waits now n p.1
-played_apart tells spares tag t now (ex.Wait bytes waits) (Starved n ∷ d ∷ more) p = tt
-played_apart tells spares tag t now (ex.Write bytes x) [] p = then_saying tells bytes (played tag now x []) p.0 (played_apart tells spares tag t now x [] p.1)
-played_apart tells spares tag t now (ex.Write bytes x) ((Entered a) ∷ more) p = then_saying tells bytes (played tag now x ((Entered a) ∷ more)) p.0 (played_apart tells spares tag t now x ((Entered a) ∷ more) p.1)
-played_apart tells spares tag t now (ex.Write bytes x) ((Looked a) ∷ more) p = then_saying tells bytes (played tag now x ((Looked a) ∷ more)) p.0 (played_apart tells spares tag t now x ((Looked a) ∷ more) p.1)
-played_apart tells spares tag t now (ex.Write bytes x) ((Found a) ∷ more) p = then_saying tells bytes (played tag now x ((Found a) ∷ more)) p.0 (played_apart tells spares tag t now x ((Found a) ∷ more) p.1)
-played_apart tells spares tag t now (ex.Write bytes x) ((Counted a) ∷ more) p = then_saying tells bytes (played tag now x ((Counted a) ∷ more)) p.0 (played_apart tells spares tag t now x ((Counted a) ∷ more) p.1)
-played_apart tells spares tag t now (ex.Write bytes x) ((Altered a) ∷ more) p = then_saying tells bytes (played tag now x ((Altered a) ∷ more)) p.0 (played_apart tells spares tag t now x ((Altered a) ∷ more) p.1)
-played_apart tells spares tag t now (ex.Write bytes x) ((Expunged a b c) ∷ more) p = then_saying tells bytes (played tag now x ((Expunged a b c) ∷ more)) p.0 (played_apart tells spares tag t now x ((Expunged a b c) ∷ more) p.1)
-played_apart tells spares tag t now (ex.Write bytes x) ((Fed a b) ∷ more) p = then_saying tells bytes (played tag now x ((Fed a b) ∷ more)) p.0 (played_apart tells spares tag t now x ((Fed a b) ∷ more) p.1)
-played_apart tells spares tag t now (ex.Write bytes x) ((Left a) ∷ more) p = then_saying tells bytes (played tag now x ((Left a) ∷ more)) p.0 (played_apart tells spares tag t now x ((Left a) ∷ more) p.1)
-played_apart tells spares tag t now (ex.Write bytes x) (Discarded ∷ more) p = then_saying tells bytes (played tag now x (Discarded ∷ more)) p.0 (played_apart tells spares tag t now x (Discarded ∷ more) p.1)
-played_apart tells spares tag t now (ex.Write bytes x) ((Refused a) ∷ more) p = then_saying tells bytes (played tag now x ((Refused a) ∷ more)) p.0 (played_apart tells spares tag t now x ((Refused a) ∷ more) p.1)
-played_apart tells spares tag t now (ex.Write bytes x) (Starved zero ∷ []) p = refused_apart tells spares tag t now NoMemory
-played_apart tells spares tag t now (ex.Write bytes x) (Starved zero ∷ d ∷ more) p = then_saying tells bytes (played tag now x (Starved zero ∷ d ∷ more)) p.0 (played_apart tells spares tag t now x (Starved zero ∷ d ∷ more) p.1)
-played_apart tells spares tag t now (ex.Write bytes x) (Starved (suc a) ∷ []) p = then_saying tells bytes (played tag now x (Starved a ∷ [])) p.0 (played_apart tells spares tag t now x (Starved a ∷ []) p.1)
-played_apart tells spares tag t now (ex.Write bytes x) (Starved (suc a) ∷ d ∷ more) p = then_saying tells bytes (played tag now x (Starved (suc a) ∷ d ∷ more)) p.0 (played_apart tells spares tag t now x (Starved (suc a) ∷ d ∷ more) p.1)
-played_apart tells spares tag t now (ex.Put bytes x) answers p = then_saying tells bytes (played tag now x answers) p.0 (played_apart tells spares tag t now x answers p.1)
-played_apart tells spares tag t now (ex.Enter selected next) [] p = tt
-played_apart tells spares tag t now (ex.Enter selected next) ((Entered a) ∷ more) p = then_having tells (ex.Enter selected.mailbox) (Entered a) (played tag (record now { selected = Some selected }) (next a) more) (played_apart tells spares tag t (record now { selected = Some selected }) (next a) more (p a))
-played_apart tells spares tag t now (ex.Enter selected next) ((Looked a) ∷ more) p = tt
-played_apart tells spares tag t now (ex.Enter selected next) ((Found a) ∷ more) p = tt
-played_apart tells spares tag t now (ex.Enter selected next) ((Counted a) ∷ more) p = tt
-played_apart tells spares tag t now (ex.Enter selected next) ((Altered a) ∷ more) p = tt
-played_apart tells spares tag t now (ex.Enter selected next) ((Expunged a b c) ∷ more) p = tt
-played_apart tells spares tag t now (ex.Enter selected next) ((Fed a b) ∷ more) p = tt
-played_apart tells spares tag t now (ex.Enter selected next) ((Left a) ∷ more) p = tt
-played_apart tells spares tag t now (ex.Enter selected next) (Discarded ∷ more) p = tt
-played_apart tells spares tag t now (ex.Enter selected next) (Refused a ∷ []) p = refused_apart tells spares tag t now a
-played_apart tells spares tag t now (ex.Enter selected next) (Refused a ∷ d ∷ more) p = tt
-played_apart tells spares tag t now (ex.Enter selected next) ((Starved zero) ∷ more) p = tt
-played_apart tells spares tag t now (ex.Enter selected next) ((Starved (suc a)) ∷ more) p = tt
-played_apart tells spares tag t now (ex.Look by_uid set next) [] p = tt
-played_apart tells spares tag t now (ex.Look by_uid set next) ((Entered a) ∷ more) p = tt
-played_apart tells spares tag t now (ex.Look by_uid set next) ((Looked a) ∷ more) p = then_having tells (ex.Look by_uid set) (Looked a) (played tag now (next a) more) (played_apart tells spares tag t now (next a) more (p a))
-played_apart tells spares tag t now (ex.Look by_uid set next) ((Found a) ∷ more) p = tt
-played_apart tells spares tag t now (ex.Look by_uid set next) ((Counted a) ∷ more) p = tt
-played_apart tells spares tag t now (ex.Look by_uid set next) ((Altered a) ∷ more) p = tt
-played_apart tells spares tag t now (ex.Look by_uid set next) ((Expunged a b c) ∷ more) p = tt
-played_apart tells spares tag t now (ex.Look by_uid set next) ((Fed a b) ∷ more) p = tt
-played_apart tells spares tag t now (ex.Look by_uid set next) ((Left a) ∷ more) p = tt
-played_apart tells spares tag t now (ex.Look by_uid set next) (Discarded ∷ more) p = tt
-played_apart tells spares tag t now (ex.Look by_uid set next) (Refused a ∷ []) p = refused_apart tells spares tag t now a
-played_apart tells spares tag t now (ex.Look by_uid set next) (Refused a ∷ d ∷ more) p = tt
-played_apart tells spares tag t now (ex.Look by_uid set next) (Starved a ∷ more) p = tt
-played_apart tells spares tag t now (ex.Read uid mark next) [] p = tt
-played_apart tells spares tag t now (ex.Read uid mark next) ((Entered a) ∷ more) p = tt
-played_apart tells spares tag t now (ex.Read uid mark next) ((Looked a) ∷ more) p = tt
-played_apart tells spares tag t now (ex.Read uid mark next) ((Found a) ∷ more) p = then_having tells (ex.Read uid mark) (Found a) (played tag now (next a) more) (played_apart tells spares tag t now (next a) more (p a))
-played_apart tells spares tag t now (ex.Read uid mark next) ((Counted a) ∷ more) p = tt
-played_apart tells spares tag t now (ex.Read uid mark next) ((Altered a) ∷ more) p = tt
-played_apart tells spares tag t now (ex.Read uid mark next) ((Expunged a b c) ∷ more) p = tt
-played_apart tells spares tag t now (ex.Read uid mark next) ((Fed a b) ∷ more) p = tt
-played_apart tells spares tag t now (ex.Read uid mark next) ((Left a) ∷ more) p = tt
-played_apart tells spares tag t now (ex.Read uid mark next) (Discarded ∷ more) p = tt
-played_apart tells spares tag t now (ex.Read uid mark next) (Refused a ∷ []) p = refused_apart tells spares tag t now a
-played_apart tells spares tag t now (ex.Read uid mark next) (Refused a ∷ d ∷ more) p = tt
-played_apart tells spares tag t now (ex.Read uid mark next) ((Starved zero) ∷ more) p = tt
-played_apart tells spares tag t now (ex.Read uid mark next) ((Starved (suc a)) ∷ more) p = tt
-played_apart tells spares tag t now (ex.Count mailbox next) [] p = tt
-played_apart tells spares tag t now (ex.Count mailbox next) ((Entered a) ∷ more) p = tt
-played_apart tells spares tag t now (ex.Count mailbox next) ((Looked a) ∷ more) p = tt
-played_apart tells spares tag t now (ex.Count mailbox next) ((Found a) ∷ more) p = tt
-played_apart tells spares tag t now (ex.Count mailbox next) ((Counted a) ∷ more) p = then_having tells (ex.Count mailbox) (Counted a) (played tag now (next a) more) (played_apart tells spares tag t now (next a) more (p a))
-played_apart tells spares tag t now (ex.Count mailbox next) ((Altered a) ∷ more) p = tt
-played_apart tells spares tag t now (ex.Count mailbox next) ((Expunged a b c) ∷ more) p = tt
-played_apart tells spares tag t now (ex.Count mailbox next) ((Fed a b) ∷ more) p = tt
-played_apart tells spares tag t now (ex.Count mailbox next) ((Left a) ∷ more) p = tt
-played_apart tells spares tag t now (ex.Count mailbox next) (Discarded ∷ more) p = tt
-played_apart tells spares tag t now (ex.Count mailbox next) (Refused a ∷ []) p = refused_apart tells spares tag t now a
-played_apart tells spares tag t now (ex.Count mailbox next) (Refused a ∷ d ∷ more) p = tt
-played_apart tells spares tag t now (ex.Count mailbox next) ((Starved zero) ∷ more) p = tt
-played_apart tells spares tag t now (ex.Count mailbox next) ((Starved (suc a)) ∷ more) p = tt
-played_apart tells spares tag t now (ex.Alter uid op next) [] p = tt
-played_apart tells spares tag t now (ex.Alter uid op next) ((Entered a) ∷ more) p = tt
-played_apart tells spares tag t now (ex.Alter uid op next) ((Looked a) ∷ more) p = tt
-played_apart tells spares tag t now (ex.Alter uid op next) ((Found a) ∷ more) p = tt
-played_apart tells spares tag t now (ex.Alter uid op next) ((Counted a) ∷ more) p = tt
-played_apart tells spares tag t now (ex.Alter uid op next) ((Altered a) ∷ more) p = then_having tells (ex.Alter uid op) (Altered a) (played tag now (next a) more) (played_apart tells spares tag t now (next a) more (p a))
-played_apart tells spares tag t now (ex.Alter uid op next) ((Expunged a b c) ∷ more) p = tt
-played_apart tells spares tag t now (ex.Alter uid op next) ((Fed a b) ∷ more) p = tt
-played_apart tells spares tag t now (ex.Alter uid op next) ((Left a) ∷ more) p = tt
-played_apart tells spares tag t now (ex.Alter uid op next) (Discarded ∷ more) p = tt
-played_apart tells spares tag t now (ex.Alter uid op next) (Refused a ∷ []) p = refused_apart tells spares tag t now a
-played_apart tells spares tag t now (ex.Alter uid op next) (Refused a ∷ d ∷ more) p = tt
-played_apart tells spares tag t now (ex.Alter uid op next) ((Starved zero) ∷ more) p = tt
-played_apart tells spares tag t now (ex.Alter uid op next) ((Starved (suc a)) ∷ more) p = tt
-played_apart tells spares tag t now (ex.Expunge uids x) [] p = tt
-played_apart tells spares tag t now (ex.Expunge uids x) ((Entered a) ∷ more) p = tt
-played_apart tells spares tag t now (ex.Expunge uids x) ((Looked a) ∷ more) p = tt
-played_apart tells spares tag t now (ex.Expunge uids x) ((Found a) ∷ more) p = tt
-played_apart tells spares tag t now (ex.Expunge uids x) ((Counted a) ∷ more) p = tt
-played_apart tells spares tag t now (ex.Expunge uids x) ((Altered a) ∷ more) p = tt
-played_apart tells spares tag t now (ex.Expunge uids x) ((Expunged a b c) ∷ more) p = then_showing tells (ex.Expunge uids) (Expunged a b c) a b (played tag now x more) (played_apart tells spares tag t now x more p)
-played_apart tells spares tag t now (ex.Expunge uids x) ((Fed a b) ∷ more) p = tt
-played_apart tells spares tag t now (ex.Expunge uids x) ((Left a) ∷ more) p = tt
-played_apart tells spares tag t now (ex.Expunge uids x) (Discarded ∷ more) p = tt
-played_apart tells spares tag t now (ex.Expunge uids x) (Refused a ∷ []) p = refused_apart tells spares tag t now a
-played_apart tells spares tag t now (ex.Expunge uids x) (Refused a ∷ d ∷ more) p = tt
-played_apart tells spares tag t now (ex.Expunge uids x) ((Starved zero) ∷ more) p = tt
-played_apart tells spares tag t now (ex.Expunge uids x) ((Starved (suc a)) ∷ more) p = tt
-played_apart tells spares tag t now (ex.Feed limit x) [] p = tt
-played_apart tells spares tag t now (ex.Feed limit x) ((Entered a) ∷ more) p = tt
-played_apart tells spares tag t now (ex.Feed limit x) ((Looked a) ∷ more) p = tt
-played_apart tells spares tag t now (ex.Feed limit x) ((Found a) ∷ more) p = tt
-played_apart tells spares tag t now (ex.Feed limit x) ((Counted a) ∷ more) p = tt
-played_apart tells spares tag t now (ex.Feed limit x) ((Altered a) ∷ more) p = tt
-played_apart tells spares tag t now (ex.Feed limit x) ((Expunged a b c) ∷ more) p = tt
-played_apart tells spares tag t now (ex.Feed limit x) ((Fed a b) ∷ more) p = then_showing tells (ex.Feed limit) (Fed a b) a b (played tag now x more) (played_apart tells spares tag t now x more p)
-played_apart tells spares tag t now (ex.Feed limit x) ((Left a) ∷ more) p = tt
-played_apart tells spares tag t now (ex.Feed limit x) (Discarded ∷ more) p = tt
-played_apart tells spares tag t now (ex.Feed limit x) (Refused a ∷ []) p = refused_apart tells spares tag t now a
-played_apart tells spares tag t now (ex.Feed limit x) (Refused a ∷ d ∷ more) p = tt
-played_apart tells spares tag t now (ex.Feed limit x) ((Starved zero) ∷ more) p = tt
-played_apart tells spares tag t now (ex.Feed limit x) ((Starved (suc a)) ∷ more) p = tt
-played_apart tells spares tag t now (ex.Leave remove x) [] p = tt
-played_apart tells spares tag t now (ex.Leave remove x) ((Entered a) ∷ more) p = tt
-played_apart tells spares tag t now (ex.Leave remove x) ((Looked a) ∷ more) p = tt
-played_apart tells spares tag t now (ex.Leave remove x) ((Found a) ∷ more) p = tt
-played_apart tells spares tag t now (ex.Leave remove x) ((Counted a) ∷ more) p = tt
-played_apart tells spares tag t now (ex.Leave remove x) ((Altered a) ∷ more) p = tt
-played_apart tells spares tag t now (ex.Leave remove x) ((Expunged a b c) ∷ more) p = tt
-played_apart tells spares tag t now (ex.Leave remove x) ((Fed a b) ∷ more) p = tt
-played_apart tells spares tag t now (ex.Leave remove x) (Discarded ∷ more) p = tt
-played_apart tells spares tag t now (ex.Leave remove x) ((Left a) ∷ more) p = then_having tells (ex.Leave remove) (Left a) (played tag (record now { selected = None }) x more) (played_apart tells spares tag t (record now { selected = None }) x more p)
-played_apart tells spares tag t now (ex.Leave remove x) (Refused a ∷ []) p = refused_apart tells spares tag t now a
-played_apart tells spares tag t now (ex.Leave remove x) (Refused a ∷ d ∷ more) p = tt
-played_apart tells spares tag t now (ex.Leave remove x) ((Starved zero) ∷ more) p = tt
-played_apart tells spares tag t now (ex.Leave remove x) ((Starved (suc a)) ∷ more) p = tt
-played_apart tells spares tag t now (ex.Discard mailbox uids x) [] p = tt
-played_apart tells spares tag t now (ex.Discard mailbox uids x) ((Entered a) ∷ more) p = tt
-played_apart tells spares tag t now (ex.Discard mailbox uids x) ((Looked a) ∷ more) p = tt
-played_apart tells spares tag t now (ex.Discard mailbox uids x) ((Found a) ∷ more) p = tt
-played_apart tells spares tag t now (ex.Discard mailbox uids x) ((Counted a) ∷ more) p = tt
-played_apart tells spares tag t now (ex.Discard mailbox uids x) ((Altered a) ∷ more) p = tt
-played_apart tells spares tag t now (ex.Discard mailbox uids x) ((Expunged a b c) ∷ more) p = tt
-played_apart tells spares tag t now (ex.Discard mailbox uids x) ((Fed a b) ∷ more) p = tt
-played_apart tells spares tag t now (ex.Discard mailbox uids x) ((Left a) ∷ more) p = tt
-played_apart tells spares tag t now (ex.Discard mailbox uids x) (Discarded ∷ more) p = then_having tells (ex.Discard mailbox uids) Discarded (played tag now x more) (played_apart tells spares tag t now x more p)
-played_apart tells spares tag t now (ex.Discard mailbox uids x) (Refused a ∷ []) p = refused_apart tells spares tag t now a
-played_apart tells spares tag t now (ex.Discard mailbox uids x) (Refused a ∷ d ∷ more) p = tt
-played_apart tells spares tag t now (ex.Discard mailbox uids x) ((Starved zero) ∷ more) p = tt
-played_apart tells spares tag t now (ex.Discard mailbox uids x) ((Starved (suc a)) ∷ more) p = tt
+played_apart tells spares tag t now x answers p = exchange_if tag (SaysApart tells) (λ now turn. Apart tells turn.bytes) (ending tells spares tag t) now x answers p
 
 -- ---- one that says nothing
 
 -- it says nothing, or ends in such a line
 abbrev pub TurnFine : (List ℕ → Bool) → Option Turn → Type 0
-TurnFine tells None = Unit {0}
-TurnFine tells (Some turn) = (turn.bytes ≡ []) ⊎ Apart tells turn.bytes
+TurnFine tells turn = IfSome turn (λ s. (s.bytes ≡ []) ⊎ Apart tells s.bytes)
 
 pub fine : (tells : List ℕ → Bool) → (o : Option Turn) → TurnApart tells o → TurnFine tells o
 fine tells None p = tt
@@ -455,20 +280,10 @@ fine tells (Some turn) p = inr p
 -- it waits, and says nothing
 pub fine_wait : (tells : List ℕ → Bool) → Spares tells → (tag : List ℕ) → IsWord tag → (now : Standing) (waits : Waiting) (answers : List Answer) → TurnFine tells (played tag now (ex.Wait [] waits) answers)
 fine_wait tells spares tag t now waits [] = inl refl
-fine_wait tells spares tag t now waits (Entered a ∷ more) = tt
-fine_wait tells spares tag t now waits (Looked a ∷ more) = tt
-fine_wait tells spares tag t now waits (Found a ∷ more) = tt
-fine_wait tells spares tag t now waits (Counted a ∷ more) = tt
-fine_wait tells spares tag t now waits (Altered a ∷ more) = tt
-fine_wait tells spares tag t now waits (Expunged a b c ∷ more) = tt
-fine_wait tells spares tag t now waits (Fed a b ∷ more) = tt
-fine_wait tells spares tag t now waits (Left a ∷ more) = tt
-fine_wait tells spares tag t now waits (Discarded ∷ more) = tt
-fine_wait tells spares tag t now waits (Refused a ∷ more) = tt
 fine_wait tells spares tag t now waits (Starved n ∷ []) =
     unkept_by (TurnFine tells) tt tag now (inr (refused_apart tells spares tag t now NoMemory)) (λ purpose size. inl refl)
     (inr (subst (Apart tells) (sym (append-nil (bye (response_text texts.ByeOutOfMemory)))) (bye_apart tells texts.ByeOutOfMemory))) waits n
-fine_wait tells spares tag t now waits (Starved n ∷ d ∷ more) = tt
+fine_wait tells spares tag t now waits _ = tt
 
 nothing_said : (tells : List ℕ → Bool) → (o : Option Turn) → TurnFine tells o → TurnFine tells (option_map (saying []) o)
 nothing_said tells None p = tt
@@ -477,7 +292,5 @@ nothing_said tells (Some turn) p = p
 pub fine_wanting : (tells : List ℕ → Bool) → Spares tells → (tag : List ℕ) → IsWord tag → (now : Standing) (x : Exchange) → ((answers : List Answer) → TurnFine tells (played tag now x answers)) → (answers : List Answer) → TurnFine tells (played tag now (ex.Write [] x) answers)
 fine_wanting tells spares tag t now x p [] = nothing_said tells _ (p [])
 fine_wanting tells spares tag t now x p (Starved zero ∷ []) = inr (refused_apart tells spares tag t now NoMemory)
-fine_wanting tells spares tag t now x p (Starved zero ∷ d ∷ more) = nothing_said tells _ (p (Starved zero ∷ d ∷ more))
 fine_wanting tells spares tag t now x p (Starved (suc n) ∷ []) = nothing_said tells _ (p (Starved n ∷ []))
-fine_wanting tells spares tag t now x p (Starved (suc n) ∷ d ∷ more) = nothing_said tells _ (p (Starved (suc n) ∷ d ∷ more))
 fine_wanting tells spares tag t now x p (given ∷ more) = nothing_said tells _ (p (given ∷ more))

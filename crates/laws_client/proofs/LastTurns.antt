@@ -15,7 +15,6 @@ use Rattle.change_ring.specs.Words.{flag_words, spaced}
 use Rattle.delivery_token.specs.declared.Verdict.{Verdict}
 use Rattle.delivery_token.specs.Text.{Text}
 use Rattle.delivery_token.specs.declared.Verdict.TheVariants as verdicts
-use Rattle.mailbox.specs.declared.clients.MailFault.TheVariants.{Stranger, Lapped, Spent, NoMemory}
 use Rattle.world.specs.World.{Config, World}
 use Rattle.imap_session.specs.declared.standing.After.TheVariants.{Go}
 use Rattle.imap_session.specs.declared.standing.Selected.{Selected}
@@ -29,6 +28,7 @@ use Rattle.laws_client.specs.Talks.{Happening, Line, LongLine, Turned, Literal, 
 use Rattle.laws_client.proofs.Bytes.{both}
 use Rattle.laws_client.proofs.IdleTags.{AreTagsOf}
 use Rattle.laws_client.proofs.LinesRead.{flags_inner, flags_part}
+use Rattle.laws_client.proofs.EachExchange.{idle_so}
 use Rattle.laws_client.proofs.Turns.{the_turn}
 use Rattle.laws_client.proofs.Untold.{inner_both, plain_inner}
 use Rattle.laws_client.specs.Appends.{EndsWith, SaysVerdict, TellsOfNone, SaysCopied, SaysMoved, last_line, tells_stored, SaysOfBatch, SaysRefused, awaits_next, has_no_number, all_stored}
@@ -87,28 +87,9 @@ bye_fine : (tells : List ℕ → Bool) (text : ResponseText) → IsFine tells (b
 bye_fine tells text = inr (subst (Apart tells) (sym (append-nil (bye (response_text text)))) (bye_apart tells text))
 
 pub idle_fine : (tells : List ℕ → Bool) (selected : Option Selected) (idling : Bool) (now : Standing) (answers : List Answer) → TurnFine tells (idle_turn_in selected idling now answers)
-idle_fine tells None idling now [] = inl refl
-idle_fine tells None idling now (answer ∷ more) = tt
-idle_fine tells (Some s) false now [] = inl refl
-idle_fine tells (Some s) false now (answer ∷ more) = tt
-idle_fine tells (Some s) true now [] = tt
-idle_fine tells (Some s) true now ((Entered a) ∷ more) = tt
-idle_fine tells (Some s) true now ((Looked a) ∷ more) = tt
-idle_fine tells (Some s) true now ((Found a) ∷ more) = tt
-idle_fine tells (Some s) true now ((Counted a) ∷ more) = tt
-idle_fine tells (Some s) true now ((Altered a) ∷ more) = tt
-idle_fine tells (Some s) true now ((Expunged a b c) ∷ more) = tt
-idle_fine tells (Some s) true now (Fed a b ∷ []) = subst (IsFine tells) (sym (append-nil (lines a b))) (lines_fine tells a b)
-idle_fine tells (Some s) true now (Fed a b ∷ d ∷ more) = tt
-idle_fine tells (Some s) true now ((Left a) ∷ more) = tt
-idle_fine tells (Some s) true now (Discarded ∷ more) = tt
-idle_fine tells (Some s) true now (Refused Lapped ∷ []) = bye_fine tells texts.ChangesMissed
-idle_fine tells (Some s) true now (Refused Lapped ∷ d ∷ more) = tt
-idle_fine tells (Some s) true now (Refused Stranger ∷ []) = bye_fine tells texts.InternalFault
-idle_fine tells (Some s) true now (Refused Stranger ∷ d ∷ more) = tt
-idle_fine tells (Some s) true now (Refused Spent ∷ more) = tt
-idle_fine tells (Some s) true now (Refused NoMemory ∷ more) = tt
-idle_fine tells (Some s) true now ((Starved a) ∷ more) = tt
+idle_fine tells selected idling now answers =
+    idle_so (λ turn. IsFine tells turn.bytes) now (λ met changes. subst (IsFine tells) (sym (append-nil (lines met changes))) (lines_fine tells met changes))
+    (bye_fine tells texts.ChangesMissed) (bye_fine tells texts.InternalFault) (inl refl) selected idling answers
 
 -- ---- what tells no UID
 

@@ -42,6 +42,8 @@ mod Moves
 mod LastRests
 mod LastWords
 mod LastTurns
+mod EachCommand
+mod EachExchange
 mod Waiting
 mod WholeLines
 mod Submitted
@@ -101,3 +103,5 @@ mod ServedFlags
 mod ServedStays
 mod ServedVisits
 mod AttendingRefuted
+mod StillHouse
+mod RunRefuted

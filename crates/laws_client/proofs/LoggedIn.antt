@@ -1,8 +1,7 @@
 -- A client that is to log in first has no mailbox selected till then.
-use Rattle.std.proofs.Common.{◌≡◌, ℕ, ◌==◌, Bool, true, false, List, [], ◌∷◌, length, refl, sym, subst, ap, ◌∙◌}
+use Rattle.std.proofs.Common.{◌≡◌, ℕ, ◌==◌, Bool, true, false, List, length, refl, sym, subst, ap, ◌∙◌}
 use Rattle.std.specs.Prelude.{Option, Some, None, IfSome, Result, Ok, Err}
 use Rattle.std.proofs.lemmas.Option.{none-some}
-use Rattle.mailbox.specs.declared.clients.MailFault.TheVariants.{Stranger, Lapped}
 use Rattle.world.specs.World.{Config, World}
 use Rattle.delivery_token.specs.declared.Verdict.{Verdict}
 use Rattle.imap_grammar.specs.Reading.{read}
@@ -10,16 +9,17 @@ use Rattle.imap_grammar.specs.declared.command.Command.{Command}
 use Rattle.imap_grammar.specs.declared.command.Command.TheVariants as commands
 use Rattle.imap_grammar.specs.declared.command.ImapFault.{ImapFault}
 use Rattle.imap_session.specs.declared.standing.Selected.{Selected}
-use Rattle.imap_session.specs.Exchange.{Answer, Fed, Refused, ForDone, ForLiteral, ForNothing, ForVerdict, Sent, Standing, Turn, Waiting, is_idling, played, waiting}
-use Rattle.imap_session.specs.Commands.{barred_at, fault_text, idle_turn_in, logged_in, without_login, logs_in_as, on_command, on_found, on_idle_line, on_line, on_read, on_rest, on_verdict, says, turn_with, without_begun, without_sent, on_text_line, completed, turn_of}
+use Rattle.imap_session.specs.Exchange.{Answer, ForDone, Sent, Standing, Turn, Waiting, is_idling, played, waiting}
+use Rattle.imap_session.specs.Commands.{barred_at, fault_text, logged_in, without_login, logs_in_as, on_command, on_found, on_idle_line, on_line, on_read, on_rest, on_verdict, says, turn_with, without_begun, without_sent, on_text_line, completed, turn_of}
 use Rattle.imap_session.specs.Texts.{response_text}
 use Rattle.laws_client.specs.Clients.{Told}
 use Rattle.laws_client.specs.Lives.{Lives, comes, turns, others}
 use Rattle.laws_client.specs.Selecting.{HasLoggedIn, LoginComesFirst}
 use Rattle.laws_client.specs.Talks.{Happening, Line, LongLine, Turned, Literal, Heard, leads_to}
+use Rattle.laws_client.proofs.EachExchange.{idle_keeps}
 use Rattle.laws_client.proofs.IdleTags.{Keeps, played_keeps}
 use Rattle.laws_client.proofs.Selecting.{StaysIn, fault_sel, idle_selected, in_command, in_found, in_idle_line, in_part, in_rest, selected_stays, verdict_sel}
-use Rattle.laws_client.proofs.Submitted.{line_stays}
+use Rattle.laws_client.proofs.Folders.{line_stays}
 use Rattle.laws_client.proofs.Turns.{the_turn}
 use Rattle.imap_session.proofs.Parts.{text_line_has}
 use Rattle.laws_client.proofs.WholeLines.{turn_has}
@@ -32,26 +32,11 @@ NoLogin s = s.login ≡ None
 waits_on : (tag : List ℕ) (now : Standing) (w : Waiting) → NoLogin now → NoLogin (waiting tag w now)
 unfolding NoLogin
 waits_on tag now ForDone k = k
-waits_on tag now (ForLiteral coming purpose size) k = k
-waits_on tag now (ForVerdict origin mailbox flags text) k = k
-waits_on tag now ForNothing k = k
+waits_on tag now _ k = k
 
 keeps : (tag : List ℕ) → Keeps NoLogin tag
 unfolding NoLogin
 keeps tag = record { ends = λ now k. k; enters = λ now selected k. k; waits = waits_on tag }
-
-idle_login : (selected : Option Selected) (idling : Bool) (now : Standing) (answers : List Answer) (turn : Turn) → idle_turn_in selected idling now answers ≡ Some turn → turn.standing.login ≡ now.login
-idle_login (Some selected) true now [] turn e = absurd (none-some turn e)
-idle_login (Some selected) true now (Fed met changes ∷ []) turn e = ap (λ (t : Turn). t.standing.login) (sym (ap (the_turn turn) e))
-idle_login (Some selected) true now (Refused Lapped ∷ []) turn e = ap (λ (t : Turn). t.standing.login) (sym (ap (the_turn turn) e))
-idle_login (Some selected) true now (Refused Stranger ∷ []) turn e = ap (λ (t : Turn). t.standing.login) (sym (ap (the_turn turn) e))
-idle_login (Some selected) true now (_ ∷ more) turn e = absurd (none-some turn e)
-idle_login (Some selected) false now [] turn e = ap (λ (t : Turn). t.standing.login) (sym (ap (the_turn turn) e))
-idle_login (Some selected) false now (a ∷ more) turn e = absurd (none-some turn e)
-idle_login None true now [] turn e = ap (λ (t : Turn). t.standing.login) (sym (ap (the_turn turn) e))
-idle_login None true now (a ∷ more) turn e = absurd (none-some turn e)
-idle_login None false now [] turn e = ap (λ (t : Turn). t.standing.login) (sym (ap (the_turn turn) e))
-idle_login None false now (a ∷ more) turn e = absurd (none-some turn e)
 
 heard_login : (sent : Option Sent) (now : Standing) (verdict : Verdict) (answers : List Answer) (turn : Turn) → now.login ≡ None → turn_with sent now verdict answers ≡ Some turn → turn.standing.login ≡ None
 unfolding NoLogin
@@ -62,7 +47,7 @@ none_asked : (now : Standing) (happening : Happening) (turn : Turn) → now.logi
 unfolding NoLogin
 none_asked now (Line line answers) turn none e = line_stays NoLogin keeps now line answers turn none none refl e
 none_asked now LongLine turn none e = ap (λ (t : Turn). t.standing.login) (sym (ap (the_turn turn) e)) ∙ none
-none_asked now (Turned answers) turn none e = idle_login now.selected (is_idling now) now answers turn e ∙ none
+none_asked now (Turned answers) turn none e = idle_keeps NoLogin now.selected (is_idling now) now answers turn none none e
 none_asked now (Literal kept bytes) turn none e = ap (λ (t : Turn). t.standing.login) (sym (ap (the_turn turn) e)) ∙ none
 none_asked now (Heard verdict answers) turn none e = heard_login now.mailing.sent now verdict answers turn none e
 

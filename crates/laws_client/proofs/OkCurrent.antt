@@ -1,11 +1,8 @@
--- After a command that shows all that is pending last, what the session counts is what is there, where it is answered OK: by induction over the exchange, a clause for each answer that there is.
-use Rattle.std.proofs.Common.{zero, suc, ◌≡◌, ℕ, ◌⊎◌, inl, inr, Bool, true, false, List, [], ◌∷◌, ◌++◌, take, ap, refl, subst, sym, ◌∙◌, append_assoc}
-use Rattle.std.specs.Prelude.{Option, Some, None, Result, Ok, codes, reverse, ◌&&◌, not, if◌then◌else◌}
-use Rattle.std.specs.List.{list_any}
-use Rattle.std.specs.Option.{option_map}
+-- After a command that shows all that is pending last, what the session counts is what is there, where it is answered OK.
+use Rattle.std.proofs.Common.{◌≡◌, ℕ, ◌⊎◌, inl, inr, Bool, true, false, List, [], ◌∷◌, ◌++◌, take, ap, refl, subst, sym, ◌∙◌, append_assoc}
+use Rattle.std.specs.Prelude.{Option, Some, None, Result, Ok, codes, reverse, is_some}
 use Rattle.std.proofs.lemmas.Bool.{false≢true}
 use Rattle.std.proofs.lemmas.List.{reverse-append}
-use Rattle.std.proofs.lemmas.Option.{none-some}
 use Rattle.change_ring.specs.declared.change.Flags.{Flags}
 use Rattle.cursor_set.specs.Lines.{lines}
 use Rattle.mailbox.specs.declared.clients.MailFault.{MailFault}
@@ -15,27 +12,22 @@ use Rattle.mailbox.specs.declared.mailbox.Status.{Status}
 use Rattle.world.specs.World.{Config, World}
 use Rattle.world.proofs.Always.{kept_always}
 use Rattle.world.proofs.Kept.{Kept}
-use Rattle.imap_grammar.specs.Items.{marks_seen}
 use Rattle.imap_grammar.specs.Verbs.{verb_of}
 use Rattle.imap_grammar.specs.Reading.{read}
 use Rattle.imap_grammar.specs.declared.command.ImapFault.{ImapFault}
-use Rattle.imap_grammar.specs.Sets.{named_in, last_uid, named_at}
-use Rattle.imap_grammar.specs.declared.set.SeqRange.{SeqRange}
 use Rattle.imap_grammar.specs.declared.command.Command.{Command}
 use Rattle.imap_grammar.specs.declared.command.Command.TheVariants as commands
-use Rattle.imap_grammar.specs.declared.command.Fetch.{Fetch}
-use Rattle.imap_grammar.specs.declared.command.Store.{Store}
 use Rattle.imap_session.specs.declared.standing.After.{After}
 use Rattle.imap_session.specs.declared.standing.Selected.{Selected}
-use Rattle.imap_session.specs.Exchange.{Call, Answer, Event, Looked, Found, Counted, Altered, Expunged, Fed, Refused, Starved, Exchange, Done, Wait, Write, Put, Enter, Look, Read, Count, Alter, Expunge, Feed, Leave, Standing, Turn, having, played, refusal_text, refused, saying, tagged, Discard, Discarded}
-use Rattle.imap_session.specs.Commands.{completed, counting, expunge_set, fetch_messages, fetched, fetching, folder_of, if_writable, in_writable, messages_done, on_chosen, on_command, on_found, on_set, turn_of, says, showing, store_messages, stored, storing, unlimited, wrong_state, wanting_for, found_in, search_done, search_known, search_messages, searching, wanting, without_begun}
+use Rattle.imap_session.specs.Exchange.{Call, Answer, Event, Looked, Found, Counted, Altered, Expunged, Fed, Exchange, Done, Wait, Write, Put, Enter, Look, Read, Count, Alter, Expunge, Feed, Leave, Standing, Turn, closed, played, refusal_text, refused, saying, tagged, Discard, Discarded}
+use Rattle.imap_session.specs.Commands.{on_command, turn_of, says, unlimited, without_begun}
 use Rattle.laws_client.specs.ListTurns.{IsTag}
 use Rattle.line_io.specs.Wire.{crlf}
 use Rattle.laws_client.specs.Talks.{Line}
 use Rattle.laws_client.proofs.Tags.{tags_are_tags}
 use Rattle.laws_client.specs.Current.{DoneCommandsMakeCurrent, IsAnswered, IsCurrent, ListsAreCurrent, shows_all}
 use Rattle.laws_client.proofs.RecordCurrent.{FedAll, LastFed, fed_all, last_current, last_weaker}
-use Rattle.laws_client.proofs.RecordEntering.{mapped, only_done, only_refused}
+use Rattle.laws_client.proofs.RecordEntering.{only_done, only_refused}
 use Rattle.laws_client.specs.Clients.{Answer as Answer_to, Asked, Neither, IsRightAbout, Told, answered, asked, asked_by, hears, hears_all}
 use Rattle.laws_client.specs.Beliefs.{IsRight}
 use Rattle.laws_client.specs.Client.{Client, Known, knowing, reads}
@@ -55,9 +47,9 @@ use Rattle.imap_grammar.specs.declared.command.Verb.TheVariants as verbs
 use Rattle.std.specs.Str.{bytes_eq}
 use Rattle.imap_session.proofs.Barring.{refuses}
 use Rattle.laws_client.proofs.Barred.{line_case, login_shows_none, shown_waits}
-use Rattle.imap_grammar.specs.declared.command.Search.{Search}
-use Rattle.imap_grammar.specs.declared.view.Named.{Named}
-use Rattle.imap_grammar.specs.Keys.{all_messages}
+use Rattle.laws_client.proofs.EachExchange.{Plays, turn_so}
+use Rattle.laws_client.proofs.Turns.{closed_quiet}
+use Rattle.laws_client.proofs.EachCommand.{Steps, command_so, tells_done}
 use Rattle.laws_client.specs.Commands.{whole_line}
 use Rattle.laws_client.proofs.WholeLines.{said_turn}
 
@@ -127,172 +119,95 @@ ShowsLast fed (Discard mailbox uids x) = ShowsLast false x
 never : {A : Type 0} → false ≡ true → A
 never e = absurd (false≢true e)
 
-given_up : (tag front : List ℕ) (now : Standing) (fault : MailFault) (turn : Turn) (P : Type 0) → IsTag tag → Some (refused tag now fault) ≡ Some turn → last_of (front ++ turn.bytes) ≡ the_end → P
-given_up tag front now fault turn P t e ends =
-    let only = only_refused tag now fault turn e in
-    absurd (no_refusal tag fault front (ap (λ (b : List ℕ). last_of (front ++ b)) (sym only.bytes) ∙ ends))
+-- it ends behind these bytes as the tagged OK of a command does
+abbrev EndsDone : List ℕ → Turn → Type 0
+EndsDone front turn = last_of (front ++ turn.bytes) ≡ the_end
 
-was_given_up : (tag front : List ℕ) (now : Standing) (call : Call) (fault : MailFault) (turn : Turn) (P : Type 0) → IsTag tag → Some (having call (Refused fault) (refused tag now fault)) ≡ Some turn
-    → last_of (front ++ turn.bytes) ≡ the_end → P
-was_given_up tag front now call fault turn P t e ends =
-    let m = mapped (having call (Refused fault)) (Some (refused tag now fault)) turn e in
-    given_up tag front now fault m.more P t m.is (ap (λ (s : Turn). last_of (front ++ s.bytes)) m.makes ∙ ends)
+given_up : (tag front : List ℕ) (now : Standing) (fault : MailFault) (P : Type 0) → IsTag tag → EndsDone front (refused tag now fault) → P
+given_up tag front now fault P t ends =
+    absurd (no_refusal tag fault front (ap (λ (b : List ℕ). last_of (front ++ b)) (sym (only_refused tag now fault (refused tag now fault) refl).bytes) ∙ ends))
 
-done_current : (tag words : List ℕ) (how : After) (front : List ℕ) (fed : Bool) (now : Standing) (turn : Turn) → IsTag tag → (fed ≡ true) ⊎ NotDone words
-    → played tag now (Done words how) [] ≡ Some turn → last_of (front ++ turn.bytes) ≡ the_end → LastFed (fed ≡ true) turn.events
-done_current tag words how front fed now turn t (inl is) e ends =
-    let d = only_done tag words how now [] turn e in
-    subst (λ (es : List Event). LastFed (fed ≡ true) es) (sym d.events) is
-done_current tag words how front fed now turn t (inr unlike) e ends =
-    let d = only_done tag words how now [] turn e in
+done_current : (tag words : List ℕ) (how : After) (front : List ℕ) (fed : Bool) (now : Standing) → IsTag tag → (fed ≡ true) ⊎ NotDone words
+    → EndsDone front (saying (tagged tag words) (closed now how)) → LastFed (fed ≡ true) (closed now how).events
+done_current tag words how front fed now t (inl is) ends = subst (λ (es : List Event). LastFed (fed ≡ true) es) (sym (closed_quiet now how)) is
+done_current tag words how front fed now t (inr unlike) ends =
+    let d = only_done tag words how now [] (saying (tagged tag words) (closed now how)) refl in
     absurd (no_tagged tag words unlike front (ap (λ (b : List ℕ). last_of (front ++ b)) (sym d.bytes) ∙ ends))
 
--- a text, and what comes behind it
-said : (tag front bytes : List ℕ) (rest : Option Turn) (turn : Turn) (P : Type 0) → option_map (saying bytes) rest ≡ Some turn → last_of (front ++ turn.bytes) ≡ the_end
-    → ((more : Turn) → rest ≡ Some more → last_of ((front ++ bytes) ++ more.bytes) ≡ the_end → LastFed P more.events) → LastFed P turn.events
-said tag front bytes rest turn P e ends behind =
-    let m = mapped (saying bytes) rest turn e in
-    subst (λ (s : Turn). LastFed P s.events) m.makes
-    (behind m.more m.is (ap last_of (append_assoc front bytes m.more.bytes) ∙ ap (λ (s : Turn). last_of (front ++ s.bytes)) m.makes ∙ ends))
+-- behind a text
+after_text : (front text : List ℕ) (s : Turn) → EndsDone front (saying text s) → EndsDone (front ++ text) s
+after_text front text s ends = ap last_of (append_assoc front text s.bytes) ∙ ends
 
--- a call that was answered, with a text, and what comes behind it
-called : (tag front text : List ℕ) (call : Call) (answer : Answer) (f : Turn → Turn) (rest : Option Turn) (turn : Turn) (P Q : Type 0) → option_map f rest ≡ Some turn
-    → last_of (front ++ turn.bytes) ≡ the_end → ((s : Turn) → (f s).events ≡ record { call = call; answer = answer } ∷ s.events) → ((s : Turn) → (f s).bytes ≡ text ++ s.bytes)
-    → (Q → FedAll (record { call = call; answer = answer })) → ((more : Turn) → rest ≡ Some more → last_of ((front ++ text) ++ more.bytes) ≡ the_end → LastFed Q more.events) → LastFed P turn.events
-called tag front text call answer f rest turn P Q e ends events bytes fed behind =
-    let m = mapped f rest turn e in
-    subst (λ (es : List Event). LastFed P es) (sym (events m.more) ∙ ap (λ (s : Turn). s.events) m.makes)
-    (last_weaker Q (FedAll (record { call = call; answer = answer })) m.more.events fed
-    (behind m.more m.is
-    (ap last_of (append_assoc front text m.more.bytes) ∙ ap (λ (b : List ℕ). last_of (front ++ b)) (sym (bytes m.more)) ∙ ap (λ (s : Turn). last_of (front ++ s.bytes)) m.makes ∙ ends)))
+-- behind a call that shows nothing that is pending
+after_call : (fed : Bool) (call : Call) (answer : Answer) (events : List Event) → LastFed (false ≡ true) events → LastFed (fed ≡ true) (record { call = call; answer = answer } ∷ events)
+after_call fed call answer events is = last_weaker (false ≡ true) (FedAll (record { call = call; answer = answer })) events never is
+
+abbrev CurrentBehind : Standing → Exchange → Turn → Type 0
+CurrentBehind now x turn = (front : List ℕ) (fed : Bool) → ShowsLast fed x → EndsDone front turn → LastFed (fed ≡ true) turn.events
+
+makes_current : (tag : List ℕ) → IsTag tag → Plays tag CurrentBehind
+makes_current tag t = record {
+  done = λ now words how front fed p. done_current tag words how front fed now t p;
+  waits = λ now bytes w front fed p. absurd p;
+  drops = λ now bytes purpose size front fed p. absurd p;
+  parts = λ now bytes purpose size front fed p. absurd p;
+  starves = λ now x front fed p ends. given_up tag front now NoMemory _ t ends;
+  fails = λ now x call fault front fed p ends. given_up tag front now fault _ t ends;
+  writes = λ now bytes x s so front fed p ends. so (front ++ bytes) fed p (after_text front bytes s ends);
+  puts = λ now bytes x s so front fed p ends. so (front ++ bytes) fed p (after_text front bytes s ends);
+  enters = λ now selected next a s so front fed p. absurd p;
+  looks = λ now by_uid set next a s so front fed p ends. after_call fed (Look by_uid set) (Looked a) s.events (so front false (p a) ends);
+  reads = λ now uid mark next a s so front fed p ends. after_call fed (Read uid mark) (Found a) s.events (so front false (p a) ends);
+  counts = λ now mailbox next a s so front fed p ends. after_call fed (Count mailbox) (Counted a) s.events (so front false (p a) ends);
+  alters = λ now uid op next a s so front fed p ends. after_call fed (Alter uid op) (Altered a) s.events (so front false (p a) ends);
+  expunges = λ now uids x met changes gone s so front fed p ends.
+      after_call fed (Expunge uids) (Expunged met changes gone) s.events (so (front ++ lines met changes) false p (after_text front (lines met changes) s ends));
+  feeds = λ now limit x met changes s so front fed p ends. last_weaker (true ≡ true) (FedAll (record { call = Feed limit; answer = Fed met changes })) s.events (λ is. fed_all limit met changes p.0)
+      (so (front ++ lines met changes) true p.1 (after_text front (lines met changes) s ends));
+  leaves = λ now remove x gone s so front fed p. absurd p;
+  discards = λ now mailbox uids x s so front fed p ends. after_call fed (Discard mailbox uids) Discarded s.events (so front false p ends);
+}
 
 ok_current : (tag front : List ℕ) (fed : Bool) (now : Standing) (x : Exchange) (answers : List Answer) (turn : Turn) → IsTag tag → ShowsLast fed x
     → played tag now x answers ≡ Some turn → last_of (front ++ turn.bytes) ≡ the_end → LastFed (fed ≡ true) turn.events
-ok_current tag front fed now (Done words how) [] turn t p e ends = done_current tag words how front fed now turn t p e ends
-ok_current tag front fed now (Done words how) (a ∷ more) turn t p e ends = absurd (none-some turn e)
-ok_current tag front fed now (Wait bytes how) answers turn t p e ends = absurd p
-ok_current tag front fed now (Write bytes x) [] turn t p e ends = said tag front bytes (played tag now x []) turn (fed ≡ true) e ends (λ s d f. ok_current tag (front ++ bytes) fed now x [] s t p d f)
-ok_current tag front fed now (Write bytes x) (Starved zero ∷ []) turn t p e ends = given_up tag front now NoMemory turn _ t e ends
-ok_current tag front fed now (Write bytes x) (Starved (suc j) ∷ []) turn t p e ends = said tag front bytes (played tag now x (Starved j ∷ [])) turn (fed ≡ true) e ends (λ s d f. ok_current tag (front ++ bytes) fed now x (Starved j ∷ []) s t p d f)
-ok_current tag front fed now (Write bytes x) (given ∷ more) turn t p e ends = said tag front bytes (played tag now x (given ∷ more)) turn (fed ≡ true) e ends (λ s d f. ok_current tag (front ++ bytes) fed now x (given ∷ more) s t p d f)
-ok_current tag front fed now (Put bytes x) answers turn t p e ends = said tag front bytes (played tag now x answers) turn (fed ≡ true) e ends (λ s d f. ok_current tag (front ++ bytes) fed now x answers s t p d f)
-ok_current tag front fed now (Enter selected next) answers turn t p e ends = absurd p
-ok_current tag front fed now (Look by_uid set next) [] turn t p e ends = absurd (none-some turn e)
-ok_current tag front fed now (Look by_uid set next) (Looked a ∷ more) turn t p e ends = called tag front [] (Look by_uid set) (Looked a) (having (Look by_uid set) (Looked a)) (played tag now (next a) more) turn (fed ≡ true) (false ≡ true) e ends (λ s. refl) (λ s. refl) never (λ s d f. ok_current tag (front ++ []) false now (next a) more s t (p a) d f)
-ok_current tag front fed now (Look by_uid set next) (Refused a ∷ []) turn t p e ends = was_given_up tag front now (Look by_uid set) a turn _ t e ends
-ok_current tag front fed now (Look by_uid set next) (_ ∷ more) turn t p e ends = absurd (none-some turn e)
-ok_current tag front fed now (Read uid mark next) [] turn t p e ends = absurd (none-some turn e)
-ok_current tag front fed now (Read uid mark next) (Found a ∷ more) turn t p e ends = called tag front [] (Read uid mark) (Found a) (having (Read uid mark) (Found a)) (played tag now (next a) more) turn (fed ≡ true) (false ≡ true) e ends (λ s. refl) (λ s. refl) never (λ s d f. ok_current tag (front ++ []) false now (next a) more s t (p a) d f)
-ok_current tag front fed now (Read uid mark next) (Refused a ∷ []) turn t p e ends = was_given_up tag front now (Read uid mark) a turn _ t e ends
-ok_current tag front fed now (Read uid mark next) (_ ∷ more) turn t p e ends = absurd (none-some turn e)
-ok_current tag front fed now (Count mailbox next) [] turn t p e ends = absurd (none-some turn e)
-ok_current tag front fed now (Count mailbox next) (Counted a ∷ more) turn t p e ends = called tag front [] (Count mailbox) (Counted a) (having (Count mailbox) (Counted a)) (played tag now (next a) more) turn (fed ≡ true) (false ≡ true) e ends (λ s. refl) (λ s. refl) never (λ s d f. ok_current tag (front ++ []) false now (next a) more s t (p a) d f)
-ok_current tag front fed now (Count mailbox next) (Refused a ∷ []) turn t p e ends = was_given_up tag front now (Count mailbox) a turn _ t e ends
-ok_current tag front fed now (Count mailbox next) (_ ∷ more) turn t p e ends = absurd (none-some turn e)
-ok_current tag front fed now (Alter uid op next) [] turn t p e ends = absurd (none-some turn e)
-ok_current tag front fed now (Alter uid op next) (Altered a ∷ more) turn t p e ends = called tag front [] (Alter uid op) (Altered a) (having (Alter uid op) (Altered a)) (played tag now (next a) more) turn (fed ≡ true) (false ≡ true) e ends (λ s. refl) (λ s. refl) never (λ s d f. ok_current tag (front ++ []) false now (next a) more s t (p a) d f)
-ok_current tag front fed now (Alter uid op next) (Refused a ∷ []) turn t p e ends = was_given_up tag front now (Alter uid op) a turn _ t e ends
-ok_current tag front fed now (Alter uid op next) (_ ∷ more) turn t p e ends = absurd (none-some turn e)
-ok_current tag front fed now (Expunge uids x) [] turn t p e ends = absurd (none-some turn e)
-ok_current tag front fed now (Expunge uids x) (Expunged a b c0 ∷ more) turn t p e ends = called tag front (lines a b) (Expunge uids) (Expunged a b c0) (λ s. having (Expunge uids) (Expunged a b c0) (saying (lines a b) s)) (played tag now x more) turn (fed ≡ true) (false ≡ true) e ends (λ s. refl) (λ s. refl) never (λ s d f. ok_current tag (front ++ lines a b) false now x more s t p d f)
-ok_current tag front fed now (Expunge uids x) (Refused a ∷ []) turn t p e ends = was_given_up tag front now (Expunge uids) a turn _ t e ends
-ok_current tag front fed now (Expunge uids x) (_ ∷ more) turn t p e ends = absurd (none-some turn e)
-ok_current tag front fed now (Feed limit x) [] turn t p e ends = absurd (none-some turn e)
-ok_current tag front fed now (Feed limit x) (Fed a b ∷ more) turn t p e ends = called tag front (lines a b) (Feed limit) (Fed a b) (λ s. having (Feed limit) (Fed a b) (saying (lines a b) s)) (played tag now x more) turn (fed ≡ true) (true ≡ true) e ends (λ s. refl) (λ s. refl) (λ is. fed_all limit a b p.0) (λ s d f. ok_current tag (front ++ lines a b) true now x more s t p.1 d f)
-ok_current tag front fed now (Feed limit x) (Refused a ∷ []) turn t p e ends = was_given_up tag front now (Feed limit) a turn _ t e ends
-ok_current tag front fed now (Feed limit x) (_ ∷ more) turn t p e ends = absurd (none-some turn e)
-ok_current tag front fed now (Leave remove x) answers turn t p e ends = absurd p
-ok_current tag front fed now (Discard mailbox uids x) [] turn t p e ends = absurd (none-some turn e)
-ok_current tag front fed now (Discard mailbox uids x) (Discarded ∷ more) turn t p e ends = called tag front [] (Discard mailbox uids) Discarded (having (Discard mailbox uids) Discarded) (played tag now x more) turn (fed ≡ true) (false ≡ true) e ends (λ s. refl) (λ s. refl) never (λ s d f. ok_current tag (front ++ []) false now x more s t p d f)
-ok_current tag front fed now (Discard mailbox uids x) (Refused a ∷ []) turn t p e ends = was_given_up tag front now (Discard mailbox uids) a turn _ t e ends
-ok_current tag front fed now (Discard mailbox uids x) (_ ∷ more) turn t p e ends = absurd (none-some turn e)
+ok_current tag front fed now x answers turn t p e ends = turn_so tag CurrentBehind (makes_current tag t) now x answers turn e front fed p ends
 
 -- ---- commands
-
-missing : NotDone (response_text texts.NoSuchMailbox)
-missing = not_done texts.NoSuchMailbox refl
 
 wrong : NotDone (response_text texts.WrongState)
 wrong = not_done texts.WrongState refl
 
-only_read : NotDone (response_text texts.ReadOnly)
-only_read = not_done texts.ReadOnly refl
+other_text : (text : ResponseText) → tells_done text ≡ false → NotDone (response_text text)
+other_text (texts.Completed verb) e = never (sym e)
+other_text texts.SelectCompleted e = never (sym e)
+other_text texts.ExamineCompleted e = never (sym e)
+other_text text e = not_done text refl
 
-bad_charset : NotDone (response_text texts.BadCharset)
-bad_charset = not_done texts.BadCharset refl
-
-too_high : NotDone (response_text texts.SequenceTooHigh)
-too_high = not_done texts.SequenceTooHigh refl
-
-found_last : {A : Type 0} (found : A → Exchange) (gone : Exchange) (o : Option A) → ((a : A) → ShowsLast false (found a)) → ShowsLast false gone → ShowsLast false (on_found found gone o)
-found_last found gone None h g = g
-found_last found gone (Some a) h g = h a
-
-writable_last : (now : Standing) (x : Exchange) → ShowsLast false x → ShowsLast false (in_writable now x)
-writable_last now x h = found_last (if_writable x) wrong_state now.selected (λ s. by s.read_only) (inr wrong)
-  where
-    by : (b : Bool) → ShowsLast false (if b then says (response_text texts.ReadOnly) else x)
-    by true = inr only_read
-    by false = h
-
-if_last : (b : Bool) (x y : Exchange) → ShowsLast false x → ShowsLast false y → ShowsLast false (if b then x else y)
-if_last true x y h g = h
-if_last false x y h g = g
-
-chosen_last : (by_uid : Bool) (set : List SeqRange) (next : List ℕ → List ℕ → Exchange) → ((view uids : List ℕ) → ShowsLast false (next view uids)) → ShowsLast false (on_set by_uid set next)
-chosen_last by_uid set next h = λ view. by view (named_in by_uid set view)
-  where
-    by : (view : List ℕ) (chosen : Option (List ℕ)) → ShowsLast false (on_chosen chosen (next view))
-    by view None = inr too_high
-    by view (Some uids) = h view uids
-
-fetching_last : (fetch : Fetch) (mark : Bool) (view : List ℕ) (done : Bool → Exchange) (uids : List ℕ) (gone : Bool) → ((b : Bool) → ShowsLast false (done b)) → ShowsLast false (fetching fetch mark view done uids gone)
-fetching_last fetch mark view done [] gone h = h gone
-fetching_last fetch mark view done (uid ∷ uids) gone h = λ row.
-    found_last (λ r. Write (fetched fetch view uid r) (fetching fetch mark view done uids gone)) (fetching fetch mark view done uids true) row (λ r. fetching_last fetch mark view done uids gone h) (fetching_last fetch mark view done uids true h)
-
-silent_last : (silent : Bool) (text : List ℕ) (x : Exchange) → ShowsLast false x → ShowsLast false (if silent then x else Write text x)
-silent_last true text x h = h
-silent_last false text x h = h
-
-storing_last : (store : Store) (view : List ℕ) (done : Bool → Exchange) (uids : List ℕ) (gone : Bool) → ((b : Bool) → ShowsLast false (done b)) → ShowsLast false (storing store view done uids gone)
-storing_last store view done [] gone h = h gone
-storing_last store view done (uid ∷ uids) gone h = λ flags.
-    found_last (λ f. stored store view uid f (storing store view done uids gone)) (storing store view done uids true) flags (λ f. silent_last store.silent _ _ (storing_last store view done uids gone h)) (storing_last store view done uids true h)
-
-messages_last : (command : Command) (by_uid gone : Bool) → by_uid ≡ true → ShowsLast false (messages_done command by_uid gone)
-messages_last command true gone e = (refl, inl refl)
-messages_last command false gone e = never e
-
-searching_last : (tag : List ℕ) (search : Search) (last : Named) (view uids found : List ℕ) → search.by_uid ≡ true → ShowsLast false (searching search last view (search_done tag search) uids found)
-searching_last tag search last view [] found e = messages_last (commands.Search search) search.by_uid false e
-searching_last tag search last view (uid ∷ uids) found e = λ row.
-    found_last (λ r. searching search last view (search_done tag search) uids (found ++ found_in search last (named_at view uid) r)) (searching search last view (search_done tag search) uids found) row
-    (λ r. searching_last tag search last view uids (found ++ found_in search last (named_at view uid) r) e) (searching_last tag search last view uids found e)
+last_steps : (tag : List ℕ) (now : Standing) (selected : Selected) (command : Command) → now.selected ≡ Some selected → shows_all command ≡ true → Steps tag now command (λ view. ShowsLast false)
+last_steps tag now selected command there shows = record {
+  told = λ view text may. inr (other_text text (may shows (ap is_some there)));
+  wanted = λ view x p. p;
+  shown = λ view. (refl, inl refl);
+  removed = λ view uids. (refl, inl refl);
+  noticed = λ view text x p. p;
+  listed = λ view listing reference pattern x p. p;
+  counted = λ view name items folder x is p status. p;
+  looked = λ view by_uid set next p. p;
+  reads = λ view uid mark next p. p;
+  fetches = λ fetch is view mark uid there gone known p q. elim [ None ↦ q | Some row ↦ p ];
+  alters = λ view uid op there gone p q. elim [ None ↦ q | Some flags ↦ p ];
+  stores = λ by_uid view uid op there gone known p q. elim [ None ↦ q | Some flags ↦ p ];
+  finds = λ search view found x p. p;
+  enters = λ view read_only name off quiet. never (sym quiet ∙ shows);
+  leaves = λ view remove off quiet. never (sym quiet ∙ shows);
+  idles = λ view is. never (sym (ap shows_all is) ∙ shows);
+  parts = λ view is. never (sym (ap shows_all is) ∙ shows);
+  appends = λ view append is. never (sym (ap shows_all is) ∙ shows);
+  submits = λ view copy is batch mailbox row copied. never (sym (ap shows_all is) ∙ shows);
+}
 
 pub command_last : (tag : List ℕ) (now : Standing) (selected : Selected) (command : Command) → now.selected ≡ Some selected → shows_all command ≡ true → ShowsLast false (on_command tag now command)
-command_last tag now selected commands.Noop is e = subst (λ (o : Option Selected). ShowsLast false (showing o (completed commands.Noop))) (sym is) (refl, inl refl)
-command_last tag now selected (commands.List reference pattern) is e = subst (λ (o : Option Selected). ShowsLast false (showing o (completed (commands.List reference pattern)))) (sym is) (refl, inl refl)
-command_last tag now selected commands.Check is e = subst (λ (o : Option Selected). ShowsLast false (showing o (completed commands.Check))) (sym is) (refl, inl refl)
-command_last tag now selected (commands.Lsub reference pattern) is e = subst (λ (o : Option Selected). ShowsLast false (showing o (completed (commands.Lsub reference pattern)))) (sym is) (refl, inl refl)
-command_last tag now selected (commands.Status name items) is e =
-    found_last (counting now.selected name items) (says (response_text texts.NoSuchMailbox)) (folder_of name now.folders)
-    (λ folder status. subst (λ (o : Option Selected). ShowsLast false (showing o (completed (commands.Status name items)))) (sym is) (refl, inl refl)) (inr missing)
-command_last tag now selected commands.Expunge is e = writable_last now (Expunge None (Feed unlimited (completed commands.Expunge))) (refl, inl refl)
-command_last tag now selected (commands.UidExpunge set) is e =
-    writable_last now (expunge_set set) (chosen_last true set (λ view uids. wanting_for uids (Expunge (Some uids) (Feed unlimited (completed (commands.UidExpunge set))))) (λ view. elim [ [] ↦ (refl, inl refl) | uid ∷ uids ↦ (refl, inl refl) ]))
-command_last tag now selected (commands.Fetch fetch) is e = found_last (fetch_messages fetch) wrong_state now.selected
-    (λ (s : Selected). chosen_last fetch.by_uid fetch.set
-    (λ view uids. fetching fetch (list_any marks_seen fetch.items && not s.read_only) view (messages_done (commands.Fetch fetch) fetch.by_uid) uids false)
-    (λ view uids. fetching_last fetch (list_any marks_seen fetch.items && not s.read_only) view (messages_done (commands.Fetch fetch) fetch.by_uid) uids false (λ b. messages_last (commands.Fetch fetch) fetch.by_uid b e))) (inr wrong)
-command_last tag now selected (commands.Search search) is e =
-    found_last (search_known tag search) wrong_state now.selected (λ s. if_last search.known_charset (search_messages tag search) (says (response_text texts.BadCharset))
-    (chosen_last true all_messages (λ view uids. wanting (searching search (named_at view (last_uid uids)) view (search_done tag search) uids []))
-    (λ view uids. searching_last tag search (named_at view (last_uid uids)) view uids [] e)) (inr bad_charset)) (inr wrong)
-command_last tag now selected (commands.Store store) is e = writable_last now (store_messages store)
-    (chosen_last store.by_uid store.set (λ view uids. storing store view (messages_done (commands.Store store) store.by_uid) uids false)
-    (λ view uids. storing_last store view (messages_done (commands.Store store) store.by_uid) uids false (λ b. messages_last (commands.Store store) store.by_uid b e)))
-command_last tag now selected _ is e = never e
+command_last tag now selected command there shows = command_so tag now command (λ view. ShowsLast false) (last_steps tag now selected command there shows) []
 
 -- a command that was refused isn't done
 refused_not_done : (text : ResponseText) → refuses text ≡ true → NotDone (response_text text)

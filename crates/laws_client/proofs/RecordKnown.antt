@@ -24,7 +24,8 @@ use Rattle.laws_client.specs.Sizes.{HasShortTexts, HasSmallNumbers}
 use Rattle.laws_client.specs.RecordTurns.{Stands, StandsStill, TurnIsKnown, VerdictsArePrinted, told_line, told_of}
 use Rattle.laws_client.specs.Views.{view_of}
 use Rattle.laws_client.proofs.RecordEntering.{closes_right, entering_right, not_entered_right, not_left_right, reads_right, selected_known, still_right, tagged_has}
-use Rattle.laws_client.proofs.Folders.{idle_folders, line_folders, the_turn, verdict_folders}
+use Rattle.laws_client.proofs.Folders.{idle_folders, line_folders, verdict_folders}
+use Rattle.laws_client.proofs.Turns.{the_turn}
 use Rattle.laws_client.proofs.Moved.{Calls, hears_world}
 use Rattle.laws_client.proofs.ToldAll.{HearsAll, sees_of}
 use Rattle.laws_client.proofs.Parts.{HasTold, read_told}

@@ -15,70 +15,24 @@ use Rattle.imap_grammar.specs.declared.command.ImapFault.{ImapFault}
 use Rattle.delivery_token.specs.declared.Verdict.{Verdict}
 use Rattle.mail_date.specs.declared.stamp.Stamp.{Stamp}
 use Rattle.delivery_token.specs.Text.{Text}
-use Rattle.mailbox.specs.declared.clients.MailFault.TheVariants.{Stranger, Lapped}
-use Rattle.imap_session.specs.declared.standing.Selected.{Selected}
-use Rattle.imap_session.specs.Exchange.{Answer, Fed, Refused, is_idling, PendingLiteral, Asked, Dropped, Folder, ForDone, ForLiteral, ForNothing, ForVerdict, Mailing, Sent, Standing, Turn, Unasked, Waiting, waiting, Argument, Message, Response, Purpose, Origin, Client, Copied, Batch}
-use Rattle.imap_session.specs.Commands.{due_of, fault_text, idle_turn_in, kept_text, number_named, on_command, on_idle_line, on_read, on_rest, on_verdict, only_says, taking, turn_of, turn_with, with_bytes, without_begun, without_sent, logged_in, logs_in_as, on_line, says, on_text_line, date_for, flags_for, mailbox_for, completed, response_in, most_line}
+use Rattle.imap_session.specs.Exchange.{Answer, is_idling, PendingLiteral, Asked, Dropped, Folder, ForDone, ForLiteral, ForNothing, ForVerdict, Mailing, Sent, Standing, Turn, Unasked, Waiting, Argument, Message, Response, Purpose, Origin, Client, Copied, Batch}
+use Rattle.imap_session.specs.Commands.{due_of, fault_text, kept_text, number_named, on_read, only_says, taking, turn_of, turn_with, with_bytes, without_begun, without_sent, logs_in_as, on_line, says, on_text_line, date_for, flags_for, mailbox_for, response_in, most_line}
 use Rattle.imap_session.specs.Store.{IdleTurns, Met}
 use Rattle.house_peers.proofs.Rising.{idles_keep}
 use Rattle.laws_client.specs.Talks.{Happening, Line, LongLine, Turned, Literal, Heard, leads_to}
-use Rattle.laws_client.proofs.IdleTags.{Keeps, played_keeps}
+use Rattle.laws_client.proofs.Folders.{heard_folders, idle_folders, line_folders}
 use Rattle.laws_client.proofs.Turns.{the_turn}
 use Rattle.laws_client.specs.Appends.{IsSentAs, IsSpelled, as_it_stands, with_literal, with_response, CameAs, CameBy, IsCopyOf}
 use Rattle.laws_client.specs.Lives.{IsSentFor}
 use Rattle.laws_client.proofs.Moved.{Calls}
 use Rattle.laws_client.proofs.Waiting.{ForItsArgument, ForItsLiteral, ForItsResponse, ForItsVerdict, IsMail, SubmitsNone, append_mail, argument_mail, given_mail, response_mail, idling_mail, other_mail, rest_mail, verdict_mail, ForItsCopy, copy_mail, ForTheNext, IsNext}
-use Rattle.laws_client.proofs.Barred.{line_case}
-use Rattle.imap_session.specs.Texts.{response_text}
 use Rattle.change_ring.specs.declared.change.Flags.{Flags}
 use Rattle.imap_grammar.specs.declared.command.Authenticate.{Authenticate}
 use Rattle.imap_grammar.specs.Literals.{announced, quoted}
 use Rattle.laws_client.specs.Commands.{whole_line, whole_in, whole_behind, if_kept}
-use Rattle.imap_session.proofs.Parts.{text_line_has}
-use Rattle.laws_client.proofs.WholeLines.{turn_given, text_awaits, turn_has}
+use Rattle.laws_client.proofs.WholeLines.{turn_given, text_awaits}
 use Rattle.imap_grammar.specs.declared.command.CopyMessages.{CopyMessages}
 use Rattle.mailbox.specs.declared.clients.Row.{Row}
-
--- ---- what stays so behind a line
-
--- whatever stays so while it answers, of a session that no longer idles, or waits for no literal, also where it logs in
-pub line_stays : (Q : Standing → Type 0) → ((tag : List ℕ) → Keeps Q tag) → (now : Standing) (line : List ℕ) (answers : List Answer) (turn : Turn) → Q (record now { idling = None }) → Q (without_begun now) → Q (logged_in (without_begun now))
-    → turn_of now line answers ≡ Some turn → Q turn.standing
-line_stays Q keeps now line answers turn r s l e =
-    turn_has (λ whole o. o ≡ Some turn → Q turn.standing) now line answers
-    (λ tag b i d. played_keeps Q tag (keeps tag) (record now { idling = None }) (on_idle_line now.selected line) answers turn r d)
-    (λ a mailbox flags date b p d. played_keeps Q a.tag (keeps a.tag) bare (on_rest now.mailing a (length line == 0)) answers turn s d)
-    (λ a x b part d. played_keeps Q a.tag (keeps a.tag) bare x answers turn s d)
-    (λ whole w d. text_line_has (λ o. o ≡ Some turn → Q turn.standing) bare whole answers (λ tag x part f. played_keeps Q tag (keeps tag) bare x answers turn s f) (λ f. reads (read whole) f) d) e
-  where
-    bare : Standing
-    bare = without_begun now
-
-    said : (text : List ℕ) (answers : List Answer) → only_says text bare answers ≡ Some turn → Q turn.standing
-    said text [] e = subst (λ (t : Turn). Q t.standing) (ap (the_turn turn) e) s
-    said text (a ∷ more) e = absurd (none-some turn e)
-
-    reads : (found : Result (List ℕ × Command) ImapFault) → on_read bare found answers ≡ Some turn → Q turn.standing
-    reads (Ok c) e =
-        line_case (Q turn.standing) bare c.0 c.1 answers turn (λ logs d. played_keeps Q c.0 (keeps c.0) (logged_in bare) (completed c.1) answers turn l d)
-        (λ text is d. played_keeps Q c.0 (keeps c.0) bare (says (response_text text)) answers turn s d) (λ d. played_keeps Q c.0 (keeps c.0) bare (on_command c.0 bare c.1) answers turn s d) e
-    reads (Err fault) e = said (fault_text now.profile fault) answers e
-
--- its mailboxes
-
-HasFolders : List Folder → Standing → Type 0
-HasFolders folders s = s.folders ≡ folders
-
-folders_wait : (folders : List Folder) (tag : List ℕ) (now : Standing) (w : Waiting) → HasFolders folders now → HasFolders folders (waiting tag w now)
-unfolding HasFolders
-folders_wait folders tag now ForDone k = k
-folders_wait folders tag now (ForLiteral coming purpose size) k = k
-folders_wait folders tag now (ForVerdict origin mailbox flags text) k = k
-folders_wait folders tag now ForNothing k = k
-
-folders_keep : (folders : List Folder) (tag : List ℕ) → Keeps (HasFolders folders) tag
-unfolding HasFolders
-folders_keep folders tag = record { ends = λ now k. k; enters = λ now selected k. k; waits = folders_wait folders tag }
 
 -- ---- what its client sent
 
@@ -516,7 +470,6 @@ text_mailed folders sent bytes line now answers turn m says same e =
         (λ other. only (other_mail l.0 bare l.1 answers turn other e))
 
 line_mailed : (folders : List Folder) (sent line : List ℕ) (now : Standing) (answers : List Answer) (turn : Turn) → Mailed folders sent now → due_of now.mailing.begun ≡ 0 → turn_of now line answers ≡ Some turn → Mailed folders (sent ++ (line ++ crlf)) turn.standing
-unfolding HasFolders
 line_mailed folders sent line now answers turn m due e =
     turn_given (λ whole o. o ≡ Some turn → Mailed folders (sent ++ (line ++ crlf)) turn.standing) now line answers
     (λ tag b i d. let mailing = idling_mail tag (record now { idling = None }) now.selected line answers turn d in
@@ -527,27 +480,7 @@ line_mailed folders sent line now answers turn m due e =
     (λ whole w d. text_mailed folders sent (line ++ crlf) whole now answers turn m (says_line folders sent line whole now m due w) same d) e
   where
     same : turn.standing.folders ≡ now.folders
-    same = line_stays (HasFolders now.folders) (folders_keep now.folders) now line answers turn refl refl refl e
-
-turned_folders : (selected : Option Selected) (idling : Bool) (now : Standing) (answers : List Answer) (turn : Turn) → idle_turn_in selected idling now answers ≡ Some turn → turn.standing.folders ≡ now.folders
-turned_folders (Some selected) true now [] turn e = absurd (none-some turn e)
-turned_folders (Some selected) true now (Fed met changes ∷ []) turn e = subst (λ (s : Turn). s.standing.folders ≡ now.folders) (ap (the_turn turn) e) refl
-turned_folders (Some selected) true now (Refused Lapped ∷ []) turn e = subst (λ (s : Turn). s.standing.folders ≡ now.folders) (ap (the_turn turn) e) refl
-turned_folders (Some selected) true now (Refused Stranger ∷ []) turn e = subst (λ (s : Turn). s.standing.folders ≡ now.folders) (ap (the_turn turn) e) refl
-turned_folders (Some selected) true now (_ ∷ more) turn e = absurd (none-some turn e)
-turned_folders (Some selected) false now [] turn e = subst (λ (s : Turn). s.standing.folders ≡ now.folders) (ap (the_turn turn) e) refl
-turned_folders (Some selected) false now (a ∷ more) turn e = absurd (none-some turn e)
-turned_folders None true now [] turn e = subst (λ (s : Turn). s.standing.folders ≡ now.folders) (ap (the_turn turn) e) refl
-turned_folders None true now (a ∷ more) turn e = absurd (none-some turn e)
-turned_folders None false now [] turn e = subst (λ (s : Turn). s.standing.folders ≡ now.folders) (ap (the_turn turn) e) refl
-turned_folders None false now (a ∷ more) turn e = absurd (none-some turn e)
-
-idle_folders : (now : Standing) (answers : List Answer) (turn : Turn) → leads_to now (Turned answers) ≡ Some turn → turn.standing.folders ≡ now.folders
-idle_folders now answers turn e = turned_folders now.selected (is_idling now) now answers turn e
-
-verdict_folders : (s : Sent) (now : Standing) (verdict : Verdict) (answers : List Answer) (turn : Turn) → turn_with (Some s) now verdict answers ≡ Some turn → turn.standing.folders ≡ now.folders
-unfolding HasFolders
-verdict_folders s now verdict answers turn e = played_keeps (HasFolders now.folders) s.tag (folders_keep now.folders s.tag) (without_sent now) (on_verdict now.mailing now.selected s.origin s.append.mailbox verdict) answers turn refl e
+    same = line_folders now line answers turn e
 
 -- the next message of a batch, behind one whose copy was stored, came by the same command
 next_came : (folders : List Folder) (sent : List ℕ) (s : Sent) (verdict : Verdict) (number to : ℕ) (flags : Flags) (text : Text) (next : Origin) → CameAs folders sent s → IsNext s.origin verdict next flags text → to ≡ s.append.mailbox
@@ -603,7 +536,7 @@ mail_turn k n folders sent bytes now w (Turned answers) turn v m due is e met =
     let i : IdleTurns (Calls k n) now w v [] turn.bytes _ turn.standing = record { answers = answers; events = turn.events; bytes = turn.bytes; how = turn.after; played = e; met = met; wrote = refl; shown = refl } in
     let mailing = idles_keep (Calls k n) now w v [] turn.bytes _ turn.standing i in
     subst (λ (x : List ℕ). Mailed folders x turn.standing) (sym (ap (λ (x : List ℕ). sent ++ x) is ∙ append-nil sent)) (record {
-      same = idle_folders now answers turn e ∙ m.same;
+      same = idle_folders now.selected (is_idling now) now answers turn e ∙ m.same;
       begun = subst (λ (x : Mailing). IfSome x.begun (IsBegunAs folders sent)) (sym mailing) m.begun;
       waits = subst (λ (x : Mailing). IfSome x.sent (CameAs folders sent)) (sym mailing) m.waits;
     })
@@ -619,5 +552,5 @@ mail_turn k n folders sent bytes now w (Heard verdict answers) turn v m due is e
     by : (o : Option Sent) → IfSome o (CameAs folders sent) → turn_with o now verdict answers ≡ Some turn → Mailed folders (sent ++ bytes) turn.standing
     by None came e = absurd (none-some turn e)
     by (Some s) came e =
-        verdict_waits folders sent bytes s verdict now turn.standing m came (verdict_folders s now verdict answers turn e)
+        verdict_waits folders sent bytes s verdict now turn.standing m came (heard_folders (Some s) now verdict answers turn e)
         (verdict_mail s.tag (without_sent now) now.mailing now.selected s.origin s.append.mailbox verdict answers turn e)

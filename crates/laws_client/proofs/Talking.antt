@@ -1,17 +1,15 @@
 -- A whole talk, one turn behind the other.
-use Rattle.std.proofs.Common.{◌≡◌, ℕ, Bool, true, false, List, [], ◌∷◌, ap, sym, refl, subst}
+use Rattle.std.proofs.Common.{◌≡◌, ℕ, true, List, [], ◌∷◌, ap, sym, refl, subst}
 use Rattle.std.specs.Prelude.{Option, Some, None, IfSome}
-use Rattle.std.proofs.lemmas.Option.{none-some}
-use Rattle.mailbox.specs.declared.clients.MailFault.TheVariants.{Stranger, Lapped}
-use Rattle.imap_session.specs.declared.standing.Selected.{Selected}
-use Rattle.imap_session.specs.Exchange.{Answer, Fed, Refused, Standing, Turn, PendingLiteral, is_idling, kept_behind, may_send}
-use Rattle.imap_session.specs.Commands.{idle_turn_in, turn_of_long_line, with_bytes}
+use Rattle.imap_session.specs.Exchange.{Standing, Turn, PendingLiteral, is_idling, kept_behind, may_send}
+use Rattle.imap_session.specs.Commands.{turn_of_long_line, with_bytes}
 use Rattle.laws_client.specs.Beliefs.{IsOf, Follows, Leads}
 use Rattle.laws_client.specs.ListLaws.{TalkIsFollowed}
 use Rattle.laws_client.specs.Talks.{Happening, Line, LongLine, Turned, Literal, Heard, MayHappen, leads_to}
 use Rattle.laws_client.specs.ListTurns.{AreTags, IsTag, SeesAll}
 use Rattle.laws_client.proofs.Commands.{answer_is_followed, long_line_tells_nothing, verdict_is_followed}
 use Rattle.laws_client.proofs.Ends.{leaves}
+use Rattle.laws_client.proofs.EachExchange.{idle_keeps}
 use Rattle.laws_client.proofs.IdleTags.{AreTagsOf, Kept, bytes_keep, line_keeps, verdict_keeps}
 use Rattle.laws_client.proofs.Tags.{word_is_tag}
 use Rattle.imap_grammar.specs.Bytes.{is_tag}
@@ -19,24 +17,11 @@ use Rattle.imap_grammar.specs.Items.{is_word_of}
 use Rattle.laws_client.proofs.IdleTurns.{idle_turn_is_followed}
 use Rattle.laws_client.proofs.Turns.{rests_in, the_turn, then_follows}
 
-turned_keeps : (P : List ℕ → Type 0) (selected : Option Selected) (idling : Bool) (now : Standing) (answers : List Answer) (turn : Turn) → AreTagsOf P now → idle_turn_in selected idling now answers ≡ Some turn → Kept (AreTagsOf P) turn
-turned_keeps P (Some selected) true now [] turn k e = absurd (none-some turn e)
-turned_keeps P (Some selected) true now (Fed met changes ∷ []) turn k e = subst (λ (s : Turn). Kept (AreTagsOf P) s) (ap (the_turn turn) e) k
-turned_keeps P (Some selected) true now (Refused Lapped ∷ []) turn k e = subst (λ (s : Turn). Kept (AreTagsOf P) s) (ap (the_turn turn) e) k
-turned_keeps P (Some selected) true now (Refused Stranger ∷ []) turn k e = subst (λ (s : Turn). Kept (AreTagsOf P) s) (ap (the_turn turn) e) k
-turned_keeps P (Some selected) true now (_ ∷ more) turn k e = absurd (none-some turn e)
-turned_keeps P (Some selected) false now [] turn k e = subst (λ (s : Turn). Kept (AreTagsOf P) s) (ap (the_turn turn) e) k
-turned_keeps P (Some selected) false now (a ∷ more) turn k e = absurd (none-some turn e)
-turned_keeps P None true now [] turn k e = subst (λ (s : Turn). Kept (AreTagsOf P) s) (ap (the_turn turn) e) k
-turned_keeps P None true now (a ∷ more) turn k e = absurd (none-some turn e)
-turned_keeps P None false now [] turn k e = subst (λ (s : Turn). Kept (AreTagsOf P) s) (ap (the_turn turn) e) k
-turned_keeps P None false now (a ∷ more) turn k e = absurd (none-some turn e)
-
 -- whatever holds of all words of tags
 pub happening_keeps_so : (P : List ℕ → Type 0) → ((tag : List ℕ) → is_word_of is_tag tag ≡ true → P tag) → (now : Standing) (happening : Happening) (turn : Turn) → AreTagsOf P now → leads_to now happening ≡ Some turn → Kept (AreTagsOf P) turn
 happening_keeps_so P make now (Line line answers) turn k e = line_keeps P make now line answers turn k e
 happening_keeps_so P make now LongLine turn k e = subst (λ (s : Turn). Kept (AreTagsOf P) s) (ap (the_turn turn) e) (tt, tt, k.2)
-happening_keeps_so P make now (Turned answers) turn k e = turned_keeps P now.selected (is_idling now) now answers turn k e
+happening_keeps_so P make now (Turned answers) turn k e = idle_keeps (AreTagsOf P) now.selected (is_idling now) now answers turn k k e
 happening_keeps_so P make now (Literal kept bytes) turn k e = subst (λ (s : Turn). Kept (AreTagsOf P) s) (ap (the_turn turn) e) (bytes_keep P now kept bytes k)
 happening_keeps_so P make now (Heard verdict answers) turn k e = verdict_keeps P now verdict answers turn k e
 

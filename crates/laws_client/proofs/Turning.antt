@@ -1,9 +1,7 @@
 -- What a client reads of a turn, by the session's first call and its answer.
 use Rattle.std.proofs.Common.{◌≡◌, ℕ, ◌+◌, ◌≤◌, List, [], ◌∷◌, ◌++◌, length, drop, ap, ap₂, ◌∙◌, sym, refl, subst, arith, append-nil, length-append}
-use Rattle.std.specs.Prelude.{Option, Some, None}
-use Rattle.std.specs.Option.{option_map}
+use Rattle.std.specs.Prelude.{Option, Some}
 use Rattle.std.proofs.lemmas.List.{length-drop, take-append-le}
-use Rattle.std.proofs.lemmas.Option.{none-some}
 use Rattle.change_ring.specs.declared.change.Change.{Change}
 use Rattle.change_ring.specs.Log.{replay}
 use Rattle.cursor_set.specs.Lines.{lines}
@@ -11,24 +9,19 @@ use Rattle.mailbox.specs.declared.clients.MailFault.{MailFault}
 use Rattle.mailbox.specs.declared.clients.Row.{Row}
 use Rattle.mailbox.specs.declared.mailbox.Status.{Status}
 use Rattle.change_ring.specs.declared.change.Flags.{Flags}
-use Rattle.mailbox.specs.declared.clients.MailFault.TheVariants.{NoMemory}
 use Rattle.imap_session.specs.declared.standing.After.{After}
-use Rattle.imap_session.specs.declared.standing.After.TheVariants.{Bye}
-use Rattle.imap_session.specs.declared.standing.After.TheVariants as afters
-use Rattle.imap_session.proofs.Unkept.{unkept_by}
-use Rattle.imap_session.specs.Exchange.{Call, Answer, Looked, Found, Counted, Altered, Refused, Event, Exchange, Done, Wait, Write, Put, Enter, Look, Read, Count, Alter, Expunge, Feed, Leave, Standing, Turn, refusal_text, refusal_after, refused, closed, nothing_more, having, saying, tagged, Dropped, ForLiteral, ForNothing, Waiting, bye, unkept, waiting, Discard, Discarded}
+use Rattle.imap_session.specs.Exchange.{Call, Answer, Looked, Found, Counted, Altered, Refused, Event, Exchange, Done, Wait, Write, Put, Enter, Look, Read, Count, Alter, Expunge, Feed, Leave, Standing, Turn, refusal_text, refusal_after, refused, closed, nothing_more, having, tagged, Discard, Discarded}
 use Rattle.laws_client.specs.Client.{Known, Client, knowing, reads}
 use Rattle.laws_client.specs.Beliefs.{Each, Follows, MayShow, TellsNothing}
 use Rattle.laws_client.proofs.Bytes.{reads-append}
 use Rattle.laws_client.proofs.Each.{each_weaker}
-use Rattle.laws_client.proofs.Turns.{closed_quiet, closed_silent, had, had_and_said, the_turn}
+use Rattle.laws_client.proofs.EachExchange.{at_turn}
+use Rattle.laws_client.proofs.Turns.{closed_quiet, closed_silent}
 use Rattle.laws_client.specs.Flags.{Believes, KnowsFlags, Point, counted}
 use Rattle.laws_client.specs.FlagTurns.{IfInside, LeadsFlags, LeavesFlags, shown_in}
 use Rattle.laws_client.proofs.FlagMoments.{SeesAllMoments, SeesMoments}
 use Rattle.laws_client.proofs.Following.{lines_tell_flags}
 use Rattle.laws_client.proofs.Moments.{flags_outlast}
-use Rattle.imap_session.specs.declared.texts.ResponseText.TheVariants as texts
-use Rattle.imap_session.specs.Texts.{response_text}
 
 -- what is said where the store refuses tells nothing of flags
 abbrev pub Refusals : List ℕ → Type 0
@@ -101,50 +94,35 @@ then_tells p q list one two f g = record {
 -- ---- a turn by its first answer
 
 -- a text that is written, and what comes behind it
-pub writes : (p : Point) (text : List ℕ) (rest : Option Turn) (turn : Turn) (q : Point)
-    → option_map (saying text) rest ≡ Some turn → SeesAllMoments p turn.events q → LeavesFlags p text
-    → ((more : Turn) → rest ≡ Some more → SeesAllMoments p more.events q → LeadsFlags p more.bytes q)
-    → LeadsFlags p turn.bytes q
-writes p text None turn q e sees stays behind list right = absurd (none-some turn e)
-writes p text (Some more) turn q e sees stays behind list right =
-    let same : saying text more ≡ turn = ap (the_turn turn) e in
-    let s : SeesAllMoments p more.events q = subst (λ (t : Turn). SeesAllMoments p t.events q) (sym same) sees in
-    let f = stays list right in
-    subst (λ (t : Turn). Follows (Believes q) list t.bytes (counted q)) same (then_tells p q list text more.bytes f (behind more refl s f.after f.each))
+pub said_first : (p : Point) (text : List ℕ) (more : Turn) (q : Point) → LeavesFlags p text → LeadsFlags p more.bytes q → LeadsFlags p (text ++ more.bytes) q
+said_first p text more q stays behind list right = let f = stays list right in then_tells p q list text more.bytes f (behind f.after f.each)
 
 -- a call that shows nothing
-pub calls : (p : Point) (call : Call) (answer : Answer) (rest : Option Turn) (turn : Turn) (q : Point)
-    → option_map (having call answer) rest ≡ Some turn → SeesAllMoments p turn.events q → shown_in answer ≡ []
+pub called_first : (p : Point) (call : Call) (answer : Answer) (more : Turn) (q : Point)
+    → SeesAllMoments p (record { call = call; answer = answer } ∷ more.events) q → shown_in answer ≡ []
     → ((mid : Point) → IfInside answer (SeesMoments p (record { call = call; answer = answer }) mid) → SeesMoments p (record { call = call; answer = answer }) mid)
-    → ((more : Turn) (mid : Point) → SeesMoments p (record { call = call; answer = answer }) mid → rest ≡ Some more → SeesAllMoments mid more.events q → LeadsFlags mid more.bytes q)
-    → LeadsFlags p turn.bytes q
-calls p call answer rest turn q e sees none inside behind list right =
-    let o = had call answer rest turn e in
-    let s : SeesAllMoments p (record { call = call; answer = answer } ∷ o.more.events) q = subst (λ (events : List Event). SeesAllMoments p events q) o.events sees in
-    subst (λ (bytes : List ℕ). Follows (Believes q) list bytes (counted q)) (sym o.bytes)
-    (behind o.more s.0 (inside s.0 s.1) o.is s.2 list (grown_still p (record { call = call; answer = answer }) s.0 (inside s.0 s.1) none list right))
+    → ((mid : Point) → SeesMoments p (record { call = call; answer = answer }) mid → SeesAllMoments mid more.events q → LeadsFlags mid more.bytes q)
+    → LeadsFlags p more.bytes q
+called_first p call answer more q s none inside behind list right =
+    let one = inside s.0 s.1 in behind s.0 one s.2 list (grown_still p (record { call = call; answer = answer }) s.0 one none list right)
 
 -- a call that shows changes
-pub shows : (p : Point) (call : Call) (answer : Answer) (met : List ℕ) (changes : List Change)
+pub shown_first : (p : Point) (call : Call) (answer : Answer) (met : List ℕ) (changes : List Change)
     → ((mid : Point) → SeesMoments p (record { call = call; answer = answer }) mid → (met ≡ counted p) × MayShow (counted p) changes) → shown_in answer ≡ changes
     → ((mid : Point) → IfInside answer (SeesMoments p (record { call = call; answer = answer }) mid) → SeesMoments p (record { call = call; answer = answer }) mid)
-    → (rest : Option Turn) (turn : Turn) (q : Point)
-    → option_map (λ (t : Turn). having call answer (saying (lines met changes) t)) rest ≡ Some turn → SeesAllMoments p turn.events q
-    → ((more : Turn) (mid : Point) → rest ≡ Some more → SeesAllMoments mid more.events q → LeadsFlags mid more.bytes q)
-    → LeadsFlags p turn.bytes q
-shows p call answer met changes tells is inside rest turn q e sees behind list right =
-    let o = had_and_said call answer (lines met changes) rest turn e in
+    → (more : Turn) (q : Point) → SeesAllMoments p (record { call = call; answer = answer } ∷ more.events) q
+    → ((mid : Point) → SeesAllMoments mid more.events q → LeadsFlags mid more.bytes q)
+    → LeadsFlags p (lines met changes ++ more.bytes) q
+shown_first p call answer met changes tells is inside more q s behind list right =
     let event : Event = record { call = call; answer = answer } in
-    let s : SeesAllMoments p (event ∷ o.more.events) q = subst (λ (events : List Event). SeesAllMoments p events q) o.events sees in
     let one : SeesMoments p event s.0 = inside s.0 s.1 in
     let t = tells s.0 one in
     let d : drop p.cursor p.log ≡ changes ++ one.rest = subst (λ (cs : List Change). drop p.cursor p.log ≡ cs ++ one.rest) is one.shows in
     let after : Point = record { log = p.log; cursor = p.cursor + length changes } in
     let f : Follows (Believes after) list (lines met changes) (counted after) =
     subst (λ (v : List ℕ). Follows (Believes after) list (lines v changes) (counted after)) (sym t.0) (lines_tell_flags p changes one.rest one.legal one.within d t.1 list right) in
-    let more : KnowsFlags s.0 f.after = grown p event s.0 one f.after (subst (λ (cs : List Change). KnowsFlags (record { log = p.log; cursor = p.cursor + length cs }) f.after) (sym is) f.each) in
-    subst (λ (bytes : List ℕ). Follows (Believes q) list bytes (counted q)) (sym o.bytes)
-    (then_tells after q list (lines met changes) o.more.bytes f (behind o.more s.0 o.is s.2 f.after more))
+    let known : KnowsFlags s.0 f.after = grown p event s.0 one f.after (subst (λ (cs : List Change). KnowsFlags (record { log = p.log; cursor = p.cursor + length cs }) f.after) (sym is) f.each) in
+    then_tells after q list (lines met changes) more.bytes f (behind s.0 s.2 f.after known)
 
 -- ---- how a turn ends
 
@@ -154,44 +132,27 @@ alone p text last q silent same stays list right =
     subst (λ (r : Point). Follows (Believes r) list (text ++ last.bytes) (counted r)) (sym same)
     (subst (λ (b : List ℕ). Follows (Believes p) list b (counted p)) (sym (ap (λ (b : List ℕ). text ++ b) silent ∙ append-nil text)) (stays list right))
 
-pub ends : (p : Point) (now : Standing) (text : List ℕ) (how : After) (turn : Turn) (q : Point) → Some (saying text (closed now how)) ≡ Some turn → LeavesFlags p text → SeesAllMoments p turn.events q
-    → LeadsFlags p turn.bytes q
-ends p now text how turn q e stays sees =
-    let same : saying text (closed now how) ≡ turn = ap (the_turn turn) e in
-    let s : SeesAllMoments p [] q = subst (λ (events : List Event). SeesAllMoments p events q) (ap (λ (t : Turn). t.events) (sym same) ∙ closed_quiet now how) sees in
-    subst (λ (t : Turn). LeadsFlags p t.bytes q) same (alone p text (closed now how) q (closed_silent now how) s stays)
+pub ends_so : (p : Point) (now : Standing) (text : List ℕ) (how : After) (q : Point) → LeavesFlags p text → SeesAllMoments p (closed now how).events q → LeadsFlags p (text ++ (closed now how).bytes) q
+ends_so p now text how q stays sees =
+    alone p text (closed now how) q (closed_silent now how) (subst (λ (events : List Event). SeesAllMoments p events q) (closed_quiet now how) sees) stays
 
 -- this is said, and the session waits
-pub waits_on : (p : Point) (bytes : List ℕ) (how : After) (now : Standing) (turn : Turn) (q : Point) → Some (saying bytes (nothing_more how now)) ≡ Some turn → LeavesFlags p bytes
-    → SeesAllMoments p turn.events q → LeadsFlags p turn.bytes q
-waits_on p bytes how now turn q e stays sees =
-    let last : Turn = nothing_more how now in
-    let same : saying bytes last ≡ turn = ap (the_turn turn) e in
-    let s : SeesAllMoments p [] q = subst (λ (events : List Event). SeesAllMoments p events q) (ap (λ (t : Turn). t.events) (sym same)) sees in
-    subst (λ (t : Turn). LeadsFlags p t.bytes q) same (alone p bytes last q refl s stays)
+pub said_waiting : (p : Point) (bytes : List ℕ) (q : Point) → LeavesFlags p bytes → q ≡ p → LeadsFlags p (bytes ++ []) q
+said_waiting p bytes q stays same list right =
+    subst (λ (r : Point). Follows (Believes r) list (bytes ++ []) (counted r)) (sym same)
+    (subst (λ (b : List ℕ). Follows (Believes p) list b (counted p)) (sym (append-nil bytes)) (stays list right))
 
 -- memory was refused, or the store refused
-pub gives_up : (tag : List ℕ) (refusals : Refusals tag) (p : Point) (now : Standing) (fault : MailFault) (turn : Turn) (q : Point) → Some (refused tag now fault) ≡ Some turn
-    → SeesAllMoments p turn.events q → LeadsFlags p turn.bytes q
-gives_up tag refusals p now fault turn q e sees = ends p now (refusal_text tag fault) (refusal_after fault) turn q e (refusals p fault) sees
+pub starved_so : (tag : List ℕ) (refusals : Refusals tag) (p : Point) (now : Standing) (fault : MailFault) (q : Point) → SeesAllMoments p (refused tag now fault).events q → LeadsFlags p (refused tag now fault).bytes q
+starved_so tag refusals p now fault q sees = ends_so p now (refusal_text tag fault) (refusal_after fault) q (refusals p fault) sees
 
--- memory was refused to who was to wait: it is told so, the bytes of its literal are dropped, or the session ends
-pub goes_without : (tag : List ℕ) (refusals : Refusals tag) (p : Point) (now : Standing) (waits : Waiting) (n : ℕ) (turn : Turn) (q : Point) → unkept tag waits now n ≡ Some turn
-    → SeesAllMoments p turn.events q → LeadsFlags p turn.bytes q
-goes_without tag refusals p now waits n turn q e sees =
-    let P : Option Turn → Type 0 = λ o. o ≡ Some turn → LeadsFlags p turn.bytes q in
-    unkept_by P (λ d. absurd (none-some turn d)) tag now (λ d. gives_up tag refusals p now NoMemory turn q d sees)
-    (λ purpose size d. waits_on p [] (afters.Literal size) (waiting tag (ForLiteral Dropped purpose size) now) turn q d (leaves p [] (λ messages. refl)) sees)
-    (λ d. waits_on p (bye (response_text texts.ByeOutOfMemory)) Bye (waiting tag ForNothing now) turn q d (leaves p _ (λ messages. refl)) sees) waits n e
-
-pub is_refused : (tag : List ℕ) (refusals : Refusals tag) (p : Point) (now : Standing) (call : Call) (fault : MailFault) (turn : Turn) (q : Point)
-    → Some (having call (Refused fault) (refused tag now fault)) ≡ Some turn → SeesAllMoments p turn.events q → LeadsFlags p turn.bytes q
-is_refused tag refusals p now call fault turn q e sees =
-    calls p call (Refused fault) (Some (refused tag now fault)) turn q e sees refl (λ mid s. s) (λ t mid s d more. gives_up tag refusals mid now fault t q d more)
+pub refused_so : (tag : List ℕ) (refusals : Refusals tag) (p : Point) (now : Standing) (call : Call) (fault : MailFault) (q : Point)
+    → SeesAllMoments p (having call (Refused fault) (refused tag now fault)).events q → LeadsFlags p (refused tag now fault).bytes q
+refused_so tag refusals p now call fault q sees = called_first p call (Refused fault) (refused tag now fault) q sees refl (λ mid s. s) (λ mid s more. starved_so tag refusals mid now fault q more)
 
 -- nothing is met, and nothing is written
+pub rested_so : (p q : Point) → q ≡ p → LeadsFlags p [] q
+rested_so p q same list right = subst (λ (r : Point). Follows (Believes r) list [] (counted r)) (sym same) (record { after = list; reads = refl; each = right })
+
 pub rests_in : (p : Point) (how : After) (now : Standing) (turn : Turn) (q : Point) → Some (nothing_more how now) ≡ Some turn → SeesAllMoments p turn.events q → LeadsFlags p turn.bytes q
-rests_in p how now turn q e sees list right =
-    let same : nothing_more how now ≡ turn = ap (the_turn turn) e in
-    let s : q ≡ p = subst (λ (t : Turn). SeesAllMoments p t.events q) (sym same) sees in
-    subst (λ (t : Turn). Follows (Believes q) list t.bytes (counted q)) same (subst (λ (r : Point). Follows (Believes r) list [] (counted r)) (sym s) (record { after = list; reads = refl; each = right }))
+rests_in p how now turn q e sees = at_turn (λ (t : Turn). SeesAllMoments p t.events q → LeadsFlags p t.bytes q) (Some (nothing_more how now)) turn (rested_so p q) e sees

@@ -1,22 +1,19 @@
 -- What a client reads of a turn, by the session's first call and its answer.
 use Rattle.std.proofs.Common.{◌≡◌, ℕ, List, [], ◌∷◌, ◌++◌, ap, ◌∙◌, sym, refl, subst}
 use Rattle.std.specs.Prelude.{Option, Some, None}
-use Rattle.std.specs.Option.{option_map}
 use Rattle.std.proofs.lemmas.List.{append-nil}
-use Rattle.std.proofs.lemmas.Option.{none-some}
 use Rattle.change_ring.specs.declared.change.Change.{Change}
 use Rattle.change_ring.specs.Log.{replay}
 use Rattle.cursor_set.specs.Lines.{lines}
 use Rattle.mailbox.specs.declared.clients.MailFault.{MailFault}
 use Rattle.imap_session.specs.declared.standing.After.{After}
-use Rattle.imap_session.specs.declared.standing.After.TheVariants.{Go, Bye}
-use Rattle.imap_session.specs.declared.standing.After.TheVariants as afters
-use Rattle.imap_session.specs.Exchange.{Call, Answer, Refused, Event, Standing, Turn, refusal_text, refusal_after, refused, closed, nothing_more, having, saying}
+use Rattle.imap_session.specs.Exchange.{Call, Answer, Refused, Event, Standing, Turn, refusal_text, refusal_after, refused, closed, nothing_more, having}
 use Rattle.imap_session.specs.Store.{ViewAfter}
 use Rattle.laws_client.specs.Client.{Known, Client, knowing, reads}
 use Rattle.laws_client.specs.Beliefs.{Each, IsOf, Follows, Leads, Leaves, MayShow}
 use Rattle.laws_client.specs.ListTurns.{Fits, SeesAll}
 use Rattle.laws_client.proofs.Bytes.{reads-append}
+use Rattle.laws_client.proofs.EachExchange.{at_turn, closed_so}
 use Rattle.laws_client.proofs.Follows.{lines_are_followed}
 
 -- what is said where the store refuses tells nothing of messages
@@ -30,88 +27,43 @@ then_follows list one two view new f g = record {
   each = g.each;
 }
 
--- ---- a turn by its first answer
-
--- a turn that is another one with an event and a text first
-pub record Onward (call : Call) (answer : Answer) (text : List ℕ) (rest : Option Turn) (turn : Turn) : Type 0 where
-  pub more : Turn
-  pub is : rest ≡ Some more
-  pub events : turn.events ≡ record { call = call; answer = answer } ∷ more.events
-  pub bytes : turn.bytes ≡ text ++ more.bytes
-
 abbrev pub the_turn : Turn → Option Turn → Turn
 the_turn d None = d
 the_turn d (Some t) = t
 
-pub had : (call : Call) (answer : Answer) (rest : Option Turn) (turn : Turn) → option_map (having call answer) rest ≡ Some turn → Onward call answer [] rest turn
-had call answer None turn e = absurd (none-some turn e)
-had call answer (Some more) turn e =
-    let same : having call answer more ≡ turn = ap (the_turn turn) e in
-    record { more = more; is = refl; events = sym (ap (λ (t : Turn). t.events) same); bytes = sym (ap (λ (t : Turn). t.bytes) same) }
-
-pub had_and_said : (call : Call) (answer : Answer) (text : List ℕ) (rest : Option Turn) (turn : Turn) → option_map (λ (t : Turn). having call answer (saying text t)) rest ≡ Some turn
-    → Onward call answer text rest turn
-had_and_said call answer text None turn e = absurd (none-some turn e)
-had_and_said call answer text (Some more) turn e =
-    let same : having call answer (saying text more) ≡ turn = ap (the_turn turn) e in
-    record { more = more; is = refl; events = sym (ap (λ (t : Turn). t.events) same); bytes = sym (ap (λ (t : Turn). t.bytes) same) }
+-- ---- a turn by its first answer
 
 -- a text that is written, and what comes behind it
-pub writes : (view : List ℕ) (text : List ℕ) (rest : Option Turn) (turn : Turn) (new : List ℕ)
-    → option_map (saying text) rest ≡ Some turn → SeesAll view turn.events new → Leaves view text
-    → ((more : Turn) → rest ≡ Some more → SeesAll view more.events new → Leads view more.bytes new)
-    → Leads view turn.bytes new
-writes view text None turn new e sees leaves behind list right = absurd (none-some turn e)
-writes view text (Some more) turn new e sees leaves behind list right =
-    let same : saying text more ≡ turn = ap (the_turn turn) e in
-    let f = leaves list right in
-    let g = behind more refl (subst (λ (t : Turn). SeesAll view t.events new) (sym same) sees) f.after f.each in
-    subst (λ (t : Turn). Follows IsOf list t.bytes new) same (then_follows list text more.bytes view new f g)
+pub said_first : (view text : List ℕ) (more : Turn) (new : List ℕ) → Leaves view text → Leads view more.bytes new → Leads view (text ++ more.bytes) new
+said_first view text more new leaves behind list right = let f = leaves list right in then_follows list text more.bytes view new f (behind f.after f.each)
 
 -- a call that shows nothing
-pub calls : (view : List ℕ) (call : Call) (answer : Answer) (rest : Option Turn) (turn : Turn) (new : List ℕ)
-    → option_map (having call answer) rest ≡ Some turn → SeesAll view turn.events new → ((mid : List ℕ) → ViewAfter view answer mid → mid ≡ view)
-    → ((more : Turn) (mid : List ℕ) → ViewAfter view answer mid → Fits view call answer → rest ≡ Some more → SeesAll view more.events new → Leads view more.bytes new)
-    → Leads view turn.bytes new
-calls view call answer rest turn new e sees same behind list right =
-    let o = had call answer rest turn e in
-    let s : SeesAll view (record { call = call; answer = answer } ∷ o.more.events) new = subst (λ (events : List Event). SeesAll view events new) o.events sees in
-    let is = same s.0 s.1.leads in
-    subst (λ (bytes : List ℕ). Follows IsOf list bytes new) (sym o.bytes)
-    (behind o.more s.0 s.1.leads s.1.fits o.is (subst (λ (v : List ℕ). SeesAll v o.more.events new) is s.2) list right)
+pub called_first : (view : List ℕ) (call : Call) (answer : Answer) (more : Turn) (new : List ℕ)
+    → SeesAll view (record { call = call; answer = answer } ∷ more.events) new → ((mid : List ℕ) → ViewAfter view answer mid → mid ≡ view)
+    → ((mid : List ℕ) → ViewAfter view answer mid → Fits view call answer → SeesAll view more.events new → Leads view more.bytes new)
+    → Leads view more.bytes new
+called_first view call answer more new s same behind = behind s.0 s.1.leads s.1.fits (subst (λ (v : List ℕ). SeesAll v more.events new) (same s.0 s.1.leads) s.2)
 
 -- a call that shows changes
-pub shows : (view : List ℕ) (call : Call) (answer : Answer) (met : List ℕ) (changes : List Change)
+pub shown_first : (view : List ℕ) (call : Call) (answer : Answer) (met : List ℕ) (changes : List Change)
     → ((mid : List ℕ) → ViewAfter view answer mid → (met ≡ view) × (mid ≡ replay view changes)) → (Fits view call answer → MayShow view changes)
-    → (rest : Option Turn) (turn : Turn) (new : List ℕ)
-    → option_map (λ (t : Turn). having call answer (saying (lines met changes) t)) rest ≡ Some turn → SeesAll view turn.events new
-    → ((more : Turn) (mid : List ℕ) → rest ≡ Some more → SeesAll mid more.events new → Leads mid more.bytes new)
-    → Leads view turn.bytes new
-shows view call answer met changes tells fits rest turn new e sees behind list right =
-    let o = had_and_said call answer (lines met changes) rest turn e in
-    let s : SeesAll view (record { call = call; answer = answer } ∷ o.more.events) new = subst (λ (events : List Event). SeesAll view events new) o.events sees in
+    → (more : Turn) (new : List ℕ) → SeesAll view (record { call = call; answer = answer } ∷ more.events) new
+    → ((mid : List ℕ) → SeesAll mid more.events new → Leads mid more.bytes new)
+    → Leads view (lines met changes ++ more.bytes) new
+shown_first view call answer met changes tells fits more new s behind list right =
     let t = tells s.0 s.1.leads in
     let may = fits s.1.fits in
     let f : Follows IsOf list (lines met changes) (replay view changes) =
     subst (λ (v : List ℕ). Follows IsOf list (lines v changes) (replay view changes)) (sym t.0) (lines_are_followed view changes list may.few may.printed may.fits right) in
-    let g = behind o.more s.0 o.is s.2 f.after (subst (λ (v : List ℕ). Each IsOf v f.after) (sym t.1) f.each) in
-    subst (λ (bytes : List ℕ). Follows IsOf list bytes new) (sym o.bytes) (then_follows list (lines met changes) o.more.bytes (replay view changes) new f g)
+    then_follows list (lines met changes) more.bytes (replay view changes) new f (behind s.0 s.2 f.after (subst (λ (v : List ℕ). Each IsOf v f.after) (sym t.1) f.each))
 
 -- ---- how a turn ends
 
 pub closed_silent : (now : Standing) (how : After) → (closed now how).bytes ≡ []
-closed_silent now Go = refl
-closed_silent now Bye = refl
-closed_silent now afters.Idle = refl
-closed_silent now (afters.Literal due) = refl
-closed_silent now afters.Submit = refl
+closed_silent now how = closed_so (λ (s : Turn). s.bytes ≡ []) now how refl refl
 
 pub closed_quiet : (now : Standing) (how : After) → (closed now how).events ≡ []
-closed_quiet now Go = refl
-closed_quiet now Bye = refl
-closed_quiet now afters.Idle = refl
-closed_quiet now (afters.Literal due) = refl
-closed_quiet now afters.Submit = refl
+closed_quiet now how = closed_so (λ (s : Turn). s.events ≡ []) now how refl refl
 
 -- nothing more is met, and this text is all
 alone : (view text : List ℕ) (last : Turn) (new : List ℕ) → last.bytes ≡ [] → SeesAll view [] new → Leaves view text → Leads view (text ++ last.bytes) new
@@ -119,38 +71,27 @@ alone view text last new silent same leaves list right =
     subst (λ (v : List ℕ). Follows IsOf list (text ++ last.bytes) v) (sym same)
     (subst (λ (b : List ℕ). Follows IsOf list b view) (sym (ap (λ (b : List ℕ). text ++ b) silent ∙ append-nil text)) (leaves list right))
 
-pub ends : (view : List ℕ) (now : Standing) (text : List ℕ) (how : After) (turn : Turn) (new : List ℕ) → Some (saying text (closed now how)) ≡ Some turn → Leaves view text → SeesAll view turn.events new
-    → Leads view turn.bytes new
-ends view now text how turn new e leaves sees =
-    let same : saying text (closed now how) ≡ turn = ap (the_turn turn) e in
-    let s : SeesAll view [] new = subst (λ (events : List Event). SeesAll view events new) (ap (λ (t : Turn). t.events) (sym same) ∙ closed_quiet now how) sees in
-    subst (λ (t : Turn). Leads view t.bytes new) same (alone view text (closed now how) new (closed_silent now how) s leaves)
+pub ends_so : (view : List ℕ) (now : Standing) (text : List ℕ) (how : After) (new : List ℕ) → Leaves view text → SeesAll view (closed now how).events new → Leads view (text ++ (closed now how).bytes) new
+ends_so view now text how new leaves sees =
+    alone view text (closed now how) new (closed_silent now how) (subst (λ (events : List Event). SeesAll view events new) (closed_quiet now how) sees) leaves
 
 -- this is said, and the session waits
-pub waits_on : (view bytes : List ℕ) (how : After) (now : Standing) (turn : Turn) (new : List ℕ) → Some (saying bytes (nothing_more how now)) ≡ Some turn → Leaves view bytes
-    → SeesAll view turn.events new → Leads view turn.bytes new
-waits_on view bytes how now turn new e leaves sees =
-    let last : Turn = nothing_more how now in
-    let same : saying bytes last ≡ turn = ap (the_turn turn) e in
-    let s : SeesAll view [] new = subst (λ (events : List Event). SeesAll view events new) (ap (λ (t : Turn). t.events) (sym same)) sees in
-    subst (λ (t : Turn). Leads view t.bytes new) same (alone view bytes last new refl s leaves)
+pub said_waiting : (view bytes new : List ℕ) → Leaves view bytes → new ≡ view → Leads view (bytes ++ []) new
+said_waiting view bytes new leaves same list right =
+    subst (λ (v : List ℕ). Follows IsOf list (bytes ++ []) v) (sym same) (subst (λ (b : List ℕ). Follows IsOf list b view) (sym (append-nil bytes)) (leaves list right))
 
 -- memory was refused, or the store refused
-pub gives_up : (tag : List ℕ) (refusals : Refusals tag) (view : List ℕ) (now : Standing) (fault : MailFault) (turn : Turn) (new : List ℕ) → Some (refused tag now fault) ≡ Some turn
-    → SeesAll view turn.events new → Leads view turn.bytes new
-gives_up tag refusals view now fault turn new e sees = ends view now (refusal_text tag fault) (refusal_after fault) turn new e (refusals view fault) sees
+pub starved_so : (tag : List ℕ) (refusals : Refusals tag) (view : List ℕ) (now : Standing) (fault : MailFault) (new : List ℕ) → SeesAll view (refused tag now fault).events new
+    → Leads view (refused tag now fault).bytes new
+starved_so tag refusals view now fault new sees = ends_so view now (refusal_text tag fault) (refusal_after fault) new (refusals view fault) sees
 
-pub is_refused : (tag : List ℕ) (refusals : Refusals tag) (view : List ℕ) (now : Standing) (call : Call) (fault : MailFault) (turn : Turn) (new : List ℕ)
-    → Some (having call (Refused fault) (refused tag now fault)) ≡ Some turn → SeesAll view turn.events new → Leads view turn.bytes new
-is_refused tag refusals view now call fault turn new e sees =
-    calls view call (Refused fault) (Some (refused tag now fault)) turn new e sees (λ mid s. s) (λ t mid after fits d s. gives_up tag refusals view now fault t new d s)
+pub refused_so : (tag : List ℕ) (refusals : Refusals tag) (view : List ℕ) (now : Standing) (call : Call) (fault : MailFault) (new : List ℕ)
+    → SeesAll view (having call (Refused fault) (refused tag now fault)).events new → Leads view (refused tag now fault).bytes new
+refused_so tag refusals view now call fault new sees = called_first view call (Refused fault) (refused tag now fault) new sees (λ mid s. s) (λ mid after fits s. starved_so tag refusals view now fault new s)
 
 -- nothing is met, and nothing is written
-pub rests_in : (view : List ℕ) (how : After) (now : Standing) (turn : Turn) (new : List ℕ) → Some (nothing_more how now) ≡ Some turn → SeesAll view turn.events new → Leads view turn.bytes new
-rests_in view how now turn new e sees list right =
-    let same : nothing_more how now ≡ turn = ap (the_turn turn) e in
-    let s : new ≡ view = subst (λ (t : Turn). SeesAll view t.events new) (sym same) sees in
-    subst (λ (t : Turn). Follows IsOf list t.bytes new) same (subst (λ (v : List ℕ). Follows IsOf list [] v) (sym s) (record { after = list; reads = refl; each = right }))
+pub rested_so : (view new : List ℕ) → new ≡ view → Leads view [] new
+rested_so view new same list right = subst (λ (v : List ℕ). Follows IsOf list [] v) (sym same) (record { after = list; reads = refl; each = right })
 
-pub rests : (view : List ℕ) (now : Standing) (turn : Turn) (new : List ℕ) → Some (nothing_more afters.Idle now) ≡ Some turn → SeesAll view turn.events new → Leads view turn.bytes new
-rests view now turn new e sees = rests_in view afters.Idle now turn new e sees
+pub rests_in : (view : List ℕ) (how : After) (now : Standing) (turn : Turn) (new : List ℕ) → Some (nothing_more how now) ≡ Some turn → SeesAll view turn.events new → Leads view turn.bytes new
+rests_in view how now turn new e sees = at_turn (λ (t : Turn). SeesAll view t.events new → Leads view t.bytes new) (Some (nothing_more how now)) turn (rested_so view new) e sees

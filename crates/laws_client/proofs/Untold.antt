@@ -1,6 +1,6 @@
 -- The answers of LIST, LSUB and STATUS tell a client nothing of messages.
-use Rattle.std.proofs.Common.{◌≡◌, ℕ, ◌^◌, ◌<◌, ◌==◌, Bool, true, false, List, [], ◌∷◌, ◌++◌, map, ap, arith, ◌∙◌, sym, refl, append_assoc}
-use Rattle.std.specs.Prelude.{decimal, codes, flat_map, IfSome, Some, if◌then◌else◌}
+use Rattle.std.proofs.Common.{◌≡◌, ℕ, ◌^◌, ◌<◌, ◌==◌, Bool, true, false, List, [], ◌∷◌, ◌++◌, map, ap, arith, ◌∙◌, sym, subst, refl, append_assoc}
+use Rattle.std.specs.Prelude.{decimal, codes, flat_map, IfSome, Option, Some, if◌then◌else◌}
 use Rattle.std.specs.List.{list_all}
 use Rattle.std.proofs.lemmas.List.Folds.{list_all-append}
 use Rattle.change_ring.specs.Words.{spaced}
@@ -115,3 +115,6 @@ folder_plain name (folder ∷ folders) plain = by (is_named name folder) (folder
     by : (b : Bool) → IfSome (folder_of name folders) (λ f. IsPlain f.name) → IfSome (if b then Some folder else folder_of name folders) (λ f. IsPlain f.name)
     by true more = plain.0
     by false more = more
+
+pub named_plain : (name : List ℕ) (folders : List Folder) (folder : Folder) → AreNames folders → folder_of name folders ≡ Some folder → IsPlain folder.name
+named_plain name folders folder names is = subst (λ (o : Option Folder). IfSome o (λ f. IsPlain f.name)) is (folder_plain name folders names)

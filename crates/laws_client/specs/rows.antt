@@ -5,3 +5,4 @@ pub mod ClientRows
 pub mod AnswerRows
 pub mod FlagRows
 pub mod ServedRows
+pub mod RunRows
