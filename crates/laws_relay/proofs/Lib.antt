@@ -47,3 +47,5 @@ mod ServedWorkers
 mod ServedLines
 mod ServedHolds
 mod ServedRefuted
+mod ConnectionRefuted
+pub mod Torn

@@ -49,7 +49,7 @@ nowhere : StandsInHistory home (Sent hers 5 ∷ Withdrawn 5 ∷ []) for_alice th
 nowhere h = let within = (in_box _ for_alice the_message 0 0 names_alice h).within in omega (arith, within)
 
 -- Her mailbox refused it.
-lost : (why : Refusal) → ServedConcludes home 2 4 (Judged hers (Refused why) 5 ∷ []) told told → ⊥
+pub lost : (why : Refusal) → ServedConcludes home 2 4 (Judged hers (Refused why) 5 ∷ []) told told → ⊥
 lost why c =
     let s = c.taken 0 0 refl in
     let within = (in_box _ (key_at 2 4 s.0 0) the_message 0 0 names_alice s.2).within in omega (arith, within)
@@ -95,7 +95,7 @@ unfolding read
 nobody mailbox n = let e = n.1 in cc
 
 -- what the relay read of a recipient for whom a copy stands
-was_taken : (k i mailbox : ℕ) → Names home (slice_index_or (message_at told k).recipients i []) mailbox
+pub was_taken : (k i mailbox : ℕ) → Names home (slice_index_or (message_at told k).recipients i []) mailbox
     → (is_taken (message_at told k) i ≡ true) ⊎ (length (message_at told k).replies ≤ i) → (k ≡ 0) × (i ≡ 0)
 was_taken zero zero mailbox n read = (refl, refl)
 was_taken zero (suc zero) mailbox n (inl e) = absurd (false≢true e)
@@ -114,22 +114,22 @@ module _ (history : List Event) (c : ServedConcludes home 2 4 history told told)
       subst (λ (k : ℕ). c.number k ≡ Some copy.key.message) (was_taken w.k copy.key.recipient copy.mailbox w.names w.read).0 w.numbered
 
 -- Bob finds the message that was refused for him. It will come again.
-refused_stands : ServedConcludes home 2 4 (Judged hers (Stored 7) 5 ∷ Judged bobs (Stored 1) 6 ∷ []) told told → ⊥
+pub refused_stands : ServedConcludes home 2 4 (Judged hers (Stored 7) 5 ∷ Judged bobs (Stored 1) 6 ∷ []) told told → ⊥
 refused_stands c = let which = is_the_first _ c bobs 1 (6, (1, omega arith, refl)) refl refl in omega (arith, which)
 
 -- She finds a second one, for a recipient that nobody named.
-of_nobody : ServedConcludes home 2 4 (Judged hers (Stored 7) 5 ∷ Judged (copy_of (key_at 2 4 0 5) 0 right) (Stored 8) 6 ∷ []) told told → ⊥
+pub of_nobody : ServedConcludes home 2 4 (Judged hers (Stored 7) 5 ∷ Judged (copy_of (key_at 2 4 0 5) 0 right) (Stored 8) 6 ∷ []) told told → ⊥
 of_nobody c = let which = is_the_first _ c (copy_of (key_at 2 4 0 5) 0 right) 8 (6, (1, omega arith, refl)) refl refl in omega (arith, which)
 
 -- She finds a second one, of a message that nobody sent.
-never_sent : ServedConcludes home 2 4 (Judged hers (Stored 7) 5 ∷ Judged (copy_of (key_at 2 4 3 0) 0 right) (Stored 8) 6 ∷ []) told told → ⊥
+pub never_sent : ServedConcludes home 2 4 (Judged hers (Stored 7) 5 ∷ Judged (copy_of (key_at 2 4 3 0) 0 right) (Stored 8) 6 ∷ []) told told → ⊥
 never_sent c =
     let first = its_number _ c hers 7 (5, (0, omega arith, refl)) refl refl in
     let second = its_number _ c (copy_of (key_at 2 4 3 0) 0 right) 8 (6, (1, omega arith, refl)) refl refl in
     let same : ◌≡◌ {A = Option ℕ} (Some 0) (Some 3) = sym first ∙ second in cc
 
 -- She finds a message, and on this connection nothing was handed over.
-of_nothing : ServedConcludes home 2 4 (Judged hers (Stored 7) 5 ∷ []) [] [] → ⊥
+pub of_nothing : ServedConcludes home 2 4 (Judged hers (Stored 7) 5 ∷ []) [] [] → ⊥
 of_nothing c = nobody 0 (c.nothing_else hers 7 (5, (0, omega arith, refl)) refl refl).names
 
 -- ---- two messages

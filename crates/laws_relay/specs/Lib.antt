@@ -17,3 +17,4 @@ pub mod AccountLaws
 pub mod Reports
 pub mod Served
 pub mod rows
+pub mod ClosingLaws
