@@ -1,5 +1,5 @@
 -- How a connection of a server ends: what `ConnectionConcludes` lets pass, and what it refuses. Above each stands what somebody would have seen.
-use Rattle.std.proofs.Common.{◌≡◌, ◌⊎◌, inl, inr, ℕ, Bool, true, false, List, [], ◌∷◌, ◌++◌, ◌&&◌, ◌||◌, length, map, get_or, reverse, refl, ap, sym, subst, ◌∙◌, append-nil, arith}
+use Rattle.std.proofs.Common.{◌≡◌, ◌⊎◌, inl, inr, ℕ, Bool, true, false, List, [], ◌∷◌, ◌++◌, ◌&&◌, length, map, get_or, reverse, refl, ap, sym, subst, ◌∙◌, append-nil, arith}
 use Rattle.std.specs.Prelude.{codes, slice_index_or, nat_eq}
 use Rattle.std.specs.List.{list_any, starts_with}
 use Rattle.std.specs.Cmp.Lexicographic.{pointwise}
@@ -90,6 +90,7 @@ module _ (law : ServedRelaysConclude) where
     read = ([], refl);
     are = said_to [] has_quit has_taken;
     written = written;
+    silent = λ unsaid. absurd (let e = ap length unsaid in omega (arith, e));
     concludes = λ front untold e.
         law house 2 4 quit (Greeting ∷ Bye ∷ []) [] has_quit [] refl refl has_taken legal_empty
         (record { stood = λ i d l. absurd (omega (arith, l)); all = λ copy verdict seat serial judged. absurd (let l = judged.1.1 in omega (arith, l)) }) [] front untold e;
@@ -151,10 +152,10 @@ to_nothing : {bytes : List ℕ} {replies : List Reply} {phase : Phase} → AreRe
 to_nothing nothing_said e = (refl, inl refl)
 to_nothing (said_to judged at taken) e = let u = untaken taken e in (ap (λ (x : Conversation). x.standing.phase) u.1, inr u.0)
 
--- what it may read then: nothing, the greeting, that the server shuts down, or both; and where the output failed, a beginning of that
+-- what it may read then: nothing, the greeting, or that and that the server shuts down; and where the output failed, a beginning of both
 abbrev may_read : List ℕ → (failed : Bool) → Bool
-may_read said false = list_any (λ (x : List ℕ). pointwise nat_eq said x) ([] ∷ greets ∷ shuts ∷ (greets ++ shuts) ∷ [])
-may_read said true = starts_with nat_eq shuts said || starts_with nat_eq (greets ++ shuts) said
+may_read said false = list_any (λ (x : List ℕ). pointwise nat_eq said x) ([] ∷ greets ∷ (greets ++ shuts) ∷ [])
+may_read said true = starts_with nat_eq (greets ++ shuts) said
 
 begins_so : (said rest : List ℕ) → starts_with nat_eq (said ++ rest) said ≡ true
 begins_so [] rest = refl
@@ -163,34 +164,20 @@ begins_so (b ∷ said) rest = ap (λ (x : Bool). x && starts_with nat_eq (said +
 is_front : (said all : List ℕ) → IsPrefix said all → starts_with nat_eq all said ≡ true
 is_front said all (rest, e) = ap (λ (x : List ℕ). starts_with nat_eq x said) (sym e) ∙ begins_so said rest
 
-first_of : (a b : Bool) → a ≡ true → (a || b) ≡ true
-first_of a b e = ap (λ (x : Bool). x || b) e
-
-second_of : (a b : Bool) → b ≡ true → (a || b) ≡ true
-second_of true b e = refl
-second_of false b e = e
-
 with_words : (replies rs : List Reply) (phase : Phase) → phase ≡ Start → replies ≡ rs → wire host (replies ++ last_words phase) ≡ wire host (rs ++ ShuttingDown ∷ [])
 with_words replies rs phase start e =
     ap (λ (p : Phase). wire host (replies ++ last_words p)) start ∙ ap (λ (x : List Reply). wire host (x ++ ShuttingDown ∷ [])) e
 
-cut_off : (written : List ℕ) (replies : List Reply) (phase : Phase) → IsPrefix written (wire host (replies ++ last_words phase)) → phase ≡ Start
-    → (replies ≡ []) ⊎ (replies ≡ Greeting ∷ []) → may_read written true ≡ true
-cut_off written replies phase front start (inl e) =
-    first_of (starts_with nat_eq shuts written) (starts_with nat_eq (greets ++ shuts) written)
-    (is_front written shuts (subst (IsPrefix written) (with_words replies [] phase start e) front))
-cut_off written replies phase front start (inr e) =
-    second_of (starts_with nat_eq shuts written) (starts_with nat_eq (greets ++ shuts) written)
-    (is_front written (greets ++ shuts) (subst (IsPrefix written) (with_words replies (Greeting ∷ []) phase start e) front))
-
 reads : {bytes : List ℕ} {replies : List Reply} {phase : Phase} {written : List ℕ} {failed : Bool} → AreWritten host bytes replies phase written failed
-    → phase ≡ Start → (replies ≡ []) ⊎ (replies ≡ Greeting ∷ []) → may_read written failed ≡ true
-reads all_written start (inl e) = ap (λ (rs : List Reply). may_read (wire host rs) false) e
-reads all_written start (inr e) = ap (λ (rs : List Reply). may_read (wire host rs) false) e
-reads with_last_words start (inl e) = ap (λ (x : List ℕ). may_read x false) (with_words _ [] _ start e)
-reads with_last_words start (inr e) = ap (λ (x : List ℕ). may_read x false) (with_words _ (Greeting ∷ []) _ start e)
-reads (cut_short front) start which = cut_off _ _ _ front start which
-reads (never_greeted nothing_taken) start none_said = refl
+    → phase ≡ Start → replies ≡ Greeting ∷ [] → may_read written failed ≡ true
+reads all_written start e = ap (λ (rs : List Reply). may_read (wire host rs) false) e
+reads with_last_words start e = ap (λ (x : List ℕ). may_read x false) (with_words _ (Greeting ∷ []) _ start e)
+reads (cut_short {written} front) start e = is_front written (greets ++ shuts) (subst (IsPrefix written) (with_words _ (Greeting ∷ []) _ start e) front)
+reads (never_greeted nothing_taken) start e = refl
+
+-- where nothing was said, nothing was written
+reads_nothing : (said : List ℕ) (failed : Bool) → said ≡ [] → failed ≡ false → may_read said failed ≡ true
+reads_nothing said failed unsaid whole = subst (λ (b : Bool). may_read said b ≡ true) (sym whole) (ap (λ (x : List ℕ). may_read x false) unsaid)
 
 -- ---- what was written is wrong
 
@@ -201,7 +188,9 @@ NeverRead said failed = (history : List Event) → ConnectionConcludes house 2 4
 never : (said : List ℕ) (failed : Bool) → may_read said failed ≡ false → NeverRead said failed
 never said failed not_so history c =
     let nothing = to_nothing c.are (nil_front c.taken c.read.0 c.read.1) in
-    let f : true ≡ false = sym (reads c.written nothing.0 nothing.1) ∙ not_so in cc
+    let so : may_read said failed ≡ true =
+    elim nothing.1 [ inl unsaid ↦ reads_nothing said failed (c.silent unsaid).0 (c.silent unsaid).1 | inr e ↦ reads c.written nothing.0 e ] in
+    let f : true ≡ false = sym so ∙ not_so in cc
 
 -- It reads a reply to a command that it didn't send.
 reply_to_nobody : NeverRead (codes "220 mx.example.org LMTP ready\r\n250 2.0.0 OK\r\n") false
@@ -222,6 +211,10 @@ never_ended = never _ _ refl
 -- A reply stands before the greeting.
 reply_first : NeverRead (codes "250 2.0.0 OK\r\n220 mx.example.org LMTP ready\r\n") false
 reply_first = never _ _ refl
+
+-- It is told that the server shuts down, and was never greeted.
+shuts_unsaid : NeverRead (codes "421 4.3.2 Shutting down\r\n") false
+shuts_unsaid = never _ _ refl
 
 -- It is told twice that the server shuts down.
 shuts_twice : NeverRead (codes "220 mx.example.org LMTP ready\r\n421 4.3.2 Shutting down\r\n421 4.3.2 Shutting down\r\n") false

@@ -4,8 +4,10 @@ use Rattle.std.specs.Prelude.{if◌then◌else◌, slice_index_or}
 use mathlib.Core.List.{IsPrefix}
 use Rattle.house_history.specs.declared.event.Event.{Event}
 use Rattle.lane_work.specs.Account.{Premises}
-use Rattle.lane_work.specs.Talk.{Judged}
-use Rattle.lmtp_machine.specs.Dialogue.{Phase, Start}
+use Rattle.envelope.specs.Directory.{Directory}
+use Rattle.lane_work.specs.Talk.{HasTaken, Judged, goes_on, greeted, submits}
+use Rattle.lmtp_machine.specs.Conversation.{Conversation}
+use Rattle.lmtp_machine.specs.Dialogue.{Phase, Setting, Start, verdict_reply}
 use Rattle.lmtp_machine.specs.declared.reply.Reply.{Reply}
 use Rattle.lmtp_machine.specs.Replies.{wire}
 use Rattle.serving_workers.specs.Leaving.{AreWritten, HaveConversed, all_written, next, none, passed}
@@ -63,6 +65,19 @@ record WasSpoken (house : Premises) (seat serial : ℕ) (bytes : List ℕ) (repl
   read : one.read ≡ bytes ++ dropped
   are : AreReplies house seat serial bytes replies phase
   written : AreWritten house.host bytes replies phase one.written one.failed
+  silent : replies ≡ [] → (one.written ≡ []) × (one.failed ≡ false)
+
+-- whoever speaks is greeted first
+is_greeted : {setting : Setting} {directory : Directory} {bytes : List ℕ} {replies : List Reply} {judged : List Judged} {c : Conversation}
+    → HasTaken setting directory bytes replies judged c → 0 < length replies
+is_greeted greeted = omega arith
+is_greeted (goes_on {said = said} taken turn after before leads silent) =
+    let some = is_greeted before in let many = length-append said turn.replies in omega (arith, some, many)
+is_greeted (submits {said = said} taken turn after message verdicts before leads only quiet many) =
+    let some = is_greeted before in
+    let first = length-append said turn.replies in
+    let both = length-append (said ++ turn.replies) (map verdict_reply verdicts) in
+    omega (arith, some, first, both)
 
 spoken_count : {house : Premises} {seat connections : ℕ} {spoken : List Spoken} {judged : List Judged} → HaveConversed house seat connections spoken judged → length spoken ≡ connections
 spoken_count none = refl
@@ -79,7 +94,7 @@ each_spoken {house} {seat} (passed {n} {spoken} before) serial under = by (λ u.
         → WasSpoken house seat serial (if b then [] else bytes_on before serial) (if b then [] else replies_on before serial) (slice_index_or (spoken ++ quiet ∷ []) serial quiet)
     by others true this =
         subst (WasSpoken house seat serial [] []) (sym (at_last spoken quiet serial quiet (is_this serial n this ∙ sym (spoken_count before))))
-        (record { dropped = []; phase = Start; read = refl; are = nothing_said; written = all_written })
+        (record { dropped = []; phase = Start; read = refl; are = nothing_said; written = all_written; silent = λ none. (refl, refl) })
     by others false other =
         let u = earlier serial n under other in
         subst (WasSpoken house seat serial (bytes_on before serial) (replies_on before serial))
@@ -94,7 +109,7 @@ each_spoken {house} {seat} (next {n} {spoken} bytes replies more at dropped writ
     by others true this =
         let here : AreReplies house seat serial bytes replies at.standing.phase = subst (λ (k : ℕ). AreReplies house seat k bytes replies at.standing.phase) (sym (is_this serial n this)) (replied more at taken) in
         subst (WasSpoken house seat serial bytes replies) (sym (at_last spoken one serial quiet (is_this serial n this ∙ sym (spoken_count before))))
-        (record { dropped = dropped; phase = at.standing.phase; read = refl; are = here; written = are })
+        (record { dropped = dropped; phase = at.standing.phase; read = refl; are = here; written = are; silent = λ none. absurd (let some = is_greeted taken in let e = ap length none in omega (arith, some, e)) })
     by others false other =
         let u = earlier serial n under other in
         subst (WasSpoken house seat serial (bytes_on before serial) (replies_on before serial))
@@ -116,6 +131,7 @@ one_concludes {house} {seat} history conversed worker serial under came read =
       read = (was.dropped ++ read.0, is);
       are = was.are;
       written = was.written;
+      silent = was.silent;
       concludes = λ front untold e.
           subst (λ (l : List ℕ). ServedConcludes house.directory seat serial history (handed_over l front) (handed_over l all)) is (worker.each serial under (was.dropped ++ read.0) front untold e);
     }

@@ -166,8 +166,8 @@ pub data AreReplies (house : Premises) (seat serial : ℕ) : (bytes : List ℕ) 
 module _ (house : Premises) (seat serial : ℕ) (history : List Event) where
   -- The connection with this serial, whose peer sends this, and to which that was written, whose output
   -- failed or didn't: what was written is the replies to the bytes that were taken of it,
-  -- and perhaps at last that the server shuts down; and where the output failed, a
-  -- beginning. By any beginning of the replies that it has read the peer may conclude.
+  -- and perhaps at last that the server shuts down; where the output failed, a
+  -- beginning; and nothing where nothing was said. By any beginning of the replies that it has read the peer may conclude.
   pub record ConnectionConcludes (came said : List ℕ) (failed : Bool) : Type 0 where
     pub taken : List ℕ
     pub replies : List Reply
@@ -175,6 +175,7 @@ module _ (house : Premises) (seat serial : ℕ) (history : List Event) where
     pub read : IsPrefix taken came
     pub are : AreReplies house seat serial taken replies phase
     pub written : AreWritten house.host taken replies phase said failed
+    pub silent : replies ≡ [] → (said ≡ []) × (failed ≡ false)
     pub concludes : (front untold : List ℕ) → front ++ untold ≡ wire house.host replies
         → ServedConcludes house.directory seat serial history (handed_over came front) (handed_over came (wire house.host replies))
 
