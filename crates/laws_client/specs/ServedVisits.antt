@@ -1,5 +1,5 @@
 -- The visits of a server's clients, call by call, as lives of their sessions.
-use Rattle.std.specs.Prelude.{◌≡◌, ℕ, true, false, List, [], ◌++◌, take, flat_map, Option, None}
+use Rattle.std.specs.Prelude.{◌≡◌, ℕ, false, List, [], ◌++◌, take, flat_map, Option, None}
 use Rattle.std.specs.Io.KnownBytes.{Appends}
 use Rattle.house_history.specs.Legal.{Legal}
 use Rattle.settings.specs.Settings.{IsInRange, config_fault, directory_for}

@@ -8,8 +8,7 @@ use Rattle.delivery_token.specs.declared.log.Noted.{Noted}
 use Rattle.shard_queue.specs.Lane.{Lane, put}
 use Rattle.shard_queue.specs.declared.lane.Entry.TheVariants.{Item}
 use Rattle.world.specs.World.{Config, World, empty_world}
-use Rattle.imap_session.specs.Exchange.{Answer, Call, Discarded, Leave, Standing}
-use Rattle.house_peers.specs.Guest.{Guest}
+use Rattle.imap_session.specs.Exchange.{Discarded, Leave, Standing}
 use Rattle.house_peers.specs.Imap.{imap}
 use Rattle.laws_relay.specs.Sessions.{AreStill, IsStill, Sessions}
 use Rattle.laws_relay.specs.ImapSessions.{imap_sessions}

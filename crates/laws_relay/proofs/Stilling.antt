@@ -1,5 +1,5 @@
 -- What the turns of sessions do to lanes and to what was heard, whatever these speak: nothing.
-use Rattle.std.proofs.Common.{◌≡◌, ℕ, Bool, ◌+◌, List, [], ap, ◌∙◌, Option}
+use Rattle.std.proofs.Common.{ℕ, Bool, ◌+◌, List, Option}
 use Rattle.delivery_token.specs.declared.log.Noted.{Noted}
 use Rattle.world.specs.World.{World}
 use Rattle.house.specs.AnyPrinting.{Speaks}
