@@ -14,6 +14,7 @@ pub mod CarryLaws
 pub mod BackingLaws
 pub mod DispatchLaws
 pub mod StepLaws
+pub mod Torn
 pub mod RowLaws
 pub mod CloseLaws
 pub mod LastWords

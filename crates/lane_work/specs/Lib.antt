@@ -19,3 +19,4 @@ pub mod LanePermits
 pub mod ChannelPermits
 pub mod Streaming
 pub mod inner
+pub mod WholeClose

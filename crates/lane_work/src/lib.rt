@@ -39,7 +39,7 @@ pub use lanes::{
 };
 pub use laws::{accounts_meet_histories, books_stand};
 pub use outcome::{Ending, TalkFault};
-pub use permit_laws::{closed_channels_tell, closed_lanes_tell};
+pub use permit_laws::{closed_channels_tell, closed_lanes_tell, whole_lanes_close};
 pub use producer::{Context, Producer};
 pub use reading::Buffers;
 pub use rooms::{

@@ -1,7 +1,8 @@
 //! Laws of the definitions, as functions that do nothing: what lanes and channels that were closed
-//! tell of those who held their permits. No code lives here.
+//! tell of those who held their permits, and when they can be closed. No code lives here.
 
 ghost use Rattle.lane_work.specs.Telling.{AccountsMeet, ChannelsAreWhole, LanesAreWhole, SaidIsHistory, SaidOnIsHistory};
+ghost use Rattle.lane_work.specs.WholeClose.{WholeChannelsClose, WholeLanesClose};
 
 /// What is known of lanes that were closed: what each producer said is what was taken of it, so that a
 /// worker's account is one of the histories, and nothing else was taken.
@@ -19,4 +20,13 @@ pub fn closed_lanes_tell()
 pub fn closed_channels_tell()
     ensures said { SaidOnIsHistory }
     ensures whole { ChannelsAreWhole }
+{}
+
+/// Where each producer's end was taken on each lane, and what is left of each permit is there, no lane is torn.
+/// So `close_lanes` answers what was taken of them, and never that it can't.
+pub fn whole_lanes_close()
+    ensures lanes { WholeLanesClose }
+
+    // The same of reply channels and their senders.
+    ensures channels { WholeChannelsClose }
 {}

@@ -48,4 +48,3 @@ mod ServedLines
 mod ServedHolds
 mod ServedRefuted
 mod ConnectionRefuted
-pub mod Torn

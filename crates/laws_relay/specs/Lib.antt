@@ -17,4 +17,3 @@ pub mod AccountLaws
 pub mod Reports
 pub mod Served
 pub mod rows
-pub mod ClosingLaws

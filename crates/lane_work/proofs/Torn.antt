@@ -10,7 +10,7 @@ use Rattle.shard_queue.specs.Reply.{ReceiverPermit, ReplyChannel, SenderEnded, r
 use Rattle.lane_work.specs.ChannelPermits.{AreChannelsTorn}
 use Rattle.lane_work.specs.LanePermits.{IsTorn}
 use Rattle.lane_work.specs.SharedLanes.{here, later}
-use Rattle.laws_relay.specs.ClosingLaws.{HaveAllEnds, HaveAllSendersEnds, WholeChannelsClose, WholeLanesClose}
+use Rattle.lane_work.specs.WholeClose.{HaveAllEnds, HaveAllSendersEnds, WholeChannelsClose, WholeLanesClose}
 
 nothing_lacks : {E T : Type 0} (number : E → ℕ) (producers : ℕ) (ended : List E) (got : List (Entry T)) → IsAll number producers ended got → IsNotAll number producers ended got → ⊥
 nothing_lacks number producers ended got all (p, under, inl missing) =

@@ -1,5 +1,5 @@
-use Rattle.laws_relay.proofs.Torn.{channels_close, lanes_close}
-use Rattle.laws_relay.proofs.closing_laws.whole_lanes_close.Goals as goal
+use Rattle.lane_work.proofs.Torn.{channels_close, lanes_close}
+use Rattle.lane_work.proofs.permit_laws.whole_lanes_close.Goals as goal
 
 pub returns-clause-lanes : goal.returns-clause-lanes
 returns-clause-lanes c = lanes_close
