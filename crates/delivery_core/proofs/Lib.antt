@@ -1,4 +1,7 @@
 pub mod Follow
+pub mod Groups
+pub mod Loads
+pub mod Still
 pub mod AttachedLaws
 pub mod MailBoxes
 pub mod Mailed

@@ -1,5 +1,5 @@
 -- What a seat's notes are, and the load, where one element of a list was changed.
-use Rattle.std.proofs.Common.{◌≡◌, ℕ, zero, suc, ◌+◌, ◌<◌, ◌≤◌, List, [], ◌∷◌, ◌++◌, length, map, get_or, set, refl, sym, ap, ◌∙◌, arith, append-nil, None, length-set}
+use Rattle.std.proofs.Common.{◌≡◌, ℕ, zero, suc, ◌+◌, ◌<◌, ◌≤◌, List, [], ◌∷◌, ◌++◌, length, map, get_or, set, refl, sym, ap, ◌∙◌, arith, append-nil, None}
 use Rattle.std.specs.Prelude.{sum_by}
 use Rattle.std.proofs.lemmas.List.Sums.{sum_by-set, sum_by-append}
 use Rattle.std.proofs.lemmas.List.{get_or-set_other, get_or-set_same, length-map}
@@ -26,11 +26,11 @@ notes_get [] i d l = absurd (omega arith)
 notes_get (x ∷ xs) zero d l = refl
 notes_get (x ∷ xs) (suc i) d l = notes_get xs i d (omega arith)
 
--- a book was replaced by one with the same notes
-pub hears_none : (old new : DeliveryCore) (p : ℕ) (book0 book1 : WorkerLog) → p < length old.heard → book0 ≡ get_or old.heard p book0 → book1.notes ≡ book0.notes
-    → new.heard ≡ set old.heard p book1 → Hears old new p []
-hears_none old new p book0 book1 l first kept changed = record {
-  here = after p ∙ (get_or-set_same (notes old.heard) p book1.notes [] within ∙ (kept ∙ (ap (λ (b : WorkerLog). b.notes) first ∙ (sym (notes_get old.heard p book0 l) ∙ sym (append-nil _)))));
+-- more was noted in a book
+pub hears_more : (old new : DeliveryCore) (p : ℕ) (book0 book1 : WorkerLog) (more : List Noted) → p < length old.heard → book0 ≡ get_or old.heard p book0
+    → book1.notes ≡ book0.notes ++ more → new.heard ≡ set old.heard p book1 → Hears old new p more
+hears_more old new p book0 book1 more l first noted changed = record {
+  here = after p ∙ (get_or-set_same (notes old.heard) p book1.notes [] within ∙ (noted ∙ ap (λ (ns : List Noted). ns ++ more) before));
   others = λ q other. after q ∙ get_or-set_other (notes old.heard) p q book1.notes [] other;
 }
   where
@@ -40,24 +40,13 @@ hears_none old new p book0 book1 l first kept changed = record {
     within : p < length (notes old.heard)
     within = omega (arith, l, length-map old.heard (λ (b : WorkerLog). b.notes))
 
--- room was made in a book, and then more was noted
-pub hears_more : (old new : DeliveryCore) (p : ℕ) (book0 book1 book2 book3 : WorkerLog) (more : List Noted) → p < length old.heard → book0 ≡ get_or old.heard p book0 → book1.notes ≡ book0.notes
-    → book2 ≡ get_or (set old.heard p book1) p book2 → book3.notes ≡ book2.notes ++ more → new.heard ≡ set (set old.heard p book1) p book3 → Hears old new p more
-hears_more old new p book0 book1 book2 book3 more l first kept second noted changed = record {
-  here = after p ∙ (get_or-set_same (set (notes old.heard) p book1.notes) p book3.notes [] within ∙ (noted ∙ ap (λ (ns : List Noted). ns ++ more) before));
-  others = λ q other. after q ∙ (get_or-set_other (set (notes old.heard) p book1.notes) p q book3.notes [] other ∙ get_or-set_other (notes old.heard) p q book1.notes [] other);
-}
-  where
-    after : (q : ℕ) → get_or (notes new.heard) q [] ≡ get_or (set (set (notes old.heard) p book1.notes) p book3.notes) q []
-    after q = ap (λ (bs : List WorkerLog). get_or (notes bs) q []) changed
-        ∙ (ap (λ (ns : List (List Noted)). get_or ns q []) (notes_set (set old.heard p book1) p book3)
-        ∙ ap (λ (ns : List (List Noted)). get_or (set ns p book3.notes) q []) (notes_set old.heard p book1))
+    before : book0.notes ≡ get_or (notes old.heard) p []
+    before = ap (λ (b : WorkerLog). b.notes) first ∙ sym (notes_get old.heard p book0 l)
 
-    within : p < length (set (notes old.heard) p book1.notes)
-    within = omega (arith, l, length-map old.heard (λ (b : WorkerLog). b.notes), length-set (notes old.heard) p book1.notes)
-
-    before : book2.notes ≡ get_or (notes old.heard) p []
-    before = ap (λ (b : WorkerLog). b.notes) (second ∙ get_or-set_same old.heard p book1 book2 l) ∙ (kept ∙ (ap (λ (b : WorkerLog). b.notes) first ∙ sym (notes_get old.heard p book0 l)))
+-- a book was replaced by one with the same notes
+pub hears_none : (old new : DeliveryCore) (p : ℕ) (book0 book1 : WorkerLog) → p < length old.heard → book0 ≡ get_or old.heard p book0 → book1.notes ≡ book0.notes
+    → new.heard ≡ set old.heard p book1 → Hears old new p []
+hears_none old new p book0 book1 l first kept changed = hears_more old new p book0 book1 [] l first (kept ∙ sym (append-nil _)) changed
 
 -- a copy that joined a lane is the work of four steps
 pub put_load : (lanes : List (PlainLane Job)) (s p : ℕ) (c : Job) (l l2 : PlainLane Job) → s < length lanes → l ≡ get_or lanes s l → LanePuts l p c l2 None

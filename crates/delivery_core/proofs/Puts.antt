@@ -167,15 +167,15 @@ put_follows k w old new s c l l2 book0 book1 S ins there inp least box shard fir
     )
 
 -- It was refused, and the seat heard so.
-pub refused_follows : (k : Config) (w : World) (old new : DeliveryCore) (s : ℕ) (c : Job) (why : Refusal) (l l2 : PlainLane Job) (book0 book1 book2 book3 : WorkerLog) → StandsFor k old w
+pub refused_follows : (k : Config) (w : World) (old new : DeliveryCore) (s : ℕ) (c : Job) (why : Refusal) (l l2 : PlainLane Job) (book0 book1 : WorkerLog) → StandsFor k old w
     → s < length old.lanes → l ≡ get_or old.lanes s l → c.key.seat < length old.replies
     → AtLeast (get_or old.next c.key.seat c.key) c.key → c.mailbox < length old.boxes → s ≡ c.mailbox % length old.lanes
-    → book0 ≡ get_or old.heard c.key.seat book0 → book1.notes ≡ book0.notes → book2 ≡ get_or (set old.heard c.key.seat book1) c.key.seat book2 → book3.notes ≡ book2.notes ++ reply_to c (Refused why) ∷ []
+    → book0 ≡ get_or old.heard c.key.seat book0 → book1.notes ≡ book0.notes ++ reply_to c (Refused why) ∷ []
     → LanePuts l c.key.seat c l2 (Some why)
-    → new.lanes ≡ set old.lanes s l2 → new.heard ≡ set (set old.heard c.key.seat book1) c.key.seat book3 → new.next ≡ set old.next c.key.seat (past c.key)
+    → new.lanes ≡ set old.lanes s l2 → new.heard ≡ set old.heard c.key.seat book1 → new.next ≡ set old.next c.key.seat (past c.key)
     → new.hands ≡ old.hands → new.replies ≡ old.replies → new.boxes ≡ old.boxes → new.clients ≡ old.clients
     → (v : World) × Steps k w (Put c.key.seat s c ∷ []) v × StandsFor k new v
-refused_follows k w old new s c why l l2 book0 book1 book2 book3 S ins there inp least box shard first kept second noted does lanes heard next hands replies boxes clients = go does
+refused_follows k w old new s c why l l2 book0 book1 S ins there inp least box shard first noted does lanes heard next hands replies boxes clients = go does
   where
     p : ℕ
     p = c.key.seat
@@ -192,9 +192,6 @@ refused_follows k w old new s c why l l2 book0 book1 book2 book3 S ins there inp
     inh : c.key.seat < length old.heard
     inh = omega (arith, S.hearing, S.seats)
 
-    reserved : EachAt (λ q b. b.notes ≡ w.heard q) (set old.heard c.key.seat book1)
-    reserved = each_here (λ q b. b.notes ≡ w.heard q) old.heard c.key.seat book1 S.heard (kept ∙ rw first (S.heard c.key.seat book0 inh))
-
     done : l2 ≡ l → PutStep k w c.key.seat s c (hears w c.key.seat (reply_to c (Refused why))) → (v : World) × Steps k w (Put c.key.seat s c ∷ []) v × StandsFor k new v
     done same step = (
       hears w c.key.seat (reply_to c (Refused why)),
@@ -204,7 +201,7 @@ refused_follows k w old new s c why l l2 book0 book1 book2 book3 S ins there inp
         shards = ap length lanes ∙ (length-set old.lanes s l2 ∙ S.shards);
         in_hands = ap length hands ∙ S.in_hands;
         seats = ap length replies ∙ S.seats;
-        hearing = ap length heard ∙ (length-set (set old.heard c.key.seat book1) c.key.seat book3 ∙ (length-set old.heard c.key.seat book1 ∙ S.hearing));
+        hearing = ap length heard ∙ (length-set old.heard c.key.seat book1 ∙ S.hearing);
         nexts = ap length next ∙ (length-set old.next c.key.seat (past c.key) ∙ S.nexts);
         mailboxes = ap length boxes ∙ S.mailboxes;
         sessions = ap length clients ∙ S.sessions;
@@ -214,7 +211,7 @@ refused_follows k w old new s c why l l2 book0 book1 book2 book3 S ins there inp
         lanes = rw lanes (rw (← (sym (ap (set old.lanes s) same ∙ set_back old.lanes s l ins there))) S.lanes);
         hands = rw hands S.hands;
         replies = rw replies S.replies;
-        heard = rw heard (each_set (λ b h. b.notes ≡ h) (set old.heard c.key.seat book1) w.heard c.key.seat book3 (w.heard c.key.seat ++ reply_to c (Refused why) ∷ []) reserved (noted ∙ ap (λ rs. rs ++ reply_to c (Refused why) ∷ []) (rw second (reserved c.key.seat book2 (omega (arith, inh, length-set old.heard c.key.seat book1))))));
+        heard = rw heard (each_set (λ b h. b.notes ≡ h) old.heard w.heard c.key.seat book1 (w.heard c.key.seat ++ reply_to c (Refused why) ∷ []) S.heard (noted ∙ ap (λ rs. rs ++ reply_to c (Refused why) ∷ []) (rw first (S.heard c.key.seat book0 inh))));
         boxes = rw boxes S.boxes;
         next = rw next (next_hears w c (reply_to c (Refused why)) old.next refl S.next (omega (arith, S.nexts, S.seats)) least);
       },

@@ -27,7 +27,7 @@ use Rattle.delivery_core.specs.DeliveryCore.{DeliveryCore}
 use Rattle.delivery_core.specs.Stands.{EachAt, StandsFor, IsNext}
 use Rattle.shard_queue.specs.Plain.{StandsForLane}
 use Rattle.shard_queue.proofs.PlainLaws.{lane_put}
-use Rattle.delivery_core.proofs.Follow.{each_here, each_set, next_same, reached_step}
+use Rattle.delivery_core.proofs.Follow.{each_set, next_same, reached_step}
 
 -- Take
 
@@ -40,6 +40,12 @@ pub take_none : (t : Taken Job) (l l2 : PlainLane Job) → None ≡ option_map i
 take_none (took_one.Item p x) l l2 h e = absurd (cc)
 take_none (took_one.End p) l l2 h e = absurd (cc)
 take_none took_one.Empty l l2 h e = e
+
+-- nothing was taken
+pub none_taken : (t : Taken Job) → None ≡ option_map in_hand (taken_entry t) → taken_entry t ≡ None
+none_taken (took_one.Item p x) h = absurd (cc)
+none_taken (took_one.End p) h = absurd (cc)
+none_taken took_one.Empty h = refl
 
 took_sent : (w : World) (s : ℕ) (e : Entry Job) (others : List (Entry Job)) (t p : ℕ) → (set_at w.lane s (took (w.lane s) e others) t).sent p ≡ (w.lane t).sent p
 took_sent w s e others t p = at_cases (λ l. l.sent p ≡ (w.lane t).sent p) w.lane s (took (w.lane s) e others) t (λ same. ap (λ i. (w.lane i).sent p) (sym same)) (λ _. refl)
@@ -141,19 +147,17 @@ below_sent y key (Item p c ∷ es) h (inl e) = rw e (All-head (EntryBelow y) (It
 below_sent y key (Item p c ∷ es) h (inr i) = below_sent y key es (All-tail (EntryBelow y) (Item p c) es h) i
 below_sent y key (End p ∷ es) h i = below_sent y key es (All-tail (EntryBelow y) (End p) es h) i
 
-pub hear_follows : (k : Config) (w : World) (old new : DeliveryCore) (p s : ℕ) (r : Noted) (l l2 : PlainLane Noted) (book0 book1 book2 book3 : WorkerLog) → StandsFor k old w
+pub hear_follows : (k : Config) (w : World) (old new : DeliveryCore) (p s : ℕ) (r : Noted) (l l2 : PlainLane Noted) (book0 book1 : WorkerLog) → StandsFor k old w
     → p < length old.replies → p < length old.heard → l ≡ get_or old.replies p l → l ≡ record { capacity = l2.capacity; live = l2.live; waiting = Item s r ∷ l2.waiting }
-    → book0 ≡ get_or old.heard p book0 → book1.notes ≡ book0.notes → book2 ≡ get_or (set old.heard p book1) p book2 → book3.notes ≡ book2.notes ++ r ∷ []
-    → new.replies ≡ set old.replies p l2 → new.heard ≡ set (set old.heard p book1) p book3
+    → book0 ≡ get_or old.heard p book0 → book1.notes ≡ book0.notes ++ r ∷ []
+    → new.replies ≡ set old.replies p l2 → new.heard ≡ set old.heard p book1
     → new.lanes ≡ old.lanes → new.hands ≡ old.hands → new.boxes ≡ old.boxes → new.next ≡ old.next → new.clients ≡ old.clients
     → (v : World) × Steps k w (Hear p ∷ []) v × StandsFor k new v
-hear_follows k w old new p s r l l2 book0 book1 book2 book3 S inp inh there front first kept second noted replies heard lanes hands boxes next clients =
+hear_follows k w old new p s r l l2 book0 book1 S inp inh there front first noted replies heard lanes hands boxes next clients =
     let was : StandsForLane k.shards reply_room l (w.replies p) = rw there (S.replies p l inp) in
     let waits : (w.replies p).waiting ≡ Item s r ∷ l2.waiting = sym was.waiting ∙ ap (λ x. x.waiting) front in
     let v : World = record w { replies = set_at w.replies p (took (w.replies p) (Item s r) l2.waiting); heard = set_at w.heard p (w.heard p ++ r ∷ []) } in
     let step : HearStep w p v = hears_one s r l2.waiting waits refl in
-    let reserved : EachAt (λ q b. b.notes ≡ w.heard q) (set old.heard p book1) = each_here (λ q b. b.notes ≡ w.heard q) old.heard p book1 S.heard (kept ∙ rw first (S.heard p book0 inh)) in
-    let inh2 : p < length (set old.heard p book1) = omega (arith, length-set old.heard p book1) in
     let known : ReplyKnown k w p (Item s r) = (rw waits at ((known_always k S.reached.0 w S.reached.1).replies p)).0 in (
       v,
       (v, step, refl),
@@ -162,7 +166,7 @@ hear_follows k w old new p s r l l2 book0 book1 book2 book3 S inp inh there fron
         shards = ap length lanes ∙ S.shards;
         in_hands = ap length hands ∙ S.in_hands;
         seats = ap length replies ∙ (length-set old.replies p l2 ∙ S.seats);
-        hearing = ap length heard ∙ (length-set (set old.heard p book1) p book3 ∙ (length-set old.heard p book1 ∙ S.hearing));
+        hearing = ap length heard ∙ (length-set old.heard p book1 ∙ S.hearing);
         nexts = ap length next ∙ S.nexts;
         mailboxes = ap length boxes ∙ S.mailboxes;
         sessions = ap length clients ∙ S.sessions;
@@ -173,7 +177,7 @@ hear_follows k w old new p s r l l2 book0 book1 book2 book3 S inp inh there fron
         hands = rw hands S.hands;
         replies = rw replies (each_set (λ a b. StandsForLane k.shards reply_room a b) old.replies w.replies p l2 (took (w.replies p) (Item s r) l2.waiting) S.replies
             (record { capacity = sym (ap (λ x. x.capacity) front) ∙ was.capacity; producers = sym (ap (λ x. length x.live) front) ∙ was.producers; waiting = refl; live = subst (λ xs. EachAt (λ q live. has_end ((w.replies p).sent q) ≡ not live) xs) (ap (λ x. x.live) front) was.live }));
-        heard = rw heard (each_set (λ b h. b.notes ≡ h) (set old.heard p book1) w.heard p book3 (w.heard p ++ r ∷ []) reserved (noted ∙ ap (λ rs. rs ++ r ∷ []) (rw second (reserved p book2 inh2))));
+        heard = rw heard (each_set (λ b h. b.notes ≡ h) old.heard w.heard p book1 (w.heard p ++ r ∷ []) S.heard (noted ∙ ap (λ rs. rs ++ r ∷ []) (rw first (S.heard p book0 inh))));
         boxes = rw boxes S.boxes;
         next = rw next (λ q d h.
             let n : IsNext w q (get_or old.next q d) = S.next q d h in

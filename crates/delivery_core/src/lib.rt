@@ -4,6 +4,7 @@
 
 mod client;
 mod clients;
+mod group;
 mod make;
 mod steps;
 

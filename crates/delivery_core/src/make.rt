@@ -1,81 +1,62 @@
 //! The parts of a new delivery side, each made of as many as the settings say. What they do later is
 //! told in `steps`.
 
-ghost use Rattle.std.specs.Prelude.{max, ◌≡◌, ◌<◌, [], length, replicate, IfOk, None};
+ghost use Rattle.std.specs.Prelude.{max, ◌≡◌, ◌<◌, length, replicate, IfOk, None};
 ghost use Rattle.delivery_core.specs.Stands.{EachAt};
-ghost use Rattle.delivery_core.specs.New.{first_key, new_lane, IsNewBox};
+ghost use Rattle.delivery_core.specs.New.{IsNewBox, IsNewSeat, new_shard};
 
 use crate::client::Client;
-use delivery_token::{CopyKey, WorkerLog};
+use crate::group::{Seat, Shard};
+use delivery_token::{CopyKey, REPLY_ROOM, WorkerLog};
 use mailbox::{History, Limits, Mailbox};
 use shard_queue::PlainLane;
 use std::alloc::{AllocError, Global};
 use world::hand::Hand;
 
-/// So many empty lanes, each with this capacity, into which so many producers may put.
+/// So many shards, each with an empty lane with this capacity, into which so many seats may put, and with nothing in its hand.
 ///
 /// Errors: `AllocError` where memory was refused.
-pub fn new_lanes<T: Drop>(
+pub fn new_shards(
     alloc: Global,
     count: u8,
     capacity: usize,
-    producers: u8,
-) -> Result<Vec<PlainLane<T>>, AllocError>
+    seats: u8,
+) -> Result<Vec<Shard>, AllocError>
     ensures count { IfOk result (λ v. length v.items ≡ count) }
-    ensures each { IfOk result (λ v. EachAt (λ i l. l ≡ new_lane capacity producers) v.items) }
+    ensures each { IfOk result (λ v. EachAt (λ i s. s ≡ new_shard capacity seats) v.items) }
 {
-    let mut lanes = Vec::new(alloc);
+    let mut shards = Vec::new(alloc);
     for _i in 0..count {
-        lanes.push(PlainLane::new(alloc, capacity, producers)?)?;
-    }
-    Ok(lanes)
-}
-
-/// So many hands, with nothing in them: one for each shard.
-///
-/// Errors: `AllocError` where memory was refused.
-pub fn empty_hands(alloc: Global, count: u8) -> Result<Vec<Hand>, AllocError>
-    ensures count { IfOk result (λ v. length v.items ≡ count) }
-    ensures each { IfOk result (λ v. EachAt (λ i h. h ≡ Hand.Empty) v.items) }
-{
-    let mut hands = Vec::new(alloc);
-    for _i in 0..count {
-        hands.push(Hand::Empty)?;
-    }
-    Ok(hands)
-}
-
-/// So many logs, in which nothing was noted: one for each seat, in their order.
-///
-/// Errors: `AllocError` where memory was refused.
-pub fn new_logs(alloc: Global, count: u8) -> Result<Vec<WorkerLog>, AllocError>
-    ensures count { IfOk result (λ v. length v.items ≡ count) }
-    ensures each { IfOk result (λ v. EachAt (λ i b. b.notes ≡ []) v.items) }
-{
-    let mut logs = Vec::new(alloc);
-    for i in 0..count {
-        logs.push(WorkerLog::new(alloc, i))?;
-    }
-    Ok(logs)
-}
-
-/// The least key of each of so many seats, in their order.
-///
-/// Errors: `AllocError` where memory was refused.
-pub fn first_keys(alloc: Global, count: u8) -> Result<Vec<CopyKey>, AllocError>
-    ensures count { IfOk result (λ v. length v.items ≡ count) }
-    ensures each { IfOk result (λ v. EachAt (λ p y. y ≡ first_key p) v.items) }
-{
-    let mut keys = Vec::new(alloc);
-    for seat in 0..count {
-        keys.push(CopyKey {
-            seat,
-            serial: 0,
-            message: 0,
-            recipient: 0,
+        shards.push(Shard {
+            lane: PlainLane::new(alloc, capacity, seats)?,
+            hand: Hand::Empty,
         })?;
     }
-    Ok(keys)
+    Ok(shards)
+}
+
+/// So many seats, in their order, each with an empty reply lane, into which so many shards' consumers may put, with a log in which
+/// nothing was noted, and with its least key.
+///
+/// Errors: `AllocError` where memory was refused.
+pub fn new_seats(alloc: Global, count: u8, shards: u8) -> Result<Vec<Seat>, AllocError>
+    ensures count { IfOk result (λ v. length v.items ≡ count) }
+    ensures each { IfOk result (λ v. EachAt (λ p s. IsNewSeat p shards s) v.items) }
+{
+    let mut seats = Vec::new(alloc);
+    for seat in 0..count {
+        seats.push(Seat {
+            replies: PlainLane::new(alloc, REPLY_ROOM, shards)?,
+            heard: WorkerLog::new(alloc, seat),
+            next: CopyKey {
+                seat,
+                serial: 0,
+                message: 0,
+                recipient: 0,
+            },
+        })?;
+    }
+    Ok(seats)
 }
 
 /// So many mailboxes, numbered from 0, with nothing in them and no client, which keep the copies that they take.

@@ -21,7 +21,8 @@ ghost use Rattle.delivery_token.specs.declared.CopyKey.{CopyKey};
 ghost use Rattle.mailbox.specs.Mailbox.{Mailbox, SameMailbox};
 
 use crate::client::Client;
-use crate::make::{empty_hands, first_keys, new_boxes, new_lanes, new_logs, no_clients};
+use crate::group::{Seat, Shard};
+use crate::make::{new_boxes, new_seats, new_shards, no_clients};
 use change_ring::{Change, Flags};
 use delivery_token::{
     CopyKey, Job, Noted, REPLY_ROOM, Refusal, Text, Verdict, WorkerLog, precedes,
@@ -59,35 +60,22 @@ pub enum HearFault {
 /// through the shard of its number modulo the number of shards.
 #[derive(Drop)]
 pub struct DeliveryCore {
-    lanes: Vec<PlainLane<Job>>,
-    hands: Vec<Hand>,
-    replies: Vec<PlainLane<Noted>>,
-    heard: Vec<WorkerLog>,
+    shards: Vec<Shard>,
+    seats: Vec<Seat>,
     pub(crate) boxes: Vec<Mailbox>,
-    next: Vec<CopyKey>,
     pub(crate) clients: Vec<Option<Client>>,
 }
 
 impl Model for DeliveryCore {
-    ghost use Rattle.std.specs.Prelude.{◌≡◌, length};
     ghost use Rattle.delivery_core.specs.DeliveryCore.{DeliveryCore};
-    ghost use Rattle.delivery_core.specs.inner.DeliveryCore.{AreKept};
+    ghost use Rattle.delivery_core.specs.inner.DeliveryCore.{AreKept, in_groups};
     ghost use Rattle.delivery_core.specs.Attached.{AreAttached, cursors_of};
 
     ghost Value = { DeliveryCore };
 
-    ghost view = { λ p. record {
-      lanes = p.lanes.items;
-      hands = p.hands.items;
-      replies = p.replies.items;
-      heard = p.heard.items;
-      boxes = p.boxes.items;
-      next = p.next.items;
-      clients = p.clients.items;
-    } };
+    ghost view = { λ p. in_groups p.shards.items p.seats.items p.boxes.items p.clients.items };
 
-    ghost invariant = { λ p. (length p.hands.items ≡ length p.lanes.items) × (length p.heard.items ≡ length p.replies.items)
-        × (length p.next.items ≡ length p.replies.items) × AreAttached (cursors_of p.boxes.items) p.clients.items × AreKept p.boxes.items };
+    ghost invariant = { λ p. AreAttached (cursors_of p.boxes.items) p.clients.items × AreKept p.boxes.items };
 }
 
 // Whether a seat may put no more into this lane.
@@ -199,10 +187,8 @@ impl DeliveryCore {
             → slice_index_or h.next p d ≡ first_key p) }
     {
         Ok(DeliveryCore {
-            lanes: new_lanes(alloc, settings.shards, settings.depth, settings.seats)?,
-            hands: empty_hands(alloc, settings.shards)?,
-            replies: new_lanes(alloc, settings.seats, REPLY_ROOM, settings.shards)?,
-            heard: new_logs(alloc, settings.seats)?,
+            shards: new_shards(alloc, settings.shards, settings.depth, settings.seats)?,
+            seats: new_seats(alloc, settings.seats, settings.shards)?,
             boxes: new_boxes(
                 alloc,
                 settings.mailboxes,
@@ -210,7 +196,6 @@ impl DeliveryCore {
                 settings.first_uid,
                 settings.limits,
             )?,
-            next: first_keys(alloc, settings.seats)?,
             clients: no_clients(alloc, settings.sessions)?,
         })
     }
@@ -221,13 +206,14 @@ impl DeliveryCore {
         ensures { IsTrue result ↔ IsNextKey self.now key mailbox }
     {
         let seat = usize::from(key.seat);
-        if seat >= self.replies.len()
+        if seat >= self.seats.len()
             || usize::from(mailbox) >= self.boxes.len()
-            || self.lanes.is_empty()
+            || self.shards.is_empty()
         {
             return false;
         }
-        key.recipient < 255 && (self.next[seat] == key || precedes(&self.next[seat], &key))
+        let next = &self.seats[seat].next;
+        key.recipient < 255 && (*next == key || precedes(next, &key))
     }
 
     /// A seat puts a copy with these flags, and with a text of its own, into the lane of its mailbox's shard: None where
@@ -282,22 +268,22 @@ impl DeliveryCore {
         ensures refused { OnErr result (self.new ≡ self.old) }
     {
         let seat = usize::from(key.seat);
-        let shard = usize::from(mailbox) % self.lanes.len();
-        if self.heard[seat].reserve(1).is_err() {
+        let shard = usize::from(mailbox) % self.shards.len();
+        let own = &mut self.seats[seat];
+        if own.heard.reserve(1).is_err() {
             return Err(AllocError);
         }
-        self.next[seat] = CopyKey {
+        own.next = CopyKey {
             seat: key.seat,
             serial: key.serial,
             message: key.message,
             recipient: key.recipient + 1,
         };
-        let lane = &mut self.lanes[shard];
+        let lane = &mut self.shards[shard].lane;
         let Some(why) = put_in(lane, key, mailbox, text, flags) else {
             return Ok(None);
         };
-        let book = &mut self.heard[seat];
-        book.note(key, mailbox, Verdict::Refused(why));
+        own.heard.note(key, mailbox, Verdict::Refused(why));
         Ok(Some(why))
     }
 
@@ -305,21 +291,21 @@ impl DeliveryCore {
     pub fn shards(&self) -> usize
         ensures { result ≡ length self.now.lanes }
     {
-        self.lanes.len()
+        self.shards.len()
     }
 
     /// How many seats there are.
     pub fn seats(&self) -> usize
         ensures { result ≡ length self.now.replies }
     {
-        self.replies.len()
+        self.seats.len()
     }
 
     /// Whether a seat has put its end into the lane of any shard.
     pub fn has_ended(&self, seat: u8) -> bool
         ensures { result ≡ has_ended self.now seat }
     {
-        self.lanes.iter().any(|lane| is_ended(seat, lane))
+        self.shards.iter().any(|shard| is_ended(seat, &shard.lane))
     }
 
     /// A seat puts its end into a shard's lane, after which it puts nothing more there. Nobody where
@@ -351,13 +337,13 @@ impl DeliveryCore {
         ensures refused { OnErr result (self.new ≡ self.old) }
     {
         let at = usize::from(shard);
-        if at >= self.lanes.len() || usize::from(seat) >= self.replies.len() {
+        if at >= self.shards.len() || usize::from(seat) >= self.seats.len() {
             return Err(Fault::Nobody);
         }
-        if !self.lanes[at].is_live(seat) {
+        if !self.shards[at].lane.is_live(seat) {
             return Err(Fault::Nothing);
         }
-        let lane = &mut self.lanes[at];
+        let lane = &mut self.shards[at].lane;
         let Ok(()) = lane.end(seat) else {
             return Err(Fault::Nothing);
         };
@@ -387,20 +373,18 @@ impl DeliveryCore {
         ensures refused { OnErr result (self.new ≡ self.old) }
     {
         let at = usize::from(shard);
-        if at >= self.lanes.len() {
+        if at >= self.shards.len() {
             return Err(Fault::Nobody);
         }
-        let Hand::Empty = &self.hands[at] else {
+        let Hand::Empty = &self.shards[at].hand else {
             return Err(Fault::Nothing);
         };
-        let lane = &mut self.lanes[at];
-        match hand_of(lane.take()) {
-            Some(hand) => {
-                self.hands[at] = hand;
-                Ok(())
-            }
-            None => Err(Fault::Nothing),
-        }
+        let one = &mut self.shards[at];
+        let Some(hand) = hand_of(one.lane.take()) else {
+            return Err(Fault::Nothing);
+        };
+        one.hand = hand;
+        Ok(())
     }
 
     /// The copy in a shard's hand is delivered to its mailbox, or refused by it, and the hand holds
@@ -428,10 +412,10 @@ impl DeliveryCore {
         ensures refused { OnErr result (self.new ≡ self.old) }
     {
         let at = usize::from(shard);
-        if at >= self.lanes.len() {
+        if at >= self.shards.len() {
             return Err(Fault::Nobody);
         }
-        let Hand::Taken(job) = &self.hands[at] else {
+        let Hand::Taken(job) = &self.shards[at].hand else {
             return Err(Fault::Nothing);
         };
         let position = usize::from(job.mailbox);
@@ -441,7 +425,7 @@ impl DeliveryCore {
         let key = job.key;
         let mailbox = job.mailbox;
         let verdict = deliver_to(&mut self.boxes[position], job);
-        self.hands[at] = Hand::Done(Noted {
+        self.shards[at].hand = Hand::Done(Noted {
             key,
             mailbox,
             verdict,
@@ -472,20 +456,20 @@ impl DeliveryCore {
         ensures refused { OnErr result (self.new ≡ self.old) }
     {
         let at = usize::from(shard);
-        if at >= self.lanes.len() {
+        if at >= self.shards.len() {
             return Err(Fault::Nobody);
         }
-        let Hand::Done(noted) = self.hands[at] else {
+        let Hand::Done(noted) = self.shards[at].hand else {
             return Err(Fault::Nothing);
         };
         let seat = usize::from(noted.key.seat);
-        if seat >= self.replies.len() || !self.replies[seat].is_live(shard) {
+        if seat >= self.seats.len() || !self.seats[seat].replies.is_live(shard) {
             return Err(Fault::Nothing);
         }
-        let lane = &mut self.replies[seat];
+        let lane = &mut self.seats[seat].replies;
         match lane.put(shard, noted) {
             Ok(()) => {
-                self.hands[at] = Hand::Empty;
+                self.shards[at].hand = Hand::Empty;
                 Ok(())
             }
             Err(_) => Err(Fault::Nothing),
@@ -521,21 +505,20 @@ impl DeliveryCore {
         ensures refused { OnErr result (self.new ≡ self.old) }
     {
         let at = usize::from(seat);
-        if at >= self.replies.len() {
+        if at >= self.seats.len() {
             return Err(HearFault::Nobody);
         }
-        if !self.replies[at].has_item() {
+        if !self.seats[at].replies.has_item() {
             return Err(HearFault::Nothing);
         }
-        if self.heard[at].reserve(1).is_err() {
+        let own = &mut self.seats[at];
+        if own.heard.reserve(1).is_err() {
             return Err(HearFault::NoMemory);
         }
-        let lane = &mut self.replies[at];
-        let Taken::Item(_, noted) = lane.take() else {
+        let Taken::Item(_, noted) = own.replies.take() else {
             unreachable!()
         };
-        let book = &mut self.heard[at];
-        book.note(noted.key, noted.mailbox, noted.verdict);
+        own.heard.note(noted.key, noted.mailbox, noted.verdict);
         Ok(noted)
     }
 

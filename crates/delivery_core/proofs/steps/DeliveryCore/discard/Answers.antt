@@ -8,6 +8,7 @@ use Rattle.delivery_core.proofs.AttachedLaws.{cursors_same}
 use Rattle.delivery_core.proofs.Boxes.{kept_set, same_ok}
 use Rattle.delivery_core.proofs.Discarding.{Spares, discard_follows, spared_core, spared_cursors, spared_fault, spared_history, spared_known, spared_same}
 use Rattle.delivery_core.proofs.Looks.{same_view}
+use Rattle.delivery_core.specs.inner.DeliveryCore.{in_groups}
 use Rattle.delivery_core.proofs.steps.DeliveryCore.discard.Goals as goal
 
 pub invariant_of-self : goal.invariant_of-self
@@ -17,11 +18,8 @@ invariant_of-self c =
     let b2 = c.discard.new.self in
     let spares : Spares c.discard.result b b2 = record { only = c.discard.ensures.only; rest = c.discard.ensures.rest } in
     let kept = cursors_same i.boxes.items c.from-number.result b b2 (omega (arith, c.len.ensures, c.if-number-len.false)) c.index_mut.ensures.value (spared_cursors c.discard.result b b2 spares) in (
-      c.self.invariant.0,
-      c.self.invariant.1,
-      c.self.invariant.2,
-      subst (λ (all : List CursorSet). AreAttached all i.clients.items) (sym kept) c.self.invariant.3,
-      kept_set i.boxes.items c.from-number.result b b2 c.self.invariant.4 c.index_mut.ensures.value (spared_history c.discard.result b b2 spares),
+      subst (λ (all : List CursorSet). AreAttached all i.clients.items) (sym kept) c.self.invariant.0,
+      kept_set i.boxes.items c.from-number.result b b2 c.self.invariant.1 c.index_mut.ensures.value (spared_history c.discard.result b b2 spares),
     )
 
 pub returns-clause-stranger : goal.returns-clause-stranger
@@ -46,7 +44,7 @@ returns-clause-views c n =
     let b = c.index_mut.result.now in
     let b2 = c.discard.new.self in
     let spares : Spares c.discard.result b b2 = record { only = c.discard.ensures.only; rest = c.discard.ensures.rest } in
-    let h : DeliveryCore = record { lanes = i.lanes.items; hands = i.hands.items; replies = i.replies.items; heard = i.heard.items; boxes = i.boxes.items; next = i.next.items; clients = i.clients.items } in
+    let h : DeliveryCore = in_groups i.shards.items i.seats.items i.boxes.items i.clients.items in
     same_view h (set i.boxes.items c.from-number.result b2) n (cursors_same i.boxes.items c.from-number.result b b2 (omega (arith, c.len.ensures, c.if-number-len.false)) c.index_mut.ensures.value (spared_cursors c.discard.result b b2 spares))
     ∙ ap (λ (x : DeliveryCore). view_of x n) c.self.view_is
 
@@ -62,5 +60,5 @@ returns-clause-refused c =
     let i = c.self.inside in
     let b = c.index_mut.result.now in
     let b2 = c.discard.new.self in
-    let h : DeliveryCore = record { lanes = i.lanes.items; hands = i.hands.items; replies = i.replies.items; heard = i.heard.items; boxes = i.boxes.items; next = i.next.items; clients = i.clients.items } in
+    let h : DeliveryCore = in_groups i.shards.items i.seats.items i.boxes.items i.clients.items in
     spared_core c.discard.result h c.args.self.now c.from-number.result b b2 (record { only = c.discard.ensures.only; rest = c.discard.ensures.rest }) (omega (arith, c.len.ensures, c.if-number-len.false)) c.index_mut.ensures.value c.self.view_is

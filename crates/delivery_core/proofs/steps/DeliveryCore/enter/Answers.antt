@@ -5,6 +5,7 @@ use Rattle.mailbox.specs.declared.clients.MailFault.TheVariants.{NoMemory, Spent
 use Rattle.mailbox.specs.declared.clients.Opening.{Opening}
 use Rattle.mailbox.specs.Mailbox.{Mailbox}
 use Rattle.delivery_core.specs.DeliveryCore.{DeliveryCore}
+use Rattle.delivery_core.specs.inner.DeliveryCore.{in_groups}
 use Rattle.delivery_core.specs.Stands.{StandsFor}
 use Rattle.delivery_core.proofs.Follow.{set_back}
 use Rattle.delivery_core.proofs.Boxes.{kept_set, same_boxes, same_rest}
@@ -18,7 +19,7 @@ returns-then-not-can_open-clause-event c allowed k w S =
     let l : c.from-place.result < length i.clients.items = omega (arith, c.if-place-len.false, c.len.ensures) in
     let number : c.from-number.result < length i.boxes.items = omega (arith, c.if-number-len.false, c.len-2.ensures) in
     let free = place_free i.clients.items c.from-place.result c.args.session c.index.result.now c.is_some.result c.from-place.ensures l c.index.ensures c.is_some.ensures c.if-is_some.false in
-    let h : DeliveryCore = record { lanes = i.lanes.items; hands = i.hands.items; replies = i.replies.items; heard = i.heard.items; boxes = i.boxes.items; next = i.next.items; clients = i.clients.items } in
+    let h : DeliveryCore = in_groups i.shards.items i.seats.items i.boxes.items i.clients.items in
     let stands = subst (λ (x : DeliveryCore). StandsFor k x w) (sym c.self.view_is) S in
     let due = opened_at i.boxes.items w.opened c.from-number.result c.index-2.result.now stands.opened number c.index-2.ensures ∙ ap w.opened c.from-number.ensures in
     let none = none_left c.can_open.result c.index-2.result.now.cursors.next c.can_open.ensures c.if-not-can_open.true in
@@ -32,7 +33,7 @@ returns-in_err-handle-clause-event c allowed =
     let l : c.from-place.result < length i.clients.items = omega (arith, c.if-place-len.false, c.len.ensures) in
     let number : c.from-number.result < length i.boxes.items = omega (arith, c.if-number-len.false, c.len-2.ensures) in
     let free = place_free i.clients.items c.from-place.result c.args.session c.index.result.now c.is_some.result c.from-place.ensures l c.index.ensures c.is_some.ensures c.if-is_some.false in
-    let h : DeliveryCore = record { lanes = i.lanes.items; hands = i.hands.items; replies = i.replies.items; heard = i.heard.items; boxes = i.boxes.items; next = i.next.items; clients = i.clients.items } in
+    let h : DeliveryCore = in_groups i.shards.items i.seats.items i.boxes.items i.clients.items in
     let stands = subst (λ (x : DeliveryCore). StandsFor k x w) (sym c.self.view_is) S in
     let due = opened_at i.boxes.items w.opened c.from-number.result c.index-2.result.now stands.opened number c.index-2.ensures ∙ ap w.opened c.from-number.ensures in
     let left = c.can_open.ensures.0 c.if-not-can_open.false in
@@ -44,12 +45,9 @@ invariant_of-self-2 c =
     let i = c.self.inside in
     let number : c.from-number.result < length i.boxes.items = omega (arith, c.if-number-len.false, c.len-2.ensures) in
     let e = c.in_ok-handle.ensures in (
-      c.self.invariant.0,
-      c.self.invariant.1,
-      c.self.invariant.2,
-      enter_attached i.boxes.items i.clients.items c.args.session c.from-place.result c.args.mailbox c.from-number.result c.index_mut.result.now c.open_cursor.new.self c.in_ok-handle.handle _ c.self.invariant.3 c.from-place.ensures c.from-number.ensures number
+      enter_attached i.boxes.items i.clients.items c.args.session c.from-place.result c.args.mailbox c.from-number.result c.index_mut.result.now c.open_cursor.new.self c.in_ok-handle.handle _ c.self.invariant.0 c.from-place.ensures c.from-number.ensures number
           c.index_mut.ensures.value e.opened e.vacant e.known,
-      kept_set i.boxes.items c.from-number.result c.index_mut.result.now c.open_cursor.new.self c.self.invariant.4 c.index_mut.ensures.value (ap (λ (z : Mailbox). z.history) e.rest),
+      kept_set i.boxes.items c.from-number.result c.index_mut.result.now c.open_cursor.new.self c.self.invariant.1 c.index_mut.ensures.value (ap (λ (z : Mailbox). z.history) e.rest),
     )
 
 pub returns-clause-event : goal.returns-clause-event

@@ -7,31 +7,29 @@ use Rattle.delivery_core.proofs.Looks.{same_view}
 use Rattle.delivery_core.proofs.AttachedLaws.{cursors_same}
 use Rattle.delivery_core.proofs.Boxes.{kept_set, rest_always, same_ok}
 use Rattle.delivery_core.proofs.Mailed.{client_here, mailbox_within, still_attached}
+use Rattle.delivery_core.specs.inner.DeliveryCore.{in_groups}
 use Rattle.delivery_core.proofs.steps.DeliveryCore.read.Goals as goal
 
 pub index_mut-mailbox-requires : goal.index_mut-mailbox-requires
 index_mut-mailbox-requires c =
     let i = c.self.inside in
     let here = client_here i.clients.items c.from-place.result c.args.session c.index.result.now c.in-Some.client c.from-place.ensures (omega (arith, c.if-place-len.false, c.len.ensures)) c.index.ensures c.in-Some.is in
-    omega (arith, mailbox_within i.boxes.items i.clients.items c.args.session c.from.result c.in-Some.client c.self.invariant.3 here c.from.ensures, i.boxes.ok.0)
+    omega (arith, mailbox_within i.boxes.items i.clients.items c.args.session c.from.result c.in-Some.client c.self.invariant.0 here c.from.ensures, i.boxes.ok.0)
 
 pub invariant_of-self : goal.invariant_of-self
 invariant_of-self c =
     let i = c.self.inside in
     let here = client_here i.clients.items c.from-place.result c.args.session c.index.result.now c.in-Some.client c.from-place.ensures (omega (arith, c.if-place-len.false, c.len.ensures)) c.index.ensures c.in-Some.is in (
-      c.self.invariant.0,
-      c.self.invariant.1,
-      c.self.invariant.2,
-      still_attached i.boxes.items i.clients.items c.args.session c.from.result c.in-Some.client c.index_mut-mailbox.result.now c.read.new.self c.self.invariant.3 here c.from.ensures c.index_mut-mailbox.ensures.value
+      still_attached i.boxes.items i.clients.items c.args.session c.from.result c.in-Some.client c.index_mut-mailbox.result.now c.read.new.self c.self.invariant.0 here c.from.ensures c.index_mut-mailbox.ensures.value
           (ap (λ (m : Mailbox). m.cursors) c.read.ensures.rest),
-      kept_set i.boxes.items c.from.result c.index_mut-mailbox.result.now c.read.new.self c.self.invariant.4 c.index_mut-mailbox.ensures.value (ap (λ (m : Mailbox). m.history) c.read.ensures.rest),
+      kept_set i.boxes.items c.from.result c.index_mut-mailbox.result.now c.read.new.self c.self.invariant.1 c.index_mut-mailbox.ensures.value (ap (λ (m : Mailbox). m.history) c.read.ensures.rest),
     )
 
 pub returns-clause-stranger : goal.returns-clause-stranger
 returns-clause-stranger c =
     let i = c.self.inside in
     let here = client_here i.clients.items c.from-place.result c.args.session c.index.result.now c.in-Some.client c.from-place.ensures (omega (arith, c.if-place-len.false, c.len.ensures)) c.index.ensures c.in-Some.is in
-    rw (← c.self.view_is) (not_strange c.read.result i.boxes.items i.clients.items c.args.session c.from.result c.in-Some.client c.index_mut-mailbox.result.now c.self.invariant.3 here c.from.ensures c.index_mut-mailbox.ensures.value c.read.ensures.stranger)
+    rw (← c.self.view_is) (not_strange c.read.result i.boxes.items i.clients.items c.args.session c.from.result c.in-Some.client c.index_mut-mailbox.result.now c.self.invariant.0 here c.from.ensures c.index_mut-mailbox.ensures.value c.read.ensures.stranger)
 
 pub returns-clause-event : goal.returns-clause-event
 returns-clause-event c there k w S =
@@ -45,16 +43,16 @@ pub returns-clause-view : goal.returns-clause-view
 returns-clause-view c =
     let i = c.self.inside in
     let here = client_here i.clients.items c.from-place.result c.args.session c.index.result.now c.in-Some.client c.from-place.ensures (omega (arith, c.if-place-len.false, c.len.ensures)) c.index.ensures c.in-Some.is in
-    let h : DeliveryCore = record { lanes = i.lanes.items; hands = i.hands.items; replies = i.replies.items; heard = i.heard.items; boxes = i.boxes.items; next = i.next.items; clients = i.clients.items } in
+    let h : DeliveryCore = in_groups i.shards.items i.seats.items i.boxes.items i.clients.items in
     same_view h (set i.boxes.items c.from.result c.read.new.self) c.args.session (cursors_same i.boxes.items c.from.result c.index_mut-mailbox.result.now c.read.new.self
-    (mailbox_within i.boxes.items i.clients.items c.args.session c.from.result c.in-Some.client c.self.invariant.3 here c.from.ensures) c.index_mut-mailbox.ensures.value (ap (λ (m : Mailbox). m.cursors) c.read.ensures.rest))
+    (mailbox_within i.boxes.items i.clients.items c.args.session c.from.result c.in-Some.client c.self.invariant.0 here c.from.ensures) c.index_mut-mailbox.ensures.value (ap (λ (m : Mailbox). m.cursors) c.read.ensures.rest))
     ∙ ap (λ (x : DeliveryCore). view_of x c.args.session) c.self.view_is
 
 pub returns-clause-same : goal.returns-clause-same
 returns-clause-same c =
     let i = c.self.inside in
     let here = client_here i.clients.items c.from-place.result c.args.session c.index.result.now c.in-Some.client c.from-place.ensures (omega (arith, c.if-place-len.false, c.len.ensures)) c.index.ensures c.in-Some.is in
-    let within = mailbox_within i.boxes.items i.clients.items c.args.session c.from.result c.in-Some.client c.self.invariant.3 here c.from.ensures in
+    let within = mailbox_within i.boxes.items i.clients.items c.args.session c.from.result c.in-Some.client c.self.invariant.0 here c.from.ensures in
     let b = c.index_mut-mailbox.result.now in
     let b2 = c.read.new.self in
     rw (← c.self.view_is) (same_ok c.read.result i.boxes.items c.from.result b b2 within c.index_mut-mailbox.ensures.value (rest_always c.read.result b b2 b2.messages b2.window b.cursors c.read.ensures.rest))
@@ -64,6 +62,6 @@ returns-clause-done c =
     let i = c.self.inside in
     let e = c.read.ensures in
     let here = client_here i.clients.items c.from-place.result c.args.session c.index.result.now c.in-Some.client c.from-place.ensures (omega (arith, c.if-place-len.false, c.len.ensures)) c.index.ensures c.in-Some.is in
-    let h : DeliveryCore = record { lanes = i.lanes.items; hands = i.hands.items; replies = i.replies.items; heard = i.heard.items; boxes = i.boxes.items; next = i.next.items; clients = i.clients.items } in
-    rw (← c.self.view_is) (read_done h c.args.session c.from.result c.in-Some.client c.index_mut-mailbox.result.now c.read.new.self c.args.uid c.args.mark_seen c.read.result c.self.invariant.3 here c.from.ensures c.index_mut-mailbox.ensures.value
+    let h : DeliveryCore = in_groups i.shards.items i.seats.items i.boxes.items i.clients.items in
+    rw (← c.self.view_is) (read_done h c.args.session c.from.result c.in-Some.client c.index_mut-mailbox.result.now c.read.new.self c.args.uid c.args.mark_seen c.read.result c.self.invariant.0 here c.from.ensures c.index_mut-mailbox.ensures.value
     e.stranger e.lapped e.spent e.err e.logged e.window e.messages e.rest)
