@@ -14,15 +14,11 @@ mod log;
 mod metrics;
 mod nap;
 mod page;
-#[cfg(test)]
-mod page_tests;
 mod presence;
 mod refused;
 mod scribe;
 mod status;
 mod summary;
-#[cfg(test)]
-mod tests;
 
 pub use asking::{Answer, Front, MOST_FIELDS, Reply, read_request};
 pub use book::{LogBook, Names};

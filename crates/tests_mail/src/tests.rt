@@ -22,6 +22,8 @@ mod parcels;
 mod pauses;
 mod queues;
 mod reply_channels;
+mod report_lines;
+mod report_pages;
 mod rings;
 mod sending;
 mod sockets;

@@ -5,13 +5,17 @@ ghost use Rattle.std.specs.Prelude.{Some};
 use line_io::{SendFault, Sink, Watched, send};
 use std::alloc::AllocError;
 
-// Takes at most `step` bytes a call, and fails once its calls are used up.
+/// Takes at most `step` bytes a call, and fails once its calls are used up.
 #[derive(Drop)]
-struct Failing {
-    bytes: Vec<u8>,
-    step: usize,
-    calls: usize,
-    has_failed: bool,
+pub struct Failing {
+    /// What it took.
+    pub bytes: Vec<u8>,
+    /// The most that it takes at a call.
+    pub step: usize,
+    /// So many calls are left.
+    pub calls: usize,
+    /// Whether a call found none left.
+    pub has_failed: bool,
 }
 
 impl Sink for Failing {

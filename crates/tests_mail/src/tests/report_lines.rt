@@ -1,13 +1,12 @@
 //! Lines, counts and the summary, byte by byte as docs/OPERATING.md has them; and a log whose room is full.
 
-use crate::counts::{Counts, Refused};
-use crate::line::{Caller, Happened, append_call, append_copy, append_message, call_number};
-use crate::log::{Held, Keeps, LOG_ROOM, Log, Summary};
-use crate::scribe::Scribe;
-use crate::summary::append_summary;
 use delivery_token::{CopyKey, Refusal, Text, Verdict};
 use envelope::Directory;
 use lmtp_machine::Submission;
+use server_report::{
+    Caller, Counts, Happened, Held, Keeps, LOG_ROOM, Log, Refused, Scribe, Summary, append_call,
+    append_copy, append_message, append_summary, call_number,
+};
 use std::alloc::{AllocError, Global};
 use std::io;
 use std::net::Net;

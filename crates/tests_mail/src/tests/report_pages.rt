@@ -1,16 +1,12 @@
 //! What is asked, and what is answered, byte by byte. What is expected was worked out by hand, from RFC 9110, RFC 9112 and the page of
 //! Prometheus' text format.
 
-ghost use Rattle.std.specs.Prelude.{Some};
-
-use crate::asking::{Answer, Front, Reply, read_request};
-use crate::counts::{Counts, Refused};
-use crate::figures::{Connection, MailboxFigures, MailboxRow, PeerState, Session, Snapshot};
-use crate::http::write_answer;
-use crate::metrics::write_metrics;
-use crate::page::write_page;
-use crate::status::{Heard, ReadFault, Unsent, hear, tell};
-use line_io::Sink;
+use crate::tests::sending::Failing;
+use server_report::{
+    Answer, Connection, Counts, Front, Heard, MailboxFigures, MailboxRow, PeerState, ReadFault,
+    Refused, Reply, Session, Snapshot, Unsent, hear, read_request, tell, write_answer,
+    write_metrics, write_page,
+};
 use std::alloc::{AllocError, Global};
 use std::io;
 use std::io::{Error, ErrorKind, Read};
@@ -509,32 +505,6 @@ fn an_answer_is_its_head_and_its_body(rt: HostRuntime) -> Result<(), AllocError>
     Ok(())
 }
 
-// Takes at most `step` bytes a call, and fails once its calls are used up.
-#[derive(Drop)]
-struct Narrow {
-    bytes: Vec<u8>,
-    step: usize,
-    calls: usize,
-    has_failed: bool,
-}
-
-impl Sink for Narrow {
-    ghost taken = { λ s. Some s.bytes.items };
-
-    ghost failed = { λ s. s.has_failed };
-
-    fn offer(&mut self, bytes: &[u8]) -> Option<usize> {
-        let n = bytes.len().min(self.step);
-        if n > 0 && self.calls > 0 && self.bytes.extend_from_slice(&bytes[..n]).is_ok() {
-            self.calls -= 1;
-            Some(n)
-        } else {
-            self.has_failed = true;
-            None
-        }
-    }
-}
-
 #[test]
 fn what_went_out_is_told(rt: HostRuntime) -> Result<(), AllocError> {
     let reply = without_body(Answer::Unknown);
@@ -559,7 +529,7 @@ fn what_went_out_is_told(rt: HostRuntime) -> Result<(), AllocError> {
             }),
         ),
     ] {
-        let mut sink = Narrow {
+        let mut sink = Failing {
             bytes: Vec::new(rt.alloc()),
             step,
             calls,
