@@ -6,7 +6,7 @@ use Rattle.mailbox.specs.declared.clients.MailFault.TheVariants.{Stranger, Lappe
 use Rattle.world.specs.World as world
 use Rattle.world.specs.World.{Config, World, discards_them}
 use Rattle.imap_session.specs.Exchange as calls
-use Rattle.imap_session.specs.Exchange.{Call, Look, Read as ReadCall, Count, Alter, Expunge as ExpungeCall, Feed as FeedCall, Leave as LeaveCall, Discard as DiscardCall, Enter as EnterCall, Entered, Looked, Found, Counted, Altered, Expunged, Fed, Left, Discarded, Refused, Starved}
+use Rattle.imap_session.specs.Exchange.{Call, Look, Read as ReadCall, Count, Alter, Expunge as ExpungeCall, Feed as FeedCall, Leave as LeaveCall, Discard as DiscardCall, Enter as EnterCall, Entered, Looked, Found, Counted, Altered, Expunged, Fed, Left, Discarded, Refused}
 use Rattle.house.specs.Meets.{Meets, IsRefused, IsTurnedAway}
 use Rattle.exactly_once.proofs.Grown.{Reached, moves, stays}
 
@@ -24,101 +24,21 @@ turned_away k n m w NoMemory v t = stays k w v t.1
 
 pub meets_reached : (k : Config) (n : ℕ) (w : World) (call : Call) (answer : calls.Answer) (v : World) → Meets k n w call answer v → Reached k w v
 meets_reached k n w (EnterCall i) (Entered opening) v m = moves k w v (world.Enter n i) m.0
-meets_reached k n w (EnterCall i) (Looked view) v m = absurd m
-meets_reached k n w (EnterCall i) (Found row) v m = absurd m
-meets_reached k n w (EnterCall i) (Counted status) v m = absurd m
-meets_reached k n w (EnterCall i) (Altered flags) v m = absurd m
-meets_reached k n w (EnterCall i) (Expunged view changes gone) v m = absurd m
-meets_reached k n w (EnterCall i) (Fed view changes) v m = absurd m
-meets_reached k n w (EnterCall i) (Left gone) v m = absurd m
-meets_reached k n w (EnterCall i) Discarded v m = absurd m
-meets_reached k n w (EnterCall i) (Starved j) v m = absurd m
 meets_reached k n w (EnterCall i) (Refused fault) v m = turned_away k n i w fault v m
-meets_reached k n w (Look by_uid set) (Entered opening) v m = absurd m
 meets_reached k n w (Look by_uid set) (Looked view) v m = stays k w v m.0
-meets_reached k n w (Look by_uid set) (Found row) v m = absurd m
-meets_reached k n w (Look by_uid set) (Counted status) v m = absurd m
-meets_reached k n w (Look by_uid set) (Altered flags) v m = absurd m
-meets_reached k n w (Look by_uid set) (Expunged view changes gone) v m = absurd m
-meets_reached k n w (Look by_uid set) (Fed view changes) v m = absurd m
-meets_reached k n w (Look by_uid set) (Left gone) v m = absurd m
-meets_reached k n w (Look by_uid set) Discarded v m = absurd m
-meets_reached k n w (Look by_uid set) (Starved j) v m = absurd m
 meets_reached k n w (Look by_uid set) (Refused fault) v m = was_refused k n w fault _ v m
-meets_reached k n w (ReadCall uid mark) (Entered opening) v m = absurd m
-meets_reached k n w (ReadCall uid mark) (Looked view) v m = absurd m
 meets_reached k n w (ReadCall uid mark) (Found row) v m = moves k w v (world.Read n uid mark) m.0
-meets_reached k n w (ReadCall uid mark) (Counted status) v m = absurd m
-meets_reached k n w (ReadCall uid mark) (Altered flags) v m = absurd m
-meets_reached k n w (ReadCall uid mark) (Expunged view changes gone) v m = absurd m
-meets_reached k n w (ReadCall uid mark) (Fed view changes) v m = absurd m
-meets_reached k n w (ReadCall uid mark) (Left gone) v m = absurd m
-meets_reached k n w (ReadCall uid mark) Discarded v m = absurd m
-meets_reached k n w (ReadCall uid mark) (Starved j) v m = absurd m
 meets_reached k n w (ReadCall uid mark) (Refused fault) v m = was_refused k n w fault _ v m
-meets_reached k n w (Count i) (Entered opening) v m = absurd m
-meets_reached k n w (Count i) (Looked view) v m = absurd m
-meets_reached k n w (Count i) (Found row) v m = absurd m
 meets_reached k n w (Count i) (Counted status) v m = stays k w v m.0
-meets_reached k n w (Count i) (Altered flags) v m = absurd m
-meets_reached k n w (Count i) (Expunged view changes gone) v m = absurd m
-meets_reached k n w (Count i) (Fed view changes) v m = absurd m
-meets_reached k n w (Count i) (Left gone) v m = absurd m
-meets_reached k n w (Count i) Discarded v m = absurd m
-meets_reached k n w (Count i) (Starved j) v m = absurd m
 meets_reached k n w (Count i) (Refused fault) v m = stays k w v m.0
-meets_reached k n w (Alter uid op) (Entered opening) v m = absurd m
-meets_reached k n w (Alter uid op) (Looked view) v m = absurd m
-meets_reached k n w (Alter uid op) (Found row) v m = absurd m
-meets_reached k n w (Alter uid op) (Counted status) v m = absurd m
 meets_reached k n w (Alter uid op) (Altered flags) v m = moves k w v (world.Store n uid op) m.0
-meets_reached k n w (Alter uid op) (Expunged view changes gone) v m = absurd m
-meets_reached k n w (Alter uid op) (Fed view changes) v m = absurd m
-meets_reached k n w (Alter uid op) (Left gone) v m = absurd m
-meets_reached k n w (Alter uid op) Discarded v m = absurd m
-meets_reached k n w (Alter uid op) (Starved j) v m = absurd m
 meets_reached k n w (Alter uid op) (Refused fault) v m = was_refused k n w fault _ v m
-meets_reached k n w (ExpungeCall uids) (Entered opening) v m = absurd m
-meets_reached k n w (ExpungeCall uids) (Looked view) v m = absurd m
-meets_reached k n w (ExpungeCall uids) (Found row) v m = absurd m
-meets_reached k n w (ExpungeCall uids) (Counted status) v m = absurd m
-meets_reached k n w (ExpungeCall uids) (Altered flags) v m = absurd m
 meets_reached k n w (ExpungeCall uids) (Expunged view changes gone) v m = moves k w v (world.Expunge n (in_set uids)) m.0
-meets_reached k n w (ExpungeCall uids) (Fed view changes) v m = absurd m
-meets_reached k n w (ExpungeCall uids) (Left gone) v m = absurd m
-meets_reached k n w (ExpungeCall uids) Discarded v m = absurd m
-meets_reached k n w (ExpungeCall uids) (Starved j) v m = absurd m
 meets_reached k n w (ExpungeCall uids) (Refused fault) v m = was_refused k n w fault _ v m
-meets_reached k n w (FeedCall limit) (Entered opening) v m = absurd m
-meets_reached k n w (FeedCall limit) (Looked view) v m = absurd m
-meets_reached k n w (FeedCall limit) (Found row) v m = absurd m
-meets_reached k n w (FeedCall limit) (Counted status) v m = absurd m
-meets_reached k n w (FeedCall limit) (Altered flags) v m = absurd m
-meets_reached k n w (FeedCall limit) (Expunged view changes gone) v m = absurd m
 meets_reached k n w (FeedCall limit) (Fed view changes) v m = moves k w v (world.Feed n limit) m.0
-meets_reached k n w (FeedCall limit) (Left gone) v m = absurd m
-meets_reached k n w (FeedCall limit) Discarded v m = absurd m
-meets_reached k n w (FeedCall limit) (Starved j) v m = absurd m
 meets_reached k n w (FeedCall limit) (Refused fault) v m = was_refused k n w fault _ v m
-meets_reached k n w (LeaveCall remove) (Entered opening) v m = absurd m
-meets_reached k n w (LeaveCall remove) (Looked view) v m = absurd m
-meets_reached k n w (LeaveCall remove) (Found row) v m = absurd m
-meets_reached k n w (LeaveCall remove) (Counted status) v m = absurd m
-meets_reached k n w (LeaveCall remove) (Altered flags) v m = absurd m
-meets_reached k n w (LeaveCall remove) (Expunged view changes gone) v m = absurd m
-meets_reached k n w (LeaveCall remove) (Fed view changes) v m = absurd m
 meets_reached k n w (LeaveCall remove) (Left gone) v m = moves k w v (world.Leave n remove) m.0.0
-meets_reached k n w (LeaveCall remove) Discarded v m = absurd m
-meets_reached k n w (LeaveCall remove) (Starved j) v m = absurd m
 meets_reached k n w (LeaveCall remove) (Refused fault) v m = was_refused k n w fault _ v m
-meets_reached k n w (DiscardCall i uids) (Entered opening) v m = absurd m
-meets_reached k n w (DiscardCall i uids) (Looked view) v m = absurd m
-meets_reached k n w (DiscardCall i uids) (Found row) v m = absurd m
-meets_reached k n w (DiscardCall i uids) (Counted status) v m = absurd m
-meets_reached k n w (DiscardCall i uids) (Altered flags) v m = absurd m
-meets_reached k n w (DiscardCall i uids) (Expunged view changes gone) v m = absurd m
-meets_reached k n w (DiscardCall i uids) (Fed view changes) v m = absurd m
-meets_reached k n w (DiscardCall i uids) (Left gone) v m = absurd m
 meets_reached k n w (DiscardCall i uids) Discarded v m = moves k w v (world.Discard i (in_set (Some uids))) (discards_them m.mailbox m.there m.logs m.made)
-meets_reached k n w (DiscardCall i uids) (Starved j) v m = absurd m
 meets_reached k n w (DiscardCall i uids) (Refused fault) v m = stays k w v m.0
+meets_reached k n w _ _ v m = absurd m

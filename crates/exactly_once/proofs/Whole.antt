@@ -1,8 +1,7 @@
 -- What a session says is whole lines, whatever its store answers.
-use Rattle.std.proofs.Common.{◌≡◌, inl, inr, ℕ, zero, suc, ◌+◌, Bool, true, false, List, [], ◌∷◌, ◌++◌, map, length, refl, sym, subst, append_assoc, Option, Some, None, Result, Ok, Err}
-use Rattle.std.specs.Prelude.{codes, decimal, flat_map, if◌then◌else◌, nat_le, nat_lt, ◌==◌}
+use Rattle.std.proofs.Common.{◌≡◌, inl, inr, ℕ, ◌+◌, Bool, true, false, List, ◌∷◌, ◌++◌, map, length, refl, sym, subst, append_assoc, Option, Some, None, Result, Ok, Err, []}
+use Rattle.std.specs.Prelude.{IfSome, codes, decimal, flat_map, nat_le, nat_lt, ◌==◌, if◌then◌else◌}
 use Rattle.std.specs.List.{list_any}
-use Rattle.std.specs.Option.{option_map}
 use Rattle.change_ring.specs.declared.change.Change.{Change}
 use Rattle.change_ring.specs.declared.change.Change.TheVariants.{Add, Gone, Flags as SetFlags}
 use Rattle.change_ring.specs.declared.change.Flags.{Flags}
@@ -35,10 +34,9 @@ use Rattle.imap_session.specs.declared.standing.After.TheVariants.{Go, Bye}
 use Rattle.imap_session.specs.declared.standing.After.TheVariants as afters
 use Rattle.imap_session.specs.declared.standing.Selected.{Selected}
 use Rattle.imap_session.specs.Exchange as ex
-use Rattle.imap_session.specs.Exchange.{Answer, Batch, Origin, Client, Copied, PendingLiteral, ForVerdict, Mailing, Call, Entered, Looked, Found, Counted, Altered, Expunged, Fed, Left, Discarded, Refused, Starved, Exchange, Folder, Standing, Turn, played, refused, refusal_text, refusal_after, saying, having, closed, tagged, bye, is_idling}
+use Rattle.imap_session.specs.Exchange.{Answer, Batch, Origin, Client, Copied, PendingLiteral, ForVerdict, Mailing, Call, Refused, Exchange, Folder, Standing, Turn, played, refused, refusal_text, refusal_after, closed, tagged, bye, is_idling}
 use Rattle.imap_session.specs.Commands.{appending, is_over, last_number, most_unasked, nowhere, number_named, on_rest, on_text, over, found_in, search_done, search_known, search_messages, searching, wanting, wanting_for, closing, completed, counting, entering, expunge_set, fetch_messages, fetched, fetching, folder_of, greeting, idle_turn_in, messages_done, on_chosen, on_command, on_found, on_idle_line, says, showing, store_messages, storing, telling_recent, unlimited, wrong_state, notice, noticing}
 use Rattle.imap_session.specs.Commands as commands_of
-use Rattle.imap_session.proofs.Unkept.{unkept_by}
 use Rattle.imap_session.specs.Store.{AnswersVerdict, IdleTurns}
 use Rattle.delivery_token.specs.declared.Verdict.{Verdict}
 use Rattle.delivery_token.specs.declared.Verdict.TheVariants as verdicts
@@ -58,6 +56,7 @@ use Rattle.imap_answers.specs.declared.list.Listing.{Listing}
 use Rattle.imap_answers.specs.declared.list.Listing.TheVariants.{All, Subscribed}
 use Rattle.imap_grammar.specs.declared.command.CopyMessages.{CopyMessages}
 use Rattle.house.specs.Peers.{AreLines}
+use Rattle.exactly_once.proofs.EachExchange.{Plays, exchange_if, idle_so}
 use Rattle.exactly_once.proofs.Copying.{TakesBack, back_so, copies_so, stored_so}
 pub use Rattle.exactly_once.proofs.Lines.{cut_of, whole_append}
 
@@ -122,179 +121,32 @@ SaysWhole (ex.Discard mailbox uids x) = SaysWhole x
 
 -- of a turn, if there is one
 abbrev pub TurnWhole : Option Turn → Type 0
-TurnWhole None = Unit {0}
-TurnWhole (Some turn) = IsWhole turn.bytes
+TurnWhole turn = IfSome turn (λ t. IsWhole t.bytes)
 
-then_having : (call : Call) (answer : Answer) (o : Option Turn) → TurnWhole o → TurnWhole (option_map (having call answer) o)
-then_having call answer None p = tt
-then_having call answer (Some turn) p = p
-
-then_saying : (bytes : List ℕ) (o : Option Turn) → IsWhole bytes → TurnWhole o → TurnWhole (option_map (saying bytes) o)
-then_saying bytes None w p = tt
-then_saying bytes (Some turn) w p = whole_append bytes turn.bytes w p
-
-then_showing : (call : Call) (answer : Answer) (view : List ℕ) (changes : List Change) (o : Option Turn) → TurnWhole o → TurnWhole (option_map (λ turn. having call answer (saying (lines view changes) turn)) o)
-then_showing call answer view changes None p = tt
-then_showing call answer view changes (Some turn) p = whole_append (lines view changes) turn.bytes (lines_whole view changes) p
+-- where it says whole lines, so does its turn
+whole_steps : (tag : List ℕ) → Plays tag (λ now x turn. SaysWhole x → IsWhole turn.bytes)
+whole_steps tag = record {
+  done = λ now words how p. whole_append (tagged tag words) (closed now how).bytes (tagged_whole tag words) (closed_whole now how);
+  waits = λ now bytes w p. whole_append bytes [] p (inl refl);
+  drops = λ now bytes purpose size p. inl refl;
+  parts = λ now bytes purpose size p. whole_append (bye (response_text texts.ByeOutOfMemory)) [] (bye_whole (response_text texts.ByeOutOfMemory)) (inl refl);
+  starves = λ now x p. refused_whole tag now NoMemory;
+  fails = λ now x call fault p. refused_whole tag now fault;
+  writes = λ now bytes x s so p. whole_append bytes s.bytes p.0 (so p.1);
+  puts = λ now bytes x s so p. whole_append bytes s.bytes p.0 (so p.1);
+  enters = λ now selected next a s so p. so (p a);
+  looks = λ now by_uid set next a s so p. so (p a);
+  reads = λ now uid mark next a s so p. so (p a);
+  counts = λ now mailbox next a s so p. so (p a);
+  alters = λ now uid op next a s so p. so (p a);
+  expunges = λ now uids x met changes gone s so p. whole_append (lines met changes) s.bytes (lines_whole met changes) (so p);
+  feeds = λ now limit x met changes s so p. whole_append (lines met changes) s.bytes (lines_whole met changes) (so p);
+  leaves = λ now remove x gone s so p. so p;
+  discards = λ now mailbox uids x s so p. so p;
+}
 
 played_whole : (tag : List ℕ) (now : Standing) (x : Exchange) (answers : List Answer) → SaysWhole x → TurnWhole (played tag now x answers)
-played_whole tag now (ex.Done words how) [] p = whole_append (tagged tag words) (closed now how).bytes (tagged_whole tag words) (closed_whole now how)
-played_whole tag now (ex.Done words how) (answer ∷ more) p = tt
-played_whole tag now (ex.Wait bytes waits) [] p = whole_append bytes [] p (inl refl)
-played_whole tag now (ex.Wait bytes waits) ((Entered a) ∷ more) p = tt
-played_whole tag now (ex.Wait bytes waits) ((Looked a) ∷ more) p = tt
-played_whole tag now (ex.Wait bytes waits) ((Found a) ∷ more) p = tt
-played_whole tag now (ex.Wait bytes waits) ((Counted a) ∷ more) p = tt
-played_whole tag now (ex.Wait bytes waits) ((Altered a) ∷ more) p = tt
-played_whole tag now (ex.Wait bytes waits) ((Expunged a b c) ∷ more) p = tt
-played_whole tag now (ex.Wait bytes waits) ((Fed a b) ∷ more) p = tt
-played_whole tag now (ex.Wait bytes waits) ((Left a) ∷ more) p = tt
-played_whole tag now (ex.Wait bytes waits) (Discarded ∷ more) p = tt
-played_whole tag now (ex.Wait bytes waits) ((Refused a) ∷ more) p = tt
-played_whole tag now (ex.Wait bytes waits) (Starved n ∷ []) p =
-    unkept_by TurnWhole tt tag now (refused_whole tag now NoMemory) (λ flags size. inl refl) (whole_append (ex.bye (response_text texts.ByeOutOfMemory)) [] (bye_whole (response_text texts.ByeOutOfMemory)) (inl refl)) waits n
-played_whole tag now (ex.Wait bytes waits) (Starved n ∷ d ∷ more) p = tt
-played_whole tag now (ex.Write bytes x) [] p = then_saying bytes (played tag now x []) p.0 (played_whole tag now x [] p.1)
-played_whole tag now (ex.Write bytes x) ((Entered a) ∷ more) p = then_saying bytes (played tag now x ((Entered a) ∷ more)) p.0 (played_whole tag now x ((Entered a) ∷ more) p.1)
-played_whole tag now (ex.Write bytes x) ((Looked a) ∷ more) p = then_saying bytes (played tag now x ((Looked a) ∷ more)) p.0 (played_whole tag now x ((Looked a) ∷ more) p.1)
-played_whole tag now (ex.Write bytes x) ((Found a) ∷ more) p = then_saying bytes (played tag now x ((Found a) ∷ more)) p.0 (played_whole tag now x ((Found a) ∷ more) p.1)
-played_whole tag now (ex.Write bytes x) ((Counted a) ∷ more) p = then_saying bytes (played tag now x ((Counted a) ∷ more)) p.0 (played_whole tag now x ((Counted a) ∷ more) p.1)
-played_whole tag now (ex.Write bytes x) ((Altered a) ∷ more) p = then_saying bytes (played tag now x ((Altered a) ∷ more)) p.0 (played_whole tag now x ((Altered a) ∷ more) p.1)
-played_whole tag now (ex.Write bytes x) ((Expunged a b c) ∷ more) p = then_saying bytes (played tag now x ((Expunged a b c) ∷ more)) p.0 (played_whole tag now x ((Expunged a b c) ∷ more) p.1)
-played_whole tag now (ex.Write bytes x) ((Fed a b) ∷ more) p = then_saying bytes (played tag now x ((Fed a b) ∷ more)) p.0 (played_whole tag now x ((Fed a b) ∷ more) p.1)
-played_whole tag now (ex.Write bytes x) ((Left a) ∷ more) p = then_saying bytes (played tag now x ((Left a) ∷ more)) p.0 (played_whole tag now x ((Left a) ∷ more) p.1)
-played_whole tag now (ex.Write bytes x) (Discarded ∷ more) p = then_saying bytes (played tag now x (Discarded ∷ more)) p.0 (played_whole tag now x (Discarded ∷ more) p.1)
-played_whole tag now (ex.Write bytes x) ((Refused a) ∷ more) p = then_saying bytes (played tag now x ((Refused a) ∷ more)) p.0 (played_whole tag now x ((Refused a) ∷ more) p.1)
-played_whole tag now (ex.Write bytes x) (Starved zero ∷ []) p = refused_whole tag now NoMemory
-played_whole tag now (ex.Write bytes x) (Starved zero ∷ d ∷ more) p = then_saying bytes (played tag now x (Starved zero ∷ d ∷ more)) p.0 (played_whole tag now x (Starved zero ∷ d ∷ more) p.1)
-played_whole tag now (ex.Write bytes x) (Starved (suc a) ∷ []) p = then_saying bytes (played tag now x (Starved a ∷ [])) p.0 (played_whole tag now x (Starved a ∷ []) p.1)
-played_whole tag now (ex.Write bytes x) (Starved (suc a) ∷ d ∷ more) p = then_saying bytes (played tag now x (Starved (suc a) ∷ d ∷ more)) p.0 (played_whole tag now x (Starved (suc a) ∷ d ∷ more) p.1)
-played_whole tag now (ex.Put bytes x) answers p = then_saying bytes (played tag now x answers) p.0 (played_whole tag now x answers p.1)
-played_whole tag now (ex.Enter selected next) [] p = tt
-played_whole tag now (ex.Enter selected next) ((Entered a) ∷ more) p = then_having (ex.Enter selected.mailbox) (Entered a) (played tag (record now { selected = Some selected }) (next a) more) (played_whole tag (record now { selected = Some selected }) (next a) more (p a))
-played_whole tag now (ex.Enter selected next) ((Looked a) ∷ more) p = tt
-played_whole tag now (ex.Enter selected next) ((Found a) ∷ more) p = tt
-played_whole tag now (ex.Enter selected next) ((Counted a) ∷ more) p = tt
-played_whole tag now (ex.Enter selected next) ((Altered a) ∷ more) p = tt
-played_whole tag now (ex.Enter selected next) ((Expunged a b c) ∷ more) p = tt
-played_whole tag now (ex.Enter selected next) ((Fed a b) ∷ more) p = tt
-played_whole tag now (ex.Enter selected next) ((Left a) ∷ more) p = tt
-played_whole tag now (ex.Enter selected next) (Discarded ∷ more) p = tt
-played_whole tag now (ex.Enter selected next) (Refused a ∷ []) p = refused_whole tag now a
-played_whole tag now (ex.Enter selected next) (Refused a ∷ d ∷ more) p = tt
-played_whole tag now (ex.Enter selected next) ((Starved zero) ∷ more) p = tt
-played_whole tag now (ex.Enter selected next) ((Starved (suc a)) ∷ more) p = tt
-played_whole tag now (ex.Look by_uid set next) [] p = tt
-played_whole tag now (ex.Look by_uid set next) ((Entered a) ∷ more) p = tt
-played_whole tag now (ex.Look by_uid set next) ((Looked a) ∷ more) p = then_having (ex.Look by_uid set) (Looked a) (played tag now (next a) more) (played_whole tag now (next a) more (p a))
-played_whole tag now (ex.Look by_uid set next) ((Found a) ∷ more) p = tt
-played_whole tag now (ex.Look by_uid set next) ((Counted a) ∷ more) p = tt
-played_whole tag now (ex.Look by_uid set next) ((Altered a) ∷ more) p = tt
-played_whole tag now (ex.Look by_uid set next) ((Expunged a b c) ∷ more) p = tt
-played_whole tag now (ex.Look by_uid set next) ((Fed a b) ∷ more) p = tt
-played_whole tag now (ex.Look by_uid set next) ((Left a) ∷ more) p = tt
-played_whole tag now (ex.Look by_uid set next) (Discarded ∷ more) p = tt
-played_whole tag now (ex.Look by_uid set next) (Refused a ∷ []) p = refused_whole tag now a
-played_whole tag now (ex.Look by_uid set next) (Refused a ∷ d ∷ more) p = tt
-played_whole tag now (ex.Look by_uid set next) (Starved a ∷ more) p = tt
-played_whole tag now (ex.Read uid mark next) [] p = tt
-played_whole tag now (ex.Read uid mark next) ((Entered a) ∷ more) p = tt
-played_whole tag now (ex.Read uid mark next) ((Looked a) ∷ more) p = tt
-played_whole tag now (ex.Read uid mark next) ((Found a) ∷ more) p = then_having (ex.Read uid mark) (Found a) (played tag now (next a) more) (played_whole tag now (next a) more (p a))
-played_whole tag now (ex.Read uid mark next) ((Counted a) ∷ more) p = tt
-played_whole tag now (ex.Read uid mark next) ((Altered a) ∷ more) p = tt
-played_whole tag now (ex.Read uid mark next) ((Expunged a b c) ∷ more) p = tt
-played_whole tag now (ex.Read uid mark next) ((Fed a b) ∷ more) p = tt
-played_whole tag now (ex.Read uid mark next) ((Left a) ∷ more) p = tt
-played_whole tag now (ex.Read uid mark next) (Discarded ∷ more) p = tt
-played_whole tag now (ex.Read uid mark next) (Refused a ∷ []) p = refused_whole tag now a
-played_whole tag now (ex.Read uid mark next) (Refused a ∷ d ∷ more) p = tt
-played_whole tag now (ex.Read uid mark next) ((Starved zero) ∷ more) p = tt
-played_whole tag now (ex.Read uid mark next) ((Starved (suc a)) ∷ more) p = tt
-played_whole tag now (ex.Count mailbox next) [] p = tt
-played_whole tag now (ex.Count mailbox next) ((Entered a) ∷ more) p = tt
-played_whole tag now (ex.Count mailbox next) ((Looked a) ∷ more) p = tt
-played_whole tag now (ex.Count mailbox next) ((Found a) ∷ more) p = tt
-played_whole tag now (ex.Count mailbox next) ((Counted a) ∷ more) p = then_having (ex.Count mailbox) (Counted a) (played tag now (next a) more) (played_whole tag now (next a) more (p a))
-played_whole tag now (ex.Count mailbox next) ((Altered a) ∷ more) p = tt
-played_whole tag now (ex.Count mailbox next) ((Expunged a b c) ∷ more) p = tt
-played_whole tag now (ex.Count mailbox next) ((Fed a b) ∷ more) p = tt
-played_whole tag now (ex.Count mailbox next) ((Left a) ∷ more) p = tt
-played_whole tag now (ex.Count mailbox next) (Discarded ∷ more) p = tt
-played_whole tag now (ex.Count mailbox next) (Refused a ∷ []) p = refused_whole tag now a
-played_whole tag now (ex.Count mailbox next) (Refused a ∷ d ∷ more) p = tt
-played_whole tag now (ex.Count mailbox next) ((Starved zero) ∷ more) p = tt
-played_whole tag now (ex.Count mailbox next) ((Starved (suc a)) ∷ more) p = tt
-played_whole tag now (ex.Alter uid op next) [] p = tt
-played_whole tag now (ex.Alter uid op next) ((Entered a) ∷ more) p = tt
-played_whole tag now (ex.Alter uid op next) ((Looked a) ∷ more) p = tt
-played_whole tag now (ex.Alter uid op next) ((Found a) ∷ more) p = tt
-played_whole tag now (ex.Alter uid op next) ((Counted a) ∷ more) p = tt
-played_whole tag now (ex.Alter uid op next) ((Altered a) ∷ more) p = then_having (ex.Alter uid op) (Altered a) (played tag now (next a) more) (played_whole tag now (next a) more (p a))
-played_whole tag now (ex.Alter uid op next) ((Expunged a b c) ∷ more) p = tt
-played_whole tag now (ex.Alter uid op next) ((Fed a b) ∷ more) p = tt
-played_whole tag now (ex.Alter uid op next) ((Left a) ∷ more) p = tt
-played_whole tag now (ex.Alter uid op next) (Discarded ∷ more) p = tt
-played_whole tag now (ex.Alter uid op next) (Refused a ∷ []) p = refused_whole tag now a
-played_whole tag now (ex.Alter uid op next) (Refused a ∷ d ∷ more) p = tt
-played_whole tag now (ex.Alter uid op next) ((Starved zero) ∷ more) p = tt
-played_whole tag now (ex.Alter uid op next) ((Starved (suc a)) ∷ more) p = tt
-played_whole tag now (ex.Expunge uids x) [] p = tt
-played_whole tag now (ex.Expunge uids x) ((Entered a) ∷ more) p = tt
-played_whole tag now (ex.Expunge uids x) ((Looked a) ∷ more) p = tt
-played_whole tag now (ex.Expunge uids x) ((Found a) ∷ more) p = tt
-played_whole tag now (ex.Expunge uids x) ((Counted a) ∷ more) p = tt
-played_whole tag now (ex.Expunge uids x) ((Altered a) ∷ more) p = tt
-played_whole tag now (ex.Expunge uids x) ((Expunged a b c) ∷ more) p = then_showing (ex.Expunge uids) (Expunged a b c) a b (played tag now x more) (played_whole tag now x more p)
-played_whole tag now (ex.Expunge uids x) ((Fed a b) ∷ more) p = tt
-played_whole tag now (ex.Expunge uids x) ((Left a) ∷ more) p = tt
-played_whole tag now (ex.Expunge uids x) (Discarded ∷ more) p = tt
-played_whole tag now (ex.Expunge uids x) (Refused a ∷ []) p = refused_whole tag now a
-played_whole tag now (ex.Expunge uids x) (Refused a ∷ d ∷ more) p = tt
-played_whole tag now (ex.Expunge uids x) ((Starved zero) ∷ more) p = tt
-played_whole tag now (ex.Expunge uids x) ((Starved (suc a)) ∷ more) p = tt
-played_whole tag now (ex.Feed limit x) [] p = tt
-played_whole tag now (ex.Feed limit x) ((Entered a) ∷ more) p = tt
-played_whole tag now (ex.Feed limit x) ((Looked a) ∷ more) p = tt
-played_whole tag now (ex.Feed limit x) ((Found a) ∷ more) p = tt
-played_whole tag now (ex.Feed limit x) ((Counted a) ∷ more) p = tt
-played_whole tag now (ex.Feed limit x) ((Altered a) ∷ more) p = tt
-played_whole tag now (ex.Feed limit x) ((Expunged a b c) ∷ more) p = tt
-played_whole tag now (ex.Feed limit x) ((Fed a b) ∷ more) p = then_showing (ex.Feed limit) (Fed a b) a b (played tag now x more) (played_whole tag now x more p)
-played_whole tag now (ex.Feed limit x) ((Left a) ∷ more) p = tt
-played_whole tag now (ex.Feed limit x) (Discarded ∷ more) p = tt
-played_whole tag now (ex.Feed limit x) (Refused a ∷ []) p = refused_whole tag now a
-played_whole tag now (ex.Feed limit x) (Refused a ∷ d ∷ more) p = tt
-played_whole tag now (ex.Feed limit x) ((Starved zero) ∷ more) p = tt
-played_whole tag now (ex.Feed limit x) ((Starved (suc a)) ∷ more) p = tt
-played_whole tag now (ex.Leave remove x) [] p = tt
-played_whole tag now (ex.Leave remove x) ((Entered a) ∷ more) p = tt
-played_whole tag now (ex.Leave remove x) ((Looked a) ∷ more) p = tt
-played_whole tag now (ex.Leave remove x) ((Found a) ∷ more) p = tt
-played_whole tag now (ex.Leave remove x) ((Counted a) ∷ more) p = tt
-played_whole tag now (ex.Leave remove x) ((Altered a) ∷ more) p = tt
-played_whole tag now (ex.Leave remove x) ((Expunged a b c) ∷ more) p = tt
-played_whole tag now (ex.Leave remove x) ((Fed a b) ∷ more) p = tt
-played_whole tag now (ex.Leave remove x) (Discarded ∷ more) p = tt
-played_whole tag now (ex.Leave remove x) ((Left a) ∷ more) p = then_having (ex.Leave remove) (Left a) (played tag (record now { selected = None }) x more) (played_whole tag (record now { selected = None }) x more p)
-played_whole tag now (ex.Leave remove x) (Refused a ∷ []) p = refused_whole tag now a
-played_whole tag now (ex.Leave remove x) (Refused a ∷ d ∷ more) p = tt
-played_whole tag now (ex.Leave remove x) ((Starved zero) ∷ more) p = tt
-played_whole tag now (ex.Leave remove x) ((Starved (suc a)) ∷ more) p = tt
-played_whole tag now (ex.Discard mailbox uids x) [] p = tt
-played_whole tag now (ex.Discard mailbox uids x) ((Entered a) ∷ more) p = tt
-played_whole tag now (ex.Discard mailbox uids x) ((Looked a) ∷ more) p = tt
-played_whole tag now (ex.Discard mailbox uids x) ((Found a) ∷ more) p = tt
-played_whole tag now (ex.Discard mailbox uids x) ((Counted a) ∷ more) p = tt
-played_whole tag now (ex.Discard mailbox uids x) ((Altered a) ∷ more) p = tt
-played_whole tag now (ex.Discard mailbox uids x) ((Expunged a b c) ∷ more) p = tt
-played_whole tag now (ex.Discard mailbox uids x) ((Fed a b) ∷ more) p = tt
-played_whole tag now (ex.Discard mailbox uids x) ((Left a) ∷ more) p = tt
-played_whole tag now (ex.Discard mailbox uids x) (Discarded ∷ more) p = then_having (ex.Discard mailbox uids) Discarded (played tag now x more) (played_whole tag now x more p)
-played_whole tag now (ex.Discard mailbox uids x) (Refused a ∷ []) p = refused_whole tag now a
-played_whole tag now (ex.Discard mailbox uids x) (Refused a ∷ d ∷ more) p = tt
-played_whole tag now (ex.Discard mailbox uids x) ((Starved zero) ∷ more) p = tt
-played_whole tag now (ex.Discard mailbox uids x) ((Starved (suc a)) ∷ more) p = tt
+played_whole tag now x answers p = exchange_if tag SaysWhole (λ now turn. IsWhole turn.bytes) (whole_steps tag) now x answers p
 
 -- ---- the commands
 
@@ -569,28 +421,8 @@ goes_whole step whole seat heard v old new after said (seated.stalls a n e f) = 
 -- ---- turns while it idles
 
 idle_whole : (selected : Option Selected) (idling : Bool) (now : Standing) (answers : List Answer) → TurnWhole (idle_turn_in selected idling now answers)
-idle_whole None idling now [] = inl refl
-idle_whole None idling now (answer ∷ more) = tt
-idle_whole (Some s) false now [] = inl refl
-idle_whole (Some s) false now (answer ∷ more) = tt
-idle_whole (Some s) true now [] = tt
-idle_whole (Some s) true now ((Entered a) ∷ more) = tt
-idle_whole (Some s) true now ((Looked a) ∷ more) = tt
-idle_whole (Some s) true now ((Found a) ∷ more) = tt
-idle_whole (Some s) true now ((Counted a) ∷ more) = tt
-idle_whole (Some s) true now ((Altered a) ∷ more) = tt
-idle_whole (Some s) true now ((Expunged a b c) ∷ more) = tt
-idle_whole (Some s) true now (Fed a b ∷ []) = whole_append (lines a b) [] (lines_whole a b) (inl refl)
-idle_whole (Some s) true now (Fed a b ∷ d ∷ more) = tt
-idle_whole (Some s) true now ((Left a) ∷ more) = tt
-idle_whole (Some s) true now (Discarded ∷ more) = tt
-idle_whole (Some s) true now (Refused Lapped ∷ []) = refused_whole [] now Lapped
-idle_whole (Some s) true now (Refused Lapped ∷ d ∷ more) = tt
-idle_whole (Some s) true now (Refused Stranger ∷ []) = refused_whole [] now Stranger
-idle_whole (Some s) true now (Refused Stranger ∷ d ∷ more) = tt
-idle_whole (Some s) true now (Refused Spent ∷ more) = tt
-idle_whole (Some s) true now (Refused NoMemory ∷ more) = tt
-idle_whole (Some s) true now ((Starved a) ∷ more) = tt
+idle_whole selected idling now answers =
+    idle_so (λ t. IsWhole t.bytes) now (λ met changes. whole_append (lines met changes) [] (lines_whole met changes) (inl refl)) (refused_whole [] now Lapped) (refused_whole [] now Stranger) (inl refl) selected idling answers
 
 pub idles_whole : {S : Type 0} (step : S → Call → Answer → S → Type 0) (now : Standing) (old new : S) (said : List ℕ) (count : ℕ) (next : Standing) → IdleTurns step now old new [] said count next → IsWhole said
 idles_whole step now old new said count next t = subst IsWhole (sym t.wrote) (some_whole _ _ (idle_whole now.selected (is_idling now) now t.answers) t.played)

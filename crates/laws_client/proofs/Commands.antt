@@ -1,5 +1,5 @@
 -- The answers to lines that a client sends.
-use Rattle.std.proofs.Common.{◌≡◌, ℕ, ◌<◌, ◌^◌, ◌==◌, length, append_assoc, sym, Bool, true, List, [], ◌∷◌, ◌++◌, refl, subst, ap, ◌∙◌}
+use Rattle.std.proofs.Common.{◌≡◌, ℕ, ◌<◌, ◌^◌, ◌==◌, length, append_assoc, sym, Bool, true, List, ◌∷◌, ◌++◌, refl, subst, ap, ◌∙◌, []}
 use Rattle.std.specs.Prelude.{Option, Some, None, Result, Ok, Err, IfSome, codes, decimal}
 use Rattle.std.specs.List.{list_all}
 use Rattle.std.proofs.lemmas.Bool.{false≢true}
@@ -28,7 +28,7 @@ use Rattle.laws_client.proofs.Bytes.{decimal_word, words_are_inner}
 use Rattle.laws_client.proofs.Untold.{named_plain, inner_both, list_tells_nothing, status_tells_nothing}
 use Rattle.laws_client.proofs.ListPlayed.{turn_follows}
 use Rattle.laws_client.proofs.Tags.{Tagged, read_tagged}
-use Rattle.laws_client.proofs.EachExchange.{at_turn}
+use Rattle.exactly_once.proofs.EachExchange.{at_turn}
 use Rattle.laws_client.proofs.Turns.{ends_so}
 use Rattle.imap_session.specs.declared.texts.ResponseText.TheVariants as texts
 use Rattle.imap_session.specs.Texts.{response_text, server_text}

@@ -1,5 +1,5 @@
 -- A turn of a session says one answer: it has one tagged line at most, and that is its last.
-use Rattle.std.proofs.Common.{◌≡◌, ◌⊎◌, inl, inr, append_assoc, ℕ, ◌^◌, ◌<◌, Bool, true, false, List, [], ◌∷◌, ◌++◌, length, refl, sym, ap, ◌∙◌, subst, append-nil, Option, Some, None, Result, Ok, Err}
+use Rattle.std.proofs.Common.{◌≡◌, ◌⊎◌, inl, inr, append_assoc, ℕ, ◌^◌, ◌<◌, Bool, true, false, List, ◌∷◌, ◌++◌, length, refl, sym, ap, ◌∙◌, subst, append-nil, Option, Some, None, Result, Ok, Err, []}
 use Rattle.std.specs.Prelude.{codes, decimal, reverse, IfSome, ◌==◌}
 use Rattle.std.specs.List.{list_all}
 use Rattle.std.proofs.lemmas.List.{reverse-append}
@@ -22,7 +22,7 @@ use Rattle.imap_grammar.specs.Verbs.{verb_of, copy_verb}
 use Rattle.imap_session.specs.declared.standing.After.{After}
 use Rattle.imap_session.specs.declared.standing.Selected.{Selected}
 use Rattle.imap_session.specs.Exchange as ex
-use Rattle.imap_session.specs.Exchange.{Answer, PendingLiteral, Call, Entered, Looked, Found, Counted, Altered, Expunged, Fed, Left, Refused, Starved, Event as Happened, Exchange, Mailing, Sent, Standing, Turn, bye, closed, having, is_idling, played, refusal_after, refusal_text, refused, saying, tagged, untagged, Discarded, Origin, Client, Copied, Batch}
+use Rattle.imap_session.specs.Exchange.{Answer, PendingLiteral, Found, Refused, Event as Happened, Exchange, Mailing, Sent, Standing, Turn, bye, closed, is_idling, played, refusal_after, refusal_text, refused, saying, tagged, untagged, Origin, Client, Copied, Batch}
 use Rattle.imap_session.specs.Commands.{appended_words, completed, idle_turn_in, long_rest_text, long_text, on_command, on_idle_line, on_read, on_rest, on_verdict, refused_text, says, turn_of, turn_with, without_begun, without_sent, arguments_text, logged_in, on_text_line, wants_response, awaiting_response, copied_words, moved_words, on_stored, move_done, with_copy, copies_of, told_copied}
 use Rattle.laws_client.specs.Commands.{AreNames, HasToldParts, whole_line}
 use Rattle.laws_client.specs.Talks.{Happening, Line, LongLine, Turned, Literal, Heard, leads_to}
@@ -48,7 +48,7 @@ use Rattle.imap_session.proofs.Parts.{IsPart, tells_part, ends_part, asks_part, 
 use Rattle.laws_client.proofs.WholeLines.{turn_has, text_has, whole_turn, said_has}
 use Rattle.laws_client.proofs.CopyWords.{copied_plain, moved_plain}
 use Rattle.exactly_once.proofs.Copying.{TakesBack, back_so, stored_so}
-use Rattle.laws_client.proofs.EachExchange.{Plays, closed_so, exchange_if, idle_so}
+use Rattle.exactly_once.proofs.EachExchange.{Plays, closed_so, exchange_if, idle_so}
 use Rattle.laws_client.proofs.EachCommand.{Steps, Tells, append_so, command_so, copied_so, idle_line_so, rest_so, select_so, shows_so}
 use Rattle.imap_grammar.specs.declared.command.Verb.TheVariants as verbs
 

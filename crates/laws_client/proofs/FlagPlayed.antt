@@ -1,5 +1,5 @@
 -- A client reads what a session says in a turn, over whatever store.
-use Rattle.std.proofs.Common.{◌≡◌, ℕ, List, [], refl}
+use Rattle.std.proofs.Common.{◌≡◌, ℕ, List, refl, []}
 use Rattle.std.specs.Prelude.{Some}
 use Rattle.mailbox.specs.declared.clients.MailFault.TheVariants.{NoMemory}
 use Rattle.imap_session.specs.Exchange.{Answer, Looked, Found, Counted, Altered, Expunged, Fed, Exchange, Look, Read, Count, Alter, Expunge, Feed, Standing, Turn, bye, tagged, played, Discard, Discarded}
@@ -8,7 +8,7 @@ use Rattle.laws_client.specs.FlagTurns.{LeadsFlags}
 use Rattle.laws_client.proofs.FlagMoments.{SeesAllMoments}
 use Rattle.imap_session.specs.declared.texts.ResponseText.TheVariants as texts
 use Rattle.imap_session.specs.Texts.{response_text}
-use Rattle.laws_client.proofs.EachExchange.{Plays, turn_so}
+use Rattle.exactly_once.proofs.EachExchange.{Plays, turn_so}
 use Rattle.laws_client.proofs.Turning.{Refusals, SaysFlags, called_first, ends_so, starved_so, refused_so, leaves, shown_first, said_waiting, said_first}
 
 telling : (tag : List ℕ) → Refusals tag → Plays tag (λ now x turn. (p q : Point) → SaysFlags tag p x → SeesAllMoments p turn.events q → LeadsFlags p turn.bytes q)

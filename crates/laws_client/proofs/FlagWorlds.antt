@@ -1,5 +1,5 @@
 -- What a session's call tells of flags in the world.
-use Rattle.std.proofs.Common.{◌≡◌, ℕ, ◌+◌, ◌≤◌, Bool, List, [], ◌∷◌, ◌++◌, length, drop, refl, sym, subst, ap, ◌∙◌, arith, append-nil}
+use Rattle.std.proofs.Common.{◌≡◌, ℕ, ◌+◌, ◌≤◌, Bool, List, ◌∷◌, ◌++◌, length, drop, refl, sym, subst, ap, ◌∙◌, arith, append-nil, []}
 use Rattle.std.specs.Prelude.{Option, Some, None, option_map}
 use Rattle.std.proofs.lemmas.List.{take-append-drop, take-append-le}
 use Rattle.shard_queue.specs.At.{set_at}
@@ -186,31 +186,23 @@ pub call_seen : (k : Config) (w : World) (n : ℕ) (call : Call) (answer : Answe
     → IfInside answer (SeesFlags (point_of w n) (record { call = call; answer = answer }) (point_of v n))
 call_seen k w n (EnterCall i) (Entered opening) v S h short m = tt
 call_seen k w n (EnterCall i) (Refused fault) v S h short m = still_seen k w n (EnterCall i) (Refused fault) v S (turned_away k n i w fault v m) (seen k w n (EnterCall i) (Refused fault) v S h short m) refl (λ q. tt)
-call_seen k w n (EnterCall i) _ v S h short m = absurd m
 call_seen k w n (Look by_uid set) (Looked copied) v S h short m = still_seen k w n (Look by_uid set) (Looked copied) v S m.0 (seen k w n (Look by_uid set) (Looked copied) v S h short m) refl (λ q. tt)
 call_seen k w n (Look by_uid set) (Refused fault) v S h short m = still_seen k w n (Look by_uid set) (Refused fault) v S (was_refused n w fault _ v m) (seen k w n (Look by_uid set) (Refused fault) v S h short m) refl (λ q. tt)
-call_seen k w n (Look by_uid set) _ v S h short m = absurd m
 call_seen k w n (ReadCall uid mark) (Found row) v S h short m = read_flags k w n uid mark row v S (seen k w n (ReadCall uid mark) (Found row) v S h short m) m
 call_seen k w n (ReadCall uid mark) (Refused fault) v S h short m = still_seen k w n (ReadCall uid mark) (Refused fault) v S (was_refused n w fault _ v m) (seen k w n (ReadCall uid mark) (Refused fault) v S h short m) refl (λ q. tt)
-call_seen k w n (ReadCall uid mark) _ v S h short m = absurd m
 call_seen k w n (Count i) (Counted status) v S h short m = still_seen k w n (Count i) (Counted status) v S m.0 (seen k w n (Count i) (Counted status) v S h short m) refl (λ q. tt)
 call_seen k w n (Count i) (Refused fault) v S h short m = still_seen k w n (Count i) (Refused fault) v S m.0 (seen k w n (Count i) (Refused fault) v S h short m) refl (λ q. tt)
-call_seen k w n (Count i) _ v S h short m = absurd m
 call_seen k w n (Alter uid op) (Altered flags) v S h short m = alter_flags k w n uid op flags v S (seen k w n (Alter uid op) (Altered flags) v S h short m) m
 call_seen k w n (Alter uid op) (Refused fault) v S h short m = still_seen k w n (Alter uid op) (Refused fault) v S (was_refused n w fault _ v m) (seen k w n (Alter uid op) (Refused fault) v S h short m) refl (λ q. tt)
-call_seen k w n (Alter uid op) _ v S h short m = absurd m
 call_seen k w n (ExpungeCall uids) (Expunged met changes gone) v S h short m = expunge_flags k w n uids met changes gone v S (seen k w n (ExpungeCall uids) (Expunged met changes gone) v S h short m) m
 call_seen k w n (ExpungeCall uids) (Refused fault) v S h short m = still_seen k w n (ExpungeCall uids) (Refused fault) v S (was_refused n w fault _ v m) (seen k w n (ExpungeCall uids) (Refused fault) v S h short m) refl (λ q. tt)
-call_seen k w n (ExpungeCall uids) _ v S h short m = absurd m
 call_seen k w n (FeedCall limit) (Fed met changes) v S h short m = feed_flags k w n limit met changes v S (seen k w n (FeedCall limit) (Fed met changes) v S h short m) m
 call_seen k w n (FeedCall limit) (Refused fault) v S h short m = still_seen k w n (FeedCall limit) (Refused fault) v S (was_refused n w fault _ v m) (seen k w n (FeedCall limit) (Refused fault) v S h short m) refl (λ q. tt)
-call_seen k w n (FeedCall limit) _ v S h short m = absurd m
 call_seen k w n (LeaveCall remove) (Left gone) v S h short m = tt
 call_seen k w n (LeaveCall remove) (Refused fault) v S h short m = still_seen k w n (LeaveCall remove) (Refused fault) v S (was_refused n w fault _ v m) (seen k w n (LeaveCall remove) (Refused fault) v S h short m) refl (λ q. tt)
-call_seen k w n (LeaveCall remove) _ v S h short m = absurd m
 call_seen k w n (DiscardCall i uids) Discarded v S h short m = discard_flags k w n i uids v S (seen k w n (DiscardCall i uids) Discarded v S h short m) m
 call_seen k w n (DiscardCall i uids) (Refused fault) v S h short m = still_seen k w n (DiscardCall i uids) (Refused fault) v S m.0 (seen k w n (DiscardCall i uids) (Refused fault) v S h short m) refl (λ q. tt)
-call_seen k w n (DiscardCall i uids) _ v S h short m = absurd m
+call_seen k w n _ _ v _ h short m = absurd m
 
 pub calls_tell_flags : CallsTellFlags
 calls_tell_flags k events w n call answer v h is short m = call_seen k w n call answer v (sound_always k events w h is) h short m

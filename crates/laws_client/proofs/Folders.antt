@@ -1,5 +1,5 @@
 -- What stays so of a session behind a line, as the mailboxes that it knows by name.
-use Rattle.std.proofs.Common.{◌≡◌, ℕ, Bool, List, [], ◌∷◌, length, ap, refl, subst}
+use Rattle.std.proofs.Common.{◌≡◌, ℕ, Bool, List, ◌∷◌, length, ap, refl, subst, []}
 use Rattle.std.specs.Prelude.{Option, Some, None, Result, Ok, Err, ◌==◌}
 use Rattle.std.proofs.lemmas.Option.{none-some}
 use Rattle.imap_grammar.specs.Reading.{read}
@@ -10,7 +10,7 @@ use Rattle.imap_session.specs.Exchange.{Answer, ForDone, Folder, Standing, Turn,
 use Rattle.imap_session.specs.Commands.{idle_turn_in, turn_of, fault_text, on_command, on_idle_line, on_read, on_rest, on_verdict, only_says, turn_of_verdict, turn_with, without_begun, without_sent, logged_in, completed, says}
 use Rattle.delivery_token.specs.declared.Verdict.{Verdict}
 use Rattle.laws_client.proofs.Barred.{line_case}
-use Rattle.laws_client.proofs.EachExchange.{idle_keeps}
+use Rattle.exactly_once.proofs.EachExchange.{idle_keeps}
 use Rattle.laws_client.proofs.IdleTags.{Keeps, played_keeps}
 use Rattle.laws_client.proofs.Turns.{the_turn}
 use Rattle.imap_session.specs.Texts.{response_text}

@@ -1,5 +1,5 @@
 -- What stays so of a session while it answers; and so the tags that it keeps are tags.
-use Rattle.std.proofs.Common.{◌≡◌, ℕ, Bool, true, List, [], ◌∷◌, length, ap, subst}
+use Rattle.std.proofs.Common.{◌≡◌, ℕ, Bool, true, List, ◌∷◌, length, ap, subst, []}
 use Rattle.std.specs.Prelude.{Option, Some, None, IfSome, Result, Ok, Err, ◌==◌}
 use Rattle.std.specs.Option.{option_map}
 use Rattle.std.proofs.lemmas.Option.{none-some}
@@ -17,7 +17,7 @@ use Rattle.delivery_token.specs.declared.Verdict.{Verdict}
 use Rattle.laws_client.specs.ListTurns.{IsTag}
 use Rattle.laws_client.specs.ListLaws.{KeptTagsAreTags}
 use Rattle.laws_client.proofs.Tags.{TaggedOf, read_tagged_so, word_is_tag}
-use Rattle.laws_client.proofs.EachExchange.{Plays, closed_so, turn_so}
+use Rattle.exactly_once.proofs.EachExchange.{Plays, closed_so, turn_so}
 use Rattle.laws_client.proofs.Turns.{the_turn}
 use Rattle.imap_session.specs.Texts.{response_text}
 use Rattle.laws_client.proofs.Barred.{line_case}

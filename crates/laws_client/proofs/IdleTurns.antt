@@ -1,5 +1,5 @@
 -- A client reads what a session says in a turn while it idles.
-use Rattle.std.proofs.Common.{ℕ, List, [], refl}
+use Rattle.std.proofs.Common.{ℕ, List, refl, []}
 use Rattle.mailbox.specs.declared.clients.MailFault.{MailFault}
 use Rattle.mailbox.specs.declared.clients.MailFault.TheVariants.{Stranger, Lapped}
 use Rattle.imap_session.specs.declared.standing.After.TheVariants as afters
@@ -8,7 +8,7 @@ use Rattle.imap_session.specs.Commands.{idle_turn_in, most_changes}
 use Rattle.laws_client.specs.Beliefs.{Leads, TellsNothing}
 use Rattle.laws_client.specs.ListTurns.{SeesAll}
 use Rattle.laws_client.specs.ListLaws.{IdleTurnIsFollowed}
-use Rattle.laws_client.proofs.EachExchange.{at_turn, idle_so}
+use Rattle.exactly_once.proofs.EachExchange.{at_turn, idle_so}
 use Rattle.laws_client.proofs.Turns.{called_first, ends_so, rested_so, shown_first}
 use Rattle.laws_client.proofs.Ends.{leaves}
 

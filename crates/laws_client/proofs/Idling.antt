@@ -1,5 +1,5 @@
 -- What a session says in a turn while it idles tells flags.
-use Rattle.std.proofs.Common.{◌≡◌, List, [], refl}
+use Rattle.std.proofs.Common.{◌≡◌, List, refl, []}
 use Rattle.std.specs.Prelude.{Some}
 use Rattle.mailbox.specs.declared.clients.MailFault.{MailFault}
 use Rattle.mailbox.specs.declared.clients.MailFault.TheVariants.{Stranger, Lapped}
@@ -11,7 +11,7 @@ use Rattle.laws_client.specs.FlagTurns.{LeadsFlags}
 use Rattle.laws_client.proofs.FlagMoments.{SeesAllMoments, at_moments}
 use Rattle.laws_client.specs.FlagLaws.{IdleTellsFlags}
 use Rattle.laws_client.specs.Beliefs.{TellsNothing}
-use Rattle.laws_client.proofs.EachExchange.{at_turn, idle_so}
+use Rattle.exactly_once.proofs.EachExchange.{at_turn, idle_so}
 use Rattle.laws_client.proofs.Turning.{called_first, ends_so, leaves, rested_so, shown_first}
 
 -- the store refused

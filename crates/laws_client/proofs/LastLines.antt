@@ -1,5 +1,5 @@
 -- How an answer ends: in a last line of which a test tells nothing, as that of words that tell a UID; or it says nothing.
-use Rattle.std.proofs.Common.{◌≡◌, ◌⊎◌, inl, inr, ℕ, zero, suc, Bool, true, false, List, [], ◌∷◌, ◌++◌, refl, sym, ap, ◌∙◌, subst, arith, append_assoc, append-nil, Option, Some, None}
+use Rattle.std.proofs.Common.{◌≡◌, ◌⊎◌, inl, inr, ℕ, zero, suc, Bool, true, false, List, ◌∷◌, ◌++◌, refl, sym, ap, ◌∙◌, subst, arith, append_assoc, append-nil, Option, Some, None, []}
 use Rattle.std.specs.Prelude.{codes, IfSome, drop, length, not, reverse, ◌==◌, if◌then◌else◌}
 use Rattle.std.specs.List.{list_all}
 use Rattle.std.specs.Option.{option_map}
@@ -19,11 +19,11 @@ use Rattle.imap_grammar.specs.Bytes.{is_tag}
 use Rattle.imap_grammar.specs.Items.{is_word_of}
 use Rattle.imap_session.specs.declared.standing.After.{After}
 use Rattle.imap_session.specs.Exchange as ex
-use Rattle.imap_session.specs.Exchange.{Answer, Call, Entered, Looked, Found, Counted, Altered, Expunged, Fed, Left, Refused, Starved, Exchange, Standing, Turn, Waiting, Asked, Unasked, Dropped, ForDone, ForLiteral, ForVerdict, ForNothing, played, refused, refusal_text, refusal_after, saying, having, closed, tagged, bye, unkept, where_long, continuing, untagged, Discarded}
+use Rattle.imap_session.specs.Exchange.{Answer, Starved, Exchange, Standing, Turn, Waiting, Asked, Unasked, Dropped, ForDone, ForLiteral, ForVerdict, ForNothing, played, refused, refusal_text, refusal_after, saying, closed, tagged, bye, continuing, untagged}
 use Rattle.imap_session.proofs.Unkept.{unkept_by}
 use Rattle.exactly_once.proofs.Whole.{IsWhole, lines_whole, whole_append}
 use Rattle.laws_client.specs.ListTurns.{is_inner}
-use Rattle.laws_client.proofs.EachExchange.{Plays, closed_so, exchange_if}
+use Rattle.exactly_once.proofs.EachExchange.{Plays, closed_so, exchange_if}
 use Rattle.laws_client.proofs.Bytes.{both, first_of, rest_of}
 use Rattle.laws_client.proofs.Tags.{inner_all}
 use Rattle.laws_client.proofs.Untold.{inner_both}

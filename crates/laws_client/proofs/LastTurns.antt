@@ -1,6 +1,6 @@
 -- What a turn of a session says last: to a verdict that a message is stored its UID, and to nothing else one.
-use Rattle.std.proofs.Common.{◌≡◌, ◌⊎◌, inl, inr, ℕ, ◌+◌, Bool, true, false, List, [], ◌∷◌, ◌++◌, length, refl, sym, ap, ◌∙◌, subst, append-nil, append_assoc, Option, Some, None, zero, suc}
-use Rattle.std.specs.Prelude.{codes, decimal, IfSome, if◌then◌else◌, nat_le}
+use Rattle.std.proofs.Common.{◌≡◌, ◌⊎◌, inl, inr, ℕ, ◌+◌, Bool, true, false, List, ◌∷◌, ◌++◌, length, refl, sym, ap, ◌∙◌, subst, append-nil, append_assoc, Option, Some, None, zero, suc, []}
+use Rattle.std.specs.Prelude.{codes, decimal, IfSome, nat_le, if◌then◌else◌}
 use Rattle.std.specs.List.{list_all}
 use Rattle.std.proofs.lemmas.List.Folds.{list_all-append}
 use Rattle.std.proofs.lemmas.Option.{none-some}
@@ -19,7 +19,7 @@ use Rattle.world.specs.World.{Config, World}
 use Rattle.imap_session.specs.declared.standing.After.TheVariants.{Go}
 use Rattle.imap_session.specs.declared.standing.Selected.{Selected}
 use Rattle.imap_session.specs.Exchange as ex
-use Rattle.imap_session.specs.Exchange.{Answer, Entered, Looked, Found, Counted, Altered, Expunged, Fed, Left, Refused, Starved, Count, Feed, Sent, Standing, Turn, bye, having, is_idling, played, refused, saying, refusal_text, tagged, untagged, Discarded, Origin, Client, Copied, Batch, Mailing}
+use Rattle.imap_session.specs.Exchange.{Answer, Counted, Fed, Refused, Starved, Count, Feed, Sent, Standing, Turn, bye, having, is_idling, played, refused, saying, refusal_text, tagged, untagged, Discarded, Origin, Client, Copied, Batch, Mailing}
 use Rattle.imap_session.specs.Commands.{appended_words, idle_turn_in, on_verdict, refused_text, says, showing, turn_of, turn_with, unlimited, without_sent, moving, copied_words, moved_words, on_stored, told_copied, told_appended, with_validity, submitting_first, taking_back, move_done as finished, with_copy, copies_of, last_number}
 use Rattle.imap_session.specs.Store.{Met}
 use Rattle.exactly_once.proofs.Whole.{line_whole, lines_whole, IsWhole, ends, whole_append}
@@ -28,7 +28,7 @@ use Rattle.laws_client.specs.Talks.{Happening, Line, LongLine, Turned, Literal, 
 use Rattle.laws_client.proofs.Bytes.{both}
 use Rattle.laws_client.proofs.IdleTags.{AreTagsOf}
 use Rattle.laws_client.proofs.LinesRead.{flags_inner, flags_part}
-use Rattle.laws_client.proofs.EachExchange.{idle_so}
+use Rattle.exactly_once.proofs.EachExchange.{idle_so}
 use Rattle.laws_client.proofs.Turns.{the_turn}
 use Rattle.laws_client.proofs.Untold.{inner_both, plain_inner}
 use Rattle.laws_client.specs.Appends.{EndsWith, SaysVerdict, TellsOfNone, SaysCopied, SaysMoved, last_line, tells_stored, SaysOfBatch, SaysRefused, awaits_next, has_no_number, all_stored}

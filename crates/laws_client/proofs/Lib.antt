@@ -43,7 +43,6 @@ mod LastRests
 mod LastWords
 mod LastTurns
 mod EachCommand
-mod EachExchange
 mod Waiting
 mod WholeLines
 mod Submitted

@@ -1,11 +1,11 @@
 -- A client reads what a session says in a turn, over whatever store.
-use Rattle.std.proofs.Common.{◌≡◌, ℕ, List, [], sym, subst, refl}
+use Rattle.std.proofs.Common.{◌≡◌, ℕ, List, sym, subst, refl, []}
 use Rattle.std.specs.Prelude.{Some}
 use Rattle.mailbox.specs.declared.clients.MailFault.TheVariants.{NoMemory}
 use Rattle.imap_session.specs.Exchange.{Answer, Looked, Found, Counted, Altered, Expunged, Fed, Exchange, Look, Read, Count, Alter, Expunge, Feed, Standing, Turn, tagged, played, bye, Discard, Discarded}
 use Rattle.laws_client.specs.Beliefs.{Leads}
 use Rattle.laws_client.specs.ListTurns.{SeesAll, Says}
-use Rattle.laws_client.proofs.EachExchange.{Plays, turn_so}
+use Rattle.exactly_once.proofs.EachExchange.{Plays, turn_so}
 use Rattle.laws_client.proofs.Ends.{leaves}
 use Rattle.laws_client.proofs.Turns.{Refusals, said_first, called_first, shown_first, ends_so, said_waiting, starved_so, refused_so}
 use Rattle.imap_session.specs.declared.texts.ResponseText.TheVariants as texts

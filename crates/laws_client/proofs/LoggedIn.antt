@@ -16,7 +16,7 @@ use Rattle.laws_client.specs.Clients.{Told}
 use Rattle.laws_client.specs.Lives.{Lives, comes, turns, others}
 use Rattle.laws_client.specs.Selecting.{HasLoggedIn, LoginComesFirst}
 use Rattle.laws_client.specs.Talks.{Happening, Line, LongLine, Turned, Literal, Heard, leads_to}
-use Rattle.laws_client.proofs.EachExchange.{idle_keeps}
+use Rattle.exactly_once.proofs.EachExchange.{idle_keeps}
 use Rattle.laws_client.proofs.IdleTags.{Keeps, played_keeps}
 use Rattle.laws_client.proofs.Selecting.{StaysIn, fault_sel, idle_selected, in_command, in_found, in_idle_line, in_part, in_rest, selected_stays, verdict_sel}
 use Rattle.laws_client.proofs.Folders.{line_stays}

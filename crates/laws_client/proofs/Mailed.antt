@@ -1,5 +1,5 @@
 -- No text that a session submits is longer than the most that it takes: by induction over the exchange, a clause for each answer that there is.
-use Rattle.std.proofs.Common.{◌≡◌, ℕ, ◌+◌, ◌-◌, ◌≤◌, Bool, true, false, List, [], ◌∷◌, length, ap, subst, sym, ◌∙◌, arith, length-append, inl, inr}
+use Rattle.std.proofs.Common.{◌≡◌, ℕ, ◌+◌, ◌-◌, ◌≤◌, Bool, true, false, List, ◌∷◌, length, ap, subst, sym, ◌∙◌, arith, length-append, inl, inr, []}
 use Rattle.std.specs.Prelude.{Option, Some, None, IfSome, Result, Ok, Err, ◌==◌}
 use Rattle.std.specs.Option.{option_map}
 use Rattle.std.proofs.lemmas.Option.{none-some}
@@ -20,7 +20,7 @@ use Rattle.imap_session.proofs.Parts.{text_line_has, IsPart, tells_part, ends_pa
 use Rattle.laws_client.proofs.WholeLines.{turn_has}
 use Rattle.exactly_once.proofs.Copying.{EachFits, TakesBack, back_so, stored_so}
 use Rattle.laws_client.proofs.EachCommand.{Tells, append_so, command_so, copied_so, idle_line_so, rest_so, shows_so}
-use Rattle.laws_client.proofs.EachExchange.{idle_keeps}
+use Rattle.exactly_once.proofs.EachExchange.{idle_keeps}
 use Rattle.laws_client.proofs.Waiting.{IsMail, TurnMail, WaitsAs, played_mail, wait_steps, waiting_mail, waits_told}
 use Rattle.std.specs.List.{AllByRecursion}
 

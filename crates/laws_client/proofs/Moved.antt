@@ -1,5 +1,5 @@
 -- A session's call comes to one event of that session in the world, or to none.
-use Rattle.std.proofs.Common.{◌≡◌, ◌≢◌, ℕ, ◌<◌, ◌^◌, List, [], ◌∷◌, length, subst, ap, Some}
+use Rattle.std.proofs.Common.{◌≡◌, ◌≢◌, ℕ, ◌<◌, ◌^◌, List, ◌∷◌, length, subst, ap, Some, []}
 use Rattle.delivery_token.specs.declared.Job.{Job}
 use Rattle.mailbox.specs.declared.clients.Opening.{Opening}
 use Rattle.mailbox.specs.Events.{in_set}
@@ -27,31 +27,23 @@ pub data Moved (k : Config) (n : ℕ) (w v : World) : Type 0 where
 pub moved : (k : Config) (n : ℕ) (w : World) (call : Call) (answer : Answer) (v : World) → Meets k n w call answer v → Moved k n w v
 moved k n w (EnterCall i) (Entered opening) v m = stepped (world.Enter n i) m.0 (λ j o. o) tt
 moved k n w (EnterCall i) (Refused fault) v m = rested (turned_away k n i w fault v m)
-moved k n w (EnterCall i) _ v m = absurd m
 moved k n w (Look by_uid set) (Looked copied) v m = rested m.0
 moved k n w (Look by_uid set) (Refused fault) v m = rested (was_refused n w fault _ v m)
-moved k n w (Look by_uid set) _ v m = absurd m
 moved k n w (ReadCall uid mark) (Found row) v m = stepped (world.Read n uid mark) m.0 (λ j o. o) tt
 moved k n w (ReadCall uid mark) (Refused fault) v m = rested (was_refused n w fault _ v m)
-moved k n w (ReadCall uid mark) _ v m = absurd m
 moved k n w (Count i) (Counted status) v m = rested m.0
 moved k n w (Count i) (Refused fault) v m = rested m.0
-moved k n w (Count i) _ v m = absurd m
 moved k n w (Alter uid op) (Altered flags) v m = stepped (world.Store n uid op) m.0 (λ j o. o) tt
 moved k n w (Alter uid op) (Refused fault) v m = rested (was_refused n w fault _ v m)
-moved k n w (Alter uid op) _ v m = absurd m
 moved k n w (ExpungeCall uids) (Expunged met changes gone) v m = stepped (world.Expunge n (in_set uids)) m.0 (λ j o. o) tt
 moved k n w (ExpungeCall uids) (Refused fault) v m = rested (was_refused n w fault _ v m)
-moved k n w (ExpungeCall uids) _ v m = absurd m
 moved k n w (FeedCall limit) (Fed met changes) v m = stepped (world.Feed n limit) m.0 (λ j o. o) tt
 moved k n w (FeedCall limit) (Refused fault) v m = rested (was_refused n w fault _ v m)
-moved k n w (FeedCall limit) _ v m = absurd m
 moved k n w (LeaveCall remove) (Left gone) v m = stepped (world.Leave n remove) m.0.0 (λ j o. o) tt
 moved k n w (LeaveCall remove) (Refused fault) v m = rested (was_refused n w fault _ v m)
-moved k n w (LeaveCall remove) _ v m = absurd m
 moved k n w (DiscardCall i uids) Discarded v m = stepped (world.Discard i (in_set (Some uids))) (discarded k w n i uids v m) (λ j o. tt) tt
 moved k n w (DiscardCall i uids) (Refused fault) v m = rested m.0
-moved k n w (DiscardCall i uids) _ v m = absurd m
+moved k n w _ _ v m = absurd m
 
 -- ---- what stays
 

@@ -1,5 +1,5 @@
 -- After a command that shows all that is pending last, what the session counts is what is there, where it is answered OK.
-use Rattle.std.proofs.Common.{◌≡◌, ℕ, ◌⊎◌, inl, inr, Bool, true, false, List, [], ◌∷◌, ◌++◌, take, ap, refl, subst, sym, ◌∙◌, append_assoc}
+use Rattle.std.proofs.Common.{◌≡◌, ℕ, ◌⊎◌, inl, inr, Bool, true, false, List, ◌∷◌, ◌++◌, take, ap, refl, subst, sym, ◌∙◌, append_assoc, []}
 use Rattle.std.specs.Prelude.{Option, Some, None, Result, Ok, codes, reverse, is_some}
 use Rattle.std.proofs.lemmas.Bool.{false≢true}
 use Rattle.std.proofs.lemmas.List.{reverse-append}
@@ -47,7 +47,7 @@ use Rattle.imap_grammar.specs.declared.command.Verb.TheVariants as verbs
 use Rattle.std.specs.Str.{bytes_eq}
 use Rattle.imap_session.proofs.Barring.{refuses}
 use Rattle.laws_client.proofs.Barred.{line_case, login_shows_none, shown_waits}
-use Rattle.laws_client.proofs.EachExchange.{Plays, turn_so}
+use Rattle.exactly_once.proofs.EachExchange.{Plays, turn_so}
 use Rattle.laws_client.proofs.Turns.{closed_quiet}
 use Rattle.laws_client.proofs.EachCommand.{Steps, command_so, tells_done}
 use Rattle.laws_client.specs.Commands.{whole_line}

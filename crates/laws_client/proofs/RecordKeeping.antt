@@ -1,11 +1,11 @@
 -- Over a whole record the client of each session that is there keeps up.
-use Rattle.std.proofs.Common.{◌≡◌, ◌≢◌, ℕ, ◌+◌, ◌<◌, true, false, ◌==◌, List, [], ◌∷◌, ◌++◌, refl, sym, subst, ap, ◌∙◌, arith, append-nil}
+use Rattle.std.proofs.Common.{◌≡◌, ◌≢◌, ℕ, ◌+◌, ◌<◌, true, false, ◌==◌, List, ◌∷◌, ◌++◌, refl, sym, subst, ap, ◌∙◌, arith, append-nil, []}
 use Rattle.std.specs.Prelude.{Option, Some, None, if◌then◌else◌}
 use Rattle.std.proofs.lemmas.Bool.{eq-eqb, false≢true}
 use Rattle.std.specs.Borrow.{Bor}
 use Rattle.line_io.specs.Wire.{IsCut, joined}
 use Rattle.world.specs.World as world
-use Rattle.world.specs.World.{Config, Event, Step, Steps, World, empty_world}
+use Rattle.world.specs.World.{Config, Event, Steps, World, empty_world}
 use Rattle.house_peers.specs.SeatedVisitor.{SeatedVisitor}
 use Rattle.house.specs.Setup.{Setup, session_seat, admitted_in}
 use Rattle.house.specs.Printing.{Prints, of_session}
@@ -209,45 +209,28 @@ entry_known : (k : Setup) (users : ℕ → Arrival) (sent shown : ℕ → List �
 entry_known k users sent shown s (Bytes connection bytes) t Silence h K p own = bytes_known k users sent shown s (Bytes connection bytes) (seat_of connection) bytes.now t [] Silence K (silent_aside (Bytes connection bytes) (λ n. refl) (λ n. refl) (λ n. refl)) p
 entry_known k users sent shown s (Bytes connection bytes) t (Replies seat said) h K p own =
     bytes_known k users sent shown s (Bytes connection bytes) (seat_of connection) bytes.now t _ (Replies seat said) K (replies_aside (Bytes connection bytes) seat said (λ n. refl) (λ n. refl) (λ n. refl)) p
-entry_known k users sent shown s (Bytes connection bytes) t (Lines n lines) h K p own = absurd own
 entry_known k users sent shown s (Vanish connection) t Silence h K p own =
     subst (λ (x : Scene). Then k s users sent shown (Vanish connection) Silence x) (sym p.after) (aside_known k users sent shown s (Vanish connection) Silence _ s.next s.entered s.shut K (silent_aside (Vanish connection) (λ n. refl) (λ n. refl) (λ n. refl)))
-entry_known k users sent shown s (Vanish connection) t (Replies seat said) h K p own = absurd own
-entry_known k users sent shown s (Vanish connection) t (Lines n lines) h K p own = absurd own
 entry_known k users sent shown s (Put number) t Silence h K p own = put_silent k users sent shown s number t h K p
 entry_known k users sent shown s (Put number) t (Replies seat said) h K p own = put_replies k users sent shown s number seat said t _ K own.0 own.1 p
 entry_known k users sent shown s (Put number) t (Lines n lines) h K p own = put_lines k users sent shown s number n lines t h K own
 entry_known k users sent shown s (Take shard) t Silence h K p own = world_known k users sent shown s (Take shard) (world.Take shard) t [] K (silent_aside (Take shard) (λ n. refl) (λ n. refl) (λ n. refl)) (λ n. tt) p
-entry_known k users sent shown s (Take shard) t (Replies seat said) h K p own = absurd own
-entry_known k users sent shown s (Take shard) t (Lines n lines) h K p own = absurd own
 entry_known k users sent shown s (Deliver shard) t Silence h K p own = world_known k users sent shown s (Deliver shard) (world.Deliver shard) t [] K (silent_aside (Deliver shard) (λ n. refl) (λ n. refl) (λ n. refl)) (λ n. tt) p
-entry_known k users sent shown s (Deliver shard) t (Replies seat said) h K p own = absurd own
-entry_known k users sent shown s (Deliver shard) t (Lines n lines) h K p own = absurd own
 entry_known k users sent shown s (Answer shard) t Silence h K p own = world_known k users sent shown s (Answer shard) (world.Answer shard) t [] K (silent_aside (Answer shard) (λ n. refl) (λ n. refl) (λ n. refl)) (λ n. tt) p
-entry_known k users sent shown s (Answer shard) t (Replies seat said) h K p own = absurd own
-entry_known k users sent shown s (Answer shard) t (Lines n lines) h K p own = absurd own
 entry_known k users sent shown s (Hear number) t Silence h K p own = hear_silent k users sent shown s number t h K p
 entry_known k users sent shown s (Hear number) t (Replies seat said) h K p own = hear_replies k users sent shown s number seat said t _ K own.0 own.1 p
 entry_known k users sent shown s (Hear number) t (Lines n lines) h K p own = hear_lines k users sent shown s number n lines t h K own
 entry_known k users sent shown s (End number shard) t Silence h K p own = world_known k users sent shown s (End number shard) (world.PutEnd (seat_of number) shard) t [] K (silent_aside (End number shard) (λ n. refl) (λ n. refl) (λ n. refl)) (λ n. tt) p
-entry_known k users sent shown s (End number shard) t (Replies seat said) h K p own = absurd own
-entry_known k users sent shown s (End number shard) t (Lines n lines) h K p own = absurd own
 entry_known k users sent shown s (Close shard) t Silence h K p own =
     subst (λ (x : Scene). Then k s users sent shown (Close shard) Silence x) (sym p.after) (aside_known k users sent shown s (Close shard) Silence s.caller s.next s.entered _ K (silent_aside (Close shard) (λ n. refl) (λ n. refl) (λ n. refl)))
-entry_known k users sent shown s (Close shard) t (Replies seat said) h K p own = absurd own
-entry_known k users sent shown s (Close shard) t (Lines n lines) h K p own = absurd own
 entry_known k users sent shown s (Enter session user) t Silence h K p own = enter_silent k users sent shown s session user t h K p
-entry_known k users sent shown s (Enter session user) t (Replies seat said) h K p own = absurd own
 entry_known k users sent shown s (Enter session user) t (Lines n lines) h K p own = enter_lines k users sent shown s session user n lines t h K own.0 own.1 own.2
 entry_known k users sent shown s (Say session bytes) t Silence h K p own = say_silent k users sent shown s session bytes t h K p
-entry_known k users sent shown s (Say session bytes) t (Replies seat said) h K p own = absurd own
 entry_known k users sent shown s (Say session bytes) t (Lines n lines) h K p own = say_lines k users sent shown s session bytes n lines t h K own.0 own.1 own.2
 entry_known k users sent shown s (Idle session) t Silence h K p own = idle_silent k users sent shown s session t K p
-entry_known k users sent shown s (Idle session) t (Replies seat said) h K p own = absurd own
 entry_known k users sent shown s (Idle session) t (Lines n lines) h K p own = idle_lines k users sent shown s session n lines t K own.0 own.1 own.2
 entry_known k users sent shown s (Leave session) t Silence h K p own = leave_known k users sent shown s session t [] K p
-entry_known k users sent shown s (Leave session) t (Replies seat said) h K p own = absurd own
-entry_known k users sent shown s (Leave session) t (Lines n lines) h K p own = absurd own
+entry_known k users sent shown s _ t _ h _ p own = absurd own
 
 -- ---- the whole record
 

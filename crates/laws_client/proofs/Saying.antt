@@ -1,5 +1,5 @@
 -- The answers to lines that a client sends, and what they tell of flags.
-use Rattle.std.proofs.Common.{◌≡◌, ℕ, ◌+◌, ◌<◌, ◌^◌, ◌==◌, length, sym, subst, ◌∙◌, Bool, true, List, [], ◌∷◌, refl, ap}
+use Rattle.std.proofs.Common.{◌≡◌, ℕ, ◌+◌, ◌<◌, ◌^◌, ◌==◌, length, sym, subst, ◌∙◌, Bool, true, List, ◌∷◌, refl, ap, []}
 use Rattle.std.specs.Prelude.{Option, Some, None, Result, Ok, Err, IfSome}
 use Rattle.std.proofs.lemmas.Bool.{false≢true}
 use Rattle.std.proofs.lemmas.Option.{none-some}
@@ -34,7 +34,7 @@ use Rattle.laws_client.proofs.FlagMoments.{SeesAllMoments, SeesMoments, at_momen
 use Rattle.laws_client.specs.FlagLaws.{AnswerTellsFlags, VerdictTellsFlags}
 use Rattle.laws_client.proofs.FlagPlayed.{turn_tells}
 use Rattle.laws_client.proofs.Telling.{row_tells, store_tells}
-use Rattle.laws_client.proofs.EachExchange.{at_turn}
+use Rattle.exactly_once.proofs.EachExchange.{at_turn}
 use Rattle.laws_client.proofs.Turning.{Refusals, SaysFlags, ends_so, leaves}
 use Rattle.imap_session.specs.declared.texts.ResponseText.TheVariants as texts
 use Rattle.imap_session.specs.Texts.{response_text}

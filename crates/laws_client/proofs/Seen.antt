@@ -1,6 +1,6 @@
 -- What a session's call comes to in the world, as its client's list has it: what is shown may be shown, what is read is the row that was asked for, and what is counted can be printed.
-use Rattle.std.proofs.Common.{◌≡◌, ℕ, ◌+◌, ◌^◌, ◌*◌, ◌<◌, ◌≤◌, Bool, true, false, ◌==◌, List, [], ◌∷◌, ◌++◌, length, take, drop, refl, sym, subst, ap, ◌∙◌, arith, length-append}
-use Rattle.std.specs.Prelude.{Option, Some, option_map, if◌then◌else◌, not, sum_by}
+use Rattle.std.proofs.Common.{◌≡◌, ℕ, ◌+◌, ◌^◌, ◌*◌, ◌<◌, ◌≤◌, Bool, true, false, ◌==◌, List, ◌∷◌, ◌++◌, length, take, drop, refl, sym, subst, ap, ◌∙◌, arith, length-append, []}
+use Rattle.std.specs.Prelude.{Option, Some, option_map, not, sum_by, if◌then◌else◌}
 use Rattle.std.proofs.Math.Seq.{take-length}
 use Rattle.std.proofs.lemmas.Bool.{eqb-true}
 use Rattle.std.proofs.lemmas.Option.{none-some}
@@ -237,31 +237,23 @@ pub seen : (k : Config) (w : World) (n : ℕ) (call : Call) (answer : Answer) (v
     → Sees (view_of w n) (record { call = call; answer = answer }) (view_of v n)
 seen k w n (EnterCall i) (Entered opening) v S h short m = record { leads = tt; fits = tt }
 seen k w n (EnterCall i) (Refused fault) v S h short m = unmoved_seen w n (EnterCall i) fault v (turned_away k n i w fault v m)
-seen k w n (EnterCall i) _ v S h short m = absurd m
 seen k w n (Look by_uid set) (Looked copied) v S h short m = look_seen k w n by_uid set copied v m
 seen k w n (Look by_uid set) (Refused fault) v S h short m = unmoved_seen w n (Look by_uid set) fault v (was_refused n w fault _ v m)
-seen k w n (Look by_uid set) _ v S h short m = absurd m
 seen k w n (ReadCall uid mark) (Found row) v S h short m = read_seen k w n uid mark row v S short m
 seen k w n (ReadCall uid mark) (Refused fault) v S h short m = unmoved_seen w n (ReadCall uid mark) fault v (was_refused n w fault _ v m)
-seen k w n (ReadCall uid mark) _ v S h short m = absurd m
 seen k w n (Count i) (Counted status) v S h short m = count_seen k w n i status v S h short m
 seen k w n (Count i) (Refused fault) v S h short m = unmoved_seen w n (Count i) fault v m.0
-seen k w n (Count i) _ v S h short m = absurd m
 seen k w n (Alter uid op) (Altered flags) v S h short m = alter_seen k w n uid op flags v S m
 seen k w n (Alter uid op) (Refused fault) v S h short m = unmoved_seen w n (Alter uid op) fault v (was_refused n w fault _ v m)
-seen k w n (Alter uid op) _ v S h short m = absurd m
 seen k w n (ExpungeCall uids) (Expunged met changes gone) v S h short m = expunge_seen k w n uids met changes gone v S m
 seen k w n (ExpungeCall uids) (Refused fault) v S h short m = unmoved_seen w n (ExpungeCall uids) fault v (was_refused n w fault _ v m)
-seen k w n (ExpungeCall uids) _ v S h short m = absurd m
 seen k w n (FeedCall limit) (Fed met changes) v S h short m = feed_seen k w n limit met changes v S m
 seen k w n (FeedCall limit) (Refused fault) v S h short m = unmoved_seen w n (FeedCall limit) fault v (was_refused n w fault _ v m)
-seen k w n (FeedCall limit) _ v S h short m = absurd m
 seen k w n (LeaveCall remove) (Left gone) v S h short m = record { leads = tt; fits = tt }
 seen k w n (LeaveCall remove) (Refused fault) v S h short m = unmoved_seen w n (LeaveCall remove) fault v (was_refused n w fault _ v m)
-seen k w n (LeaveCall remove) _ v S h short m = absurd m
 seen k w n (DiscardCall i uids) Discarded v S h short m = discard_seen k w n i uids v S m
 seen k w n (DiscardCall i uids) (Refused fault) v S h short m = unmoved_seen w n (DiscardCall i uids) fault v m.0
-seen k w n (DiscardCall i uids) _ v S h short m = absurd m
+seen k w n _ _ v _ h short m = absurd m
 
 pub calls_are_seen : CallsAreSeen
 calls_are_seen k events w n call answer v h is short m = seen k w n call answer v (sound_always k events w h is) h short m

@@ -1,6 +1,6 @@
 -- A client that knows that it is in a mailbox has a session that has selected one.
-use Rattle.std.proofs.Common.{◌≡◌, ℕ, Bool, true, false, List, [], ◌∷◌, length, ap, refl, sym, ◌∙◌, subst}
-use Rattle.std.specs.Prelude.{Option, Some, None, Result, Ok, Err, ◌==◌, if◌then◌else◌, not}
+use Rattle.std.proofs.Common.{◌≡◌, ℕ, Bool, true, false, List, ◌∷◌, length, ap, refl, sym, ◌∙◌, subst, []}
+use Rattle.std.specs.Prelude.{Option, Some, None, Result, Ok, Err, ◌==◌, not, if◌then◌else◌}
 use Rattle.std.proofs.lemmas.Option.{none-some}
 use Rattle.mailbox.specs.declared.clients.MailFault.{MailFault}
 use Rattle.mailbox.specs.declared.clients.MailFault.TheVariants.{NoMemory}
@@ -30,7 +30,7 @@ use Rattle.laws_client.specs.Lives.{Lives, comes, turns, others}
 use Rattle.laws_client.specs.Selecting.{KnowingIsSelected, Known_selected}
 use Rattle.laws_client.specs.RecordTurns.{told_line, told_of}
 use Rattle.laws_client.proofs.RecordEntering.{Only, Wrote, wanted, wrote, writes, mapped, only_done, only_refused, refusal_has_none, tagged_has, at_star, closed_line}
-use Rattle.laws_client.proofs.EachExchange.{Plays, closed_so, idle_keeps, turn_so}
+use Rattle.exactly_once.proofs.EachExchange.{Plays, closed_so, idle_keeps, turn_so}
 use Rattle.laws_client.proofs.Living.{hears_last}
 use Rattle.laws_client.proofs.Turns.{the_turn}
 use Rattle.imap_session.specs.declared.texts.ResponseText.TheVariants as texts

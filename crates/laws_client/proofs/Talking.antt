@@ -1,5 +1,5 @@
 -- A whole talk, one turn behind the other.
-use Rattle.std.proofs.Common.{◌≡◌, ℕ, true, List, [], ◌∷◌, ap, sym, refl, subst}
+use Rattle.std.proofs.Common.{◌≡◌, ℕ, true, List, ◌∷◌, ap, sym, refl, subst, []}
 use Rattle.std.specs.Prelude.{Option, Some, None, IfSome}
 use Rattle.imap_session.specs.Exchange.{Standing, Turn, PendingLiteral, is_idling, kept_behind, may_send}
 use Rattle.imap_session.specs.Commands.{turn_of_long_line, with_bytes}
@@ -9,7 +9,7 @@ use Rattle.laws_client.specs.Talks.{Happening, Line, LongLine, Turned, Literal, 
 use Rattle.laws_client.specs.ListTurns.{AreTags, IsTag, SeesAll}
 use Rattle.laws_client.proofs.Commands.{answer_is_followed, long_line_tells_nothing, verdict_is_followed}
 use Rattle.laws_client.proofs.Ends.{leaves}
-use Rattle.laws_client.proofs.EachExchange.{idle_keeps}
+use Rattle.exactly_once.proofs.EachExchange.{idle_keeps}
 use Rattle.laws_client.proofs.IdleTags.{AreTagsOf, Kept, bytes_keep, line_keeps, verdict_keeps}
 use Rattle.laws_client.proofs.Tags.{word_is_tag}
 use Rattle.imap_grammar.specs.Bytes.{is_tag}

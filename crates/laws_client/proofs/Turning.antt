@@ -1,5 +1,5 @@
 -- What a client reads of a turn, by the session's first call and its answer.
-use Rattle.std.proofs.Common.{◌≡◌, ℕ, ◌+◌, ◌≤◌, List, [], ◌∷◌, ◌++◌, length, drop, ap, ap₂, ◌∙◌, sym, refl, subst, arith, append-nil, length-append}
+use Rattle.std.proofs.Common.{◌≡◌, ℕ, ◌+◌, ◌≤◌, List, ◌∷◌, ◌++◌, length, drop, ap, ap₂, ◌∙◌, sym, refl, subst, arith, append-nil, length-append, []}
 use Rattle.std.specs.Prelude.{Option, Some}
 use Rattle.std.proofs.lemmas.List.{length-drop, take-append-le}
 use Rattle.change_ring.specs.declared.change.Change.{Change}
@@ -15,7 +15,7 @@ use Rattle.laws_client.specs.Client.{Known, Client, knowing, reads}
 use Rattle.laws_client.specs.Beliefs.{Each, Follows, MayShow, TellsNothing}
 use Rattle.laws_client.proofs.Bytes.{reads-append}
 use Rattle.laws_client.proofs.Each.{each_weaker}
-use Rattle.laws_client.proofs.EachExchange.{at_turn}
+use Rattle.exactly_once.proofs.EachExchange.{at_turn}
 use Rattle.laws_client.proofs.Turns.{closed_quiet, closed_silent}
 use Rattle.laws_client.specs.Flags.{Believes, KnowsFlags, Point, counted}
 use Rattle.laws_client.specs.FlagTurns.{IfInside, LeadsFlags, LeavesFlags, shown_in}

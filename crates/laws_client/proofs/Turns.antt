@@ -1,5 +1,5 @@
 -- What a client reads of a turn, by the session's first call and its answer.
-use Rattle.std.proofs.Common.{◌≡◌, ℕ, List, [], ◌∷◌, ◌++◌, ap, ◌∙◌, sym, refl, subst}
+use Rattle.std.proofs.Common.{◌≡◌, ℕ, List, ◌∷◌, ◌++◌, ap, ◌∙◌, sym, refl, subst, []}
 use Rattle.std.specs.Prelude.{Option, Some, None}
 use Rattle.std.proofs.lemmas.List.{append-nil}
 use Rattle.change_ring.specs.declared.change.Change.{Change}
@@ -13,7 +13,7 @@ use Rattle.laws_client.specs.Client.{Known, Client, knowing, reads}
 use Rattle.laws_client.specs.Beliefs.{Each, IsOf, Follows, Leads, Leaves, MayShow}
 use Rattle.laws_client.specs.ListTurns.{Fits, SeesAll}
 use Rattle.laws_client.proofs.Bytes.{reads-append}
-use Rattle.laws_client.proofs.EachExchange.{at_turn, closed_so}
+use Rattle.exactly_once.proofs.EachExchange.{at_turn, closed_so}
 use Rattle.laws_client.proofs.Follows.{lines_are_followed}
 
 -- what is said where the store refuses tells nothing of messages

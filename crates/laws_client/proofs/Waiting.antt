@@ -1,5 +1,5 @@
 -- What a session knows of the messages that its client appends: it changes where an exchange waits, and by what it waits for.
-use Rattle.std.proofs.Common.{◌≡◌, ◌⊎◌, inl, inr, ℕ, suc, ◌+◌, Bool, true, false, List, [], ◌∷◌, length, refl, subst, Option, Some, None, take, ap, sym}
+use Rattle.std.proofs.Common.{◌≡◌, ◌⊎◌, inl, inr, ℕ, suc, ◌+◌, Bool, true, false, List, ◌∷◌, length, refl, subst, Option, Some, None, take, ap, sym, []}
 use Rattle.std.specs.Prelude.{IfSome, nat_lt}
 use Rattle.change_ring.specs.declared.change.Flags.{Flags}
 use Rattle.delivery_token.specs.declared.Verdict.{Verdict}
@@ -16,7 +16,7 @@ use Rattle.imap_grammar.specs.declared.command.Command.TheVariants as commands
 use Rattle.imap_session.specs.declared.standing.After.{After}
 use Rattle.imap_session.specs.declared.standing.Selected.{Selected}
 use Rattle.imap_session.specs.Exchange as ex
-use Rattle.imap_session.specs.Exchange.{Answer, PendingLiteral, Asked, Call, Dropped, Entered, Looked, Found, Counted, Altered, Expunged, Fed, Left, Refused, Starved, Exchange, Folder, ForDone, ForLiteral, ForNothing, ForVerdict, Mailing, Standing, Turn, Unasked, Waiting, bye, closed, having, played, refusal_after, saying, text_before, unkept, waiting, where_long, refused, Argument, Message, Response, Purpose, nameless, Discarded, Origin, Client, Copied, Batch}
+use Rattle.imap_session.specs.Exchange.{Answer, PendingLiteral, Dropped, Refused, Exchange, Folder, ForDone, ForLiteral, ForNothing, ForVerdict, Mailing, Standing, Turn, Unasked, Waiting, bye, closed, played, refusal_after, text_before, waiting, refused, Argument, Message, Response, Purpose, nameless, Origin, Client, Copied, Batch}
 use Rattle.imap_session.specs.Commands.{appending, coming, completed, most_unasked, number_named, on_command, on_idle_line, on_rest, on_verdict, says, logged_in, logs_in_as, on_line, awaiting_argument, comes_unasked, flags_for, date_for, mailbox_for, awaiting_response, given_up, most_line, on_stored, told_copied, with_copy, copies_of, refused_text}
 use Rattle.imap_session.specs.declared.texts.ResponseText.TheVariants as texts
 use Rattle.imap_session.specs.Texts.{response_text}
@@ -26,7 +26,7 @@ use Rattle.imap_grammar.specs.declared.command.Literal.{Literal}
 use Rattle.imap_grammar.specs.Literals.{announced}
 use Rattle.imap_grammar.specs.declared.command.CopyMessages.{CopyMessages}
 use Rattle.exactly_once.proofs.Copying.{IsCopied, copies_so, TakesBack, back_so, stored_so}
-use Rattle.laws_client.proofs.EachExchange.{Plays, closed_so, exchange_if}
+use Rattle.exactly_once.proofs.EachExchange.{Plays, closed_so, exchange_if}
 use Rattle.laws_client.proofs.EachCommand.{Steps, Tells, append_so, command_so, copied_so, either_so, idle_line_so, rest_so, select_so, shows_so}
 use Rattle.exactly_once.specs.Found.{AreSomeOf}
 

@@ -1,5 +1,5 @@
 -- One life: a session selects an empty mailbox, a copy comes there, a NOOP shows it, and its client sets a flag of it.
-use Rattle.std.specs.Prelude.{◌≡◌, ℕ, codes, true, List, [], ◌∷◌, Some, None}
+use Rattle.std.specs.Prelude.{◌≡◌, ℕ, codes, true, List, ◌∷◌, Some, None, []}
 use Rattle.change_ring.specs.Log.{no_flags}
 use Rattle.change_ring.specs.declared.change.Change.TheVariants.{Add, Flags as SetFlags}
 use Rattle.world.specs.First.{one_house}
@@ -7,7 +7,7 @@ use Rattle.world.specs.World.{World, empty_world}
 use Rattle.laws_client.specs.Client.{knowing}
 use Rattle.laws_client.specs.Clients.{Answer, Told, hears_all}
 use Rattle.laws_client.specs.Lives.{Lives}
-use Rattle.laws_client.specs.RecordLife.{one_first, one_last}
+use Rattle.laws_client.specs.RecordLife.{one_first, one_last, selects_empty}
 use Rattle.laws_client.specs.Worlds.{point_of}
 
 abbrev pub flag_sent : List ℕ
@@ -15,10 +15,7 @@ flag_sent = codes "a1 SELECT INBOX\r\na2 NOOP\r\na3 STORE 1 +FLAGS (\\Flagged)\r
 
 abbrev pub flag_told : List Told
 flag_told =
-    Answer (codes "a1 SELECT INBOX")
-    (codes
-    "* FLAGS (\\Answered \\Flagged \\Deleted \\Seen \\Draft)\r\n* 0 EXISTS\r\n* OK [UIDVALIDITY 1] UIDs valid\r\n* OK [UIDNEXT 1] Predicted next UID\r\n* OK [PERMANENTFLAGS (\\Answered \\Flagged \\Deleted \\Seen \\Draft)] Flags kept\r\n* LIST () \"/\" INBOX\r\na1 OK [READ-WRITE] SELECT completed\r\n")
-    ∷ Answer (codes "a2 NOOP") (codes "* 1 EXISTS\r\na2 OK NOOP completed\r\n")
+    Answer (codes "a1 SELECT INBOX") selects_empty ∷ Answer (codes "a2 NOOP") (codes "* 1 EXISTS\r\na2 OK NOOP completed\r\n")
     ∷ Answer (codes "a3 STORE 1 +FLAGS (\\Flagged)") (codes "* 1 FETCH (FLAGS (\\Flagged))\r\na3 OK STORE completed\r\n") ∷ []
 
 -- It is lived, in the house with one of each. Its session was shown the first of two changes; its client knows the flags behind the second, which are

@@ -1,5 +1,5 @@
 -- One life: a session selects an empty mailbox, a copy comes there meanwhile, and a NOOP shows it.
-use Rattle.std.specs.Prelude.{◌≡◌, ℕ, codes, false, List, [], ◌∷◌, Some, None}
+use Rattle.std.specs.Prelude.{◌≡◌, ℕ, codes, false, List, ◌∷◌, ◌++◌, Some, None, []}
 use Rattle.imap_session.specs.declared.standing.Profile.TheVariants.{Standard}
 use Rattle.imap_session.specs.Exchange.{Standing, begun_with}
 use Rattle.world.specs.First.{one_house}
@@ -19,12 +19,15 @@ one_last = record one_first { selected = Some (record { mailbox = 0; read_only =
 abbrev pub one_sent : List ℕ
 one_sent = codes "a1 SELECT INBOX\r\na2 NOOP\r\n"
 
+-- what it is told where it selects that mailbox, which is empty (RFC 9051, 6.3.2)
+abbrev pub selects_empty : List ℕ
+selects_empty =
+    codes "* FLAGS (\\Answered \\Flagged \\Deleted \\Seen \\Draft)\r\n" ++ codes "* 0 EXISTS\r\n" ++ codes "* OK [UIDVALIDITY 1] UIDs valid\r\n"
+    ++ codes "* OK [UIDNEXT 1] Predicted next UID\r\n" ++ codes "* OK [PERMANENTFLAGS (\\Answered \\Flagged \\Deleted \\Seen \\Draft)] Flags kept\r\n"
+    ++ codes "* LIST () \"/\" INBOX\r\n" ++ codes "a1 OK [READ-WRITE] SELECT completed\r\n"
+
 abbrev pub one_told : List Told
-one_told =
-    Answer (codes "a1 SELECT INBOX")
-    (codes
-    "* FLAGS (\\Answered \\Flagged \\Deleted \\Seen \\Draft)\r\n* 0 EXISTS\r\n* OK [UIDVALIDITY 1] UIDs valid\r\n* OK [UIDNEXT 1] Predicted next UID\r\n* OK [PERMANENTFLAGS (\\Answered \\Flagged \\Deleted \\Seen \\Draft)] Flags kept\r\n* LIST () \"/\" INBOX\r\na1 OK [READ-WRITE] SELECT completed\r\n")
-    ∷ Answer (codes "a2 NOOP") (codes "* 1 EXISTS\r\na2 OK NOOP completed\r\n") ∷ []
+one_told = Answer (codes "a1 SELECT INBOX") selects_empty ∷ Answer (codes "a2 NOOP") (codes "* 1 EXISTS\r\na2 OK NOOP completed\r\n") ∷ []
 
 -- It is lived, in the house with one of each; its client then has a list of one message, and its session counts one.
 abbrev pub OneLifeIsLived : Type 0

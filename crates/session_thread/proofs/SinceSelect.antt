@@ -1,5 +1,5 @@
 -- What a session was shown, hold by hold, and what the history says of its mailbox.
-use Rattle.std.proofs.Common.{◌≡◌, ℕ, zero, suc, ◌+◌, ◌-◌, ◌≤◌, Bool, true, false, List, [], ◌∷◌, ◌++◌, length, length-drop, take, drop, append-nil, arith, refl, sym, ap, ◌∙◌, subst, Option, Some, None, if◌then◌else◌, ◌==◌}
+use Rattle.std.proofs.Common.{◌≡◌, ℕ, zero, suc, ◌+◌, ◌-◌, ◌≤◌, Bool, true, false, List, ◌∷◌, ◌++◌, length, length-drop, take, drop, append-nil, arith, refl, sym, ap, ◌∙◌, subst, Option, Some, None, ◌==◌, [], if◌then◌else◌}
 use Rattle.std.specs.Prelude.{IfSome}
 use Rattle.std.proofs.lemmas.List.{append_assoc, drop-append-le, length-append, length-map, take-append-le}
 use mathlib.Core.List.{IsPrefix}
@@ -17,7 +17,7 @@ use Rattle.house_history.specs.Events.{changes_in}
 use Rattle.house_history.proofs.Follow.{changes_grow}
 use Rattle.house_history.proofs.Parts.{same}
 use Rattle.locked_mailbox.specs.Locking.{Knows, LockedMailbox}
-use Rattle.imap_session.specs.Exchange.{Answer, Enter, Look, Read, Count, Alter, Expunge, Feed, Leave, Discard, Entered, Looked, Found, Counted, Altered, Expunged, Fed, Left, Discarded, Refused, Starved}
+use Rattle.imap_session.specs.Exchange.{Answer, Enter, Look, Read, Count, Alter, Expunge, Feed, Leave, Discard, Entered, Looked, Found, Counted, Altered, Expunged, Fed, Left, Discarded, Refused}
 use Rattle.session_thread.specs.declared.locked_store.Entry.{Entry}
 use Rattle.session_thread.specs.Locks.{HasItsText, Held, Holds, In, LockedStore, entered_at, outside, says, says_nothing, seeing}
 use Rattle.session_thread.proofs.Shown.{seen_view}
@@ -257,104 +257,24 @@ left old new is longer = (longer, tt, subst (λ (e : Option Entry). WasShownIn n
 
 pub by_call : ShownByCall
 by_call old new (Enter m) (Entered opening) shown h w = entered old new m opening shown h
-by_call old new (Enter m) (Looked view) shown h w = elim h [ ]
-by_call old new (Enter m) (Found row) shown h w = elim h [ ]
-by_call old new (Enter m) (Counted status) shown h w = elim h [ ]
-by_call old new (Enter m) (Altered flags) shown h w = elim h [ ]
-by_call old new (Enter m) (Expunged view changes gone) shown h w = elim h [ ]
-by_call old new (Enter m) (Fed view changes) shown h w = elim h [ ]
-by_call old new (Enter m) (Left gone) shown h w = elim h [ ]
-by_call old new (Enter m) Discarded shown h w = elim h [ ]
 by_call old new (Enter m) (Refused fault) shown h w = rests old new shown h.0 w
-by_call old new (Enter m) (Starved n) shown h w = elim h [ ]
-by_call old new (Look by_uid set) (Entered opening) shown h w = elim h [ ]
 by_call old new (Look by_uid set) (Looked view) shown h w = looked old new view shown h.1 h.0 w
-by_call old new (Look by_uid set) (Found row) shown h w = elim h [ ]
-by_call old new (Look by_uid set) (Counted status) shown h w = elim h [ ]
-by_call old new (Look by_uid set) (Altered flags) shown h w = elim h [ ]
-by_call old new (Look by_uid set) (Expunged view changes gone) shown h w = elim h [ ]
-by_call old new (Look by_uid set) (Fed view changes) shown h w = elim h [ ]
-by_call old new (Look by_uid set) (Left gone) shown h w = elim h [ ]
-by_call old new (Look by_uid set) Discarded shown h w = elim h [ ]
 by_call old new (Look by_uid set) (Refused fault) shown h w = rests old new shown h.0 w
-by_call old new (Look by_uid set) (Starved n) shown h w = elim h [ ]
-by_call old new (Read uid mark) (Entered opening) shown h w = elim h [ ]
-by_call old new (Read uid mark) (Looked view) shown h w = elim h [ ]
 by_call old new (Read uid mark) (Found row) shown h w = found_row old new uid mark row shown h.1 h.0 w
-by_call old new (Read uid mark) (Counted status) shown h w = elim h [ ]
-by_call old new (Read uid mark) (Altered flags) shown h w = elim h [ ]
-by_call old new (Read uid mark) (Expunged view changes gone) shown h w = elim h [ ]
-by_call old new (Read uid mark) (Fed view changes) shown h w = elim h [ ]
-by_call old new (Read uid mark) (Left gone) shown h w = elim h [ ]
-by_call old new (Read uid mark) Discarded shown h w = elim h [ ]
 by_call old new (Read uid mark) (Refused fault) shown h w = rests old new shown h.0 w
-by_call old new (Read uid mark) (Starved n) shown h w = elim h [ ]
-by_call old new (Count m) (Entered opening) shown h w = elim h [ ]
-by_call old new (Count m) (Looked view) shown h w = elim h [ ]
-by_call old new (Count m) (Found row) shown h w = elim h [ ]
 by_call old new (Count m) (Counted status) shown h w = learns old new shown h.0 h.2.3.goes_on tt w
-by_call old new (Count m) (Altered flags) shown h w = elim h [ ]
-by_call old new (Count m) (Expunged view changes gone) shown h w = elim h [ ]
-by_call old new (Count m) (Fed view changes) shown h w = elim h [ ]
-by_call old new (Count m) (Left gone) shown h w = elim h [ ]
-by_call old new (Count m) Discarded shown h w = elim h [ ]
 by_call old new (Count m) (Refused fault) shown h w = rests old new shown h.0 w
-by_call old new (Count m) (Starved n) shown h w = elim h [ ]
-by_call old new (Alter uid op) (Entered opening) shown h w = elim h [ ]
-by_call old new (Alter uid op) (Looked view) shown h w = elim h [ ]
-by_call old new (Alter uid op) (Found row) shown h w = elim h [ ]
-by_call old new (Alter uid op) (Counted status) shown h w = elim h [ ]
 by_call old new (Alter uid op) (Altered flags) shown h w = learns old new shown h.0 h.1.2.3.goes_on tt w
-by_call old new (Alter uid op) (Expunged view changes gone) shown h w = elim h [ ]
-by_call old new (Alter uid op) (Fed view changes) shown h w = elim h [ ]
-by_call old new (Alter uid op) (Left gone) shown h w = elim h [ ]
-by_call old new (Alter uid op) Discarded shown h w = elim h [ ]
 by_call old new (Alter uid op) (Refused fault) shown h w = rests old new shown h.0 w
-by_call old new (Alter uid op) (Starved n) shown h w = elim h [ ]
-by_call old new (Expunge uids) (Entered opening) shown h w = elim h [ ]
-by_call old new (Expunge uids) (Looked view) shown h w = elim h [ ]
-by_call old new (Expunge uids) (Found row) shown h w = elim h [ ]
-by_call old new (Expunge uids) (Counted status) shown h w = elim h [ ]
-by_call old new (Expunge uids) (Altered flags) shown h w = elim h [ ]
 by_call old new (Expunge uids) (Expunged view changes gone) shown h w = expunged old new uids view changes gone shown h w
-by_call old new (Expunge uids) (Fed view changes) shown h w = elim h [ ]
-by_call old new (Expunge uids) (Left gone) shown h w = elim h [ ]
-by_call old new (Expunge uids) Discarded shown h w = elim h [ ]
 by_call old new (Expunge uids) (Refused fault) shown h w = rests old new shown h.0 w
-by_call old new (Expunge uids) (Starved n) shown h w = elim h [ ]
-by_call old new (Feed limit) (Entered opening) shown h w = elim h [ ]
-by_call old new (Feed limit) (Looked view) shown h w = elim h [ ]
-by_call old new (Feed limit) (Found row) shown h w = elim h [ ]
-by_call old new (Feed limit) (Counted status) shown h w = elim h [ ]
-by_call old new (Feed limit) (Altered flags) shown h w = elim h [ ]
-by_call old new (Feed limit) (Expunged view changes gone) shown h w = elim h [ ]
 by_call old new (Feed limit) (Fed view changes) shown h w = fed old new limit view changes shown h w
-by_call old new (Feed limit) (Left gone) shown h w = elim h [ ]
-by_call old new (Feed limit) Discarded shown h w = elim h [ ]
 by_call old new (Feed limit) (Refused fault) shown h w = rests old new shown h.0 w
-by_call old new (Feed limit) (Starved n) shown h w = elim h [ ]
-by_call old new (Leave remove) (Entered opening) shown h w = elim h [ ]
-by_call old new (Leave remove) (Looked view) shown h w = elim h [ ]
-by_call old new (Leave remove) (Found row) shown h w = elim h [ ]
-by_call old new (Leave remove) (Counted status) shown h w = elim h [ ]
-by_call old new (Leave remove) (Altered flags) shown h w = elim h [ ]
-by_call old new (Leave remove) (Expunged view changes gone) shown h w = elim h [ ]
-by_call old new (Leave remove) (Fed view changes) shown h w = elim h [ ]
 by_call old new (Leave remove) (Left gone) shown h w = left old new h.1 h.0.2.3.goes_on
-by_call old new (Leave remove) Discarded shown h w = elim h [ ]
 by_call old new (Leave remove) (Refused fault) shown h w = rests old new shown h.0 w
-by_call old new (Leave remove) (Starved n) shown h w = elim h [ ]
-by_call old new (Discard m uids) (Entered opening) shown h w = elim h [ ]
-by_call old new (Discard m uids) (Looked view) shown h w = elim h [ ]
-by_call old new (Discard m uids) (Found row) shown h w = elim h [ ]
-by_call old new (Discard m uids) (Counted status) shown h w = elim h [ ]
-by_call old new (Discard m uids) (Altered flags) shown h w = elim h [ ]
-by_call old new (Discard m uids) (Expunged view changes gone) shown h w = elim h [ ]
-by_call old new (Discard m uids) (Fed view changes) shown h w = elim h [ ]
-by_call old new (Discard m uids) (Left gone) shown h w = elim h [ ]
 by_call old new (Discard m uids) Discarded shown h w = learns old new shown h.0 h.2.3.goes_on tt w
 by_call old new (Discard m uids) (Refused fault) shown h w = rests old new shown h.0 w
-by_call old new (Discard m uids) (Starved n) shown h w = elim h [ ]
+by_call old new _ _ shown h w = elim h [ ]
 
 -- ---- all of them
 

@@ -1,5 +1,5 @@
 -- What an exchange comes to, walked over once: what is so of each way that it may end, and of each piece and each call if it is so of what comes behind it, is so of its turn. And the same of a turn while a session idles.
-use Rattle.std.proofs.Common.{zero, suc, ◌≡◌, ℕ, List, [], ◌∷◌, subst, Option, Some, None}
+use Rattle.std.proofs.Common.{zero, suc, ◌≡◌, ℕ, List, ◌∷◌, subst, Option, Some, None, []}
 use Rattle.std.specs.Prelude.{IfSome, nat_lt, length, Bool, true, false, if◌then◌else◌}
 use Rattle.std.specs.Option.{option_map}
 use Rattle.change_ring.specs.declared.change.Change.{Change}
