@@ -24,7 +24,7 @@ import sys
 TOP = os.path.dirname(os.path.dirname(os.path.abspath(__file__)))
 
 # Who carries the promise: the law over every list of events, a run of a script, a run of threads.
-ROOTS = ["exactly_once::exactly_once_delivery", "script::run_script.once", "running_house::run_house.agrees"]
+ROOTS = ["exactly_once::exactly_once_delivery", "script::run_script.once"]
 
 # README's two sentences, of a house on one thread: what a relay may conclude, and what a client may.
 TO_A_RELAY = ["laws_relay::relays_may_conclude_over_any"]
@@ -38,7 +38,7 @@ PARTS = [
     ("IMAP", ["exactly_once::sessions_may_speak_imap"]),
     ("To a relay", TO_A_RELAY),
     ("To a client", TO_A_CLIENT),
-    ("Besides, to a client", ["laws_client::lists_are_current", "laws_client::appends_are_told", "laws_client::answers_are_cut"]),
+    ("Besides, to a client", ["laws_client::lists_are_current", "laws_client::appends_are_told"]),
     (
         "Of a server",
         [
