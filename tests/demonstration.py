@@ -14,7 +14,7 @@ import signal
 import subprocess
 import sys
 
-from serving_house import House, end_by_exit, free_ports
+from serving_house import House, end_by_exit, free_ports, ports_of
 
 TOP = os.path.dirname(os.path.dirname(os.path.abspath(__file__)))
 USERS = ("alice", "bob")
@@ -55,7 +55,7 @@ def is_shown(wanted, came):
 
 def on_ports_of(house, text):
     """A text with this server's ports in place of the shown ones."""
-    ports = dict(zip(SHOWN, map(str, [house.lmtp_port, *house.imap_ports])))
+    ports = dict(zip(SHOWN, map(str, [house.mail_port, *house.imap_ports])))
     return re.sub(r"\d+", lambda found: ports.get(found[0], found[0]), text)
 
 
@@ -80,7 +80,7 @@ def show(program):
 def hold_open(program):
     """Starts a server by the script, tells that to end, and says what was wrong, and of how many checks."""
     port = free_ports(2)
-    options = ["--lmtp-port", str(port), "--imap-port", str(port + 1), "--uidvalidity", "7", "alice"]
+    options = [*ports_of(port, port + 1), "--uidvalidity", "7", "alice"]
     script = os.path.join(TOP, "examples", "hold_open.sh")
     held = subprocess.Popen([script, program, "serve", *options], stdout=subprocess.PIPE, stderr=subprocess.PIPE)
     said = held.stdout.readline() + held.stdout.readline()

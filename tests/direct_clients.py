@@ -187,7 +187,7 @@ class Place:
         self.house.kill()
 
     def bring(self, text):
-        with smtplib.LMTP(ADDRESS, self.house.lmtp_port, timeout=PATIENCE) as relay:
+        with smtplib.LMTP(ADDRESS, self.house.mail_port, timeout=PATIENCE) as relay:
             relay.sendmail("s@b.example", ["alice@example.org"], text)
 
     def write(self, name, text):

@@ -35,7 +35,7 @@ LIMITS = {
     "lines of definitions over 150 columns": 6,
     "lines of code, definitions and proofs": 202400,
     "files that name an option (ring_max)": 49,
-    "files that name a setting of serve (lmtp_port)": 35,
+    "files that name a setting of serve (lmtp_port)": 29,
     "files that name a refusal of a copy (MailboxFull)": 39,
     "files that name a field of the house (visitors)": 43,
     "files that name a verb with an answer (STATUS)": 36,

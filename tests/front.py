@@ -35,7 +35,7 @@ sys.path.insert(0, str(TOP / "examples" / "pytest"))
 sys.dont_write_bytecode = True
 
 from post_house_server import Fault, Server
-from serving_house import end_by_exit, free_ports, share
+from serving_house import end_by_exit, free_ports, ports_of, share
 
 PASSWORDS = {"alice": "example-only-alice", "bob": "example-only-bob"}
 PATIENCE = 20
@@ -126,7 +126,7 @@ class House(Server):
 
     def come_again(self):
         """It starts anew on the ports that it had, behind a stop."""
-        ports = ["--lmtp-port", str(self.lmtp_port), "--imap-port", str(self.imap_ports[self.user])]
+        ports = ports_of(self.lmtp_port, self.imap_ports[self.user])
         words = [*self.command, "serve", "--uidvalidity", str(int(time.time())), *ports, *self.options, *self.mailboxes]
         self.process = subprocess.Popen(words, stdin=subprocess.PIPE, stdout=subprocess.PIPE, stderr=subprocess.PIPE)
         expect("whether it listens again", self._listens(), True)

@@ -25,7 +25,7 @@ import subprocess
 import sys
 
 from hostile.checks import PATIENCE, Tally, end
-from serving_house import ADDRESS, DoesNotServe, House, connect, end_by_exit, free_ports, is_gone
+from serving_house import ADDRESS, DoesNotServe, House, connect, end_by_exit, free_ports, is_gone, ports_of
 from talks import DELIVERED, GREETING, HELLO, RECIPIENT_OK, SENDER_OK, START_INPUT
 from talks import ImapTalk, MailTalk, Wrong, data_of, envelope, mail, opening, session, standing
 
@@ -92,7 +92,7 @@ def serving(program, users, options=(), port=None):
 def run(program, port, mailboxes, options=(), shell=(), **streams):
     """Runs a server on this port and those behind it to its end, where it leaves nobody who listens; and gives its status, its output and what it wrote to
     standard error."""
-    words = [*shell, program, "serve", "--lmtp-port", str(port), "--imap-port", str(port + 1), *options, *mailboxes]
+    words = [*shell, program, "serve", *ports_of(port, port + 1), *options, *mailboxes]
     with subprocess.Popen(words, stderr=subprocess.PIPE, start_new_session=True, **streams) as running:
         try:
             output, faults = running.communicate()
@@ -106,7 +106,7 @@ def run(program, port, mailboxes, options=(), shell=(), **streams):
 @contextlib.contextmanager
 def choosing(program, mail_port, first):
     """A server of alice and bob on these ports, where 0 is left to the system. Gives the ports that it says, on which it listens and on no others."""
-    words = [program, "serve", "--lmtp-port", str(mail_port), "--imap-port", str(first), "--uidvalidity", "7", "alice", "alice/Work", "bob"]
+    words = [program, "serve", *ports_of(mail_port, first), "--uidvalidity", "7", "alice", "alice/Work", "bob"]
     pipe = subprocess.PIPE
     with subprocess.Popen(words, stdin=pipe, stdout=pipe, stderr=pipe, bufsize=0, start_new_session=True) as running:
         try:
@@ -240,7 +240,7 @@ def tell_listeners(program):
 def listen_on_loopback(program):
     """A server listens on its ports of 127.0.0.1, and nowhere else; another address of the machine has them free."""
     with serving(program, ("alice", "bob")) as house:
-        ports = [house.lmtp_port, *house.imap_ports]
+        ports = [house.mail_port, *house.imap_ports]
         expect("where it listens", listens_on(house.pid, "tcp"), sorted(f"{LOOPBACK}:{port:04X}" for port in ports))
         expect("where it listens by IPv6", listens_on(house.pid, "tcp6"), [])
         expect("what is taken of another address", [port for port in ports if is_bound(OTHER_ADDRESS, port)], [])
@@ -331,7 +331,7 @@ def start_twice(program):
         house.close_input()
         expect_last(idling, BYE)
         expect_last(peer, DISMISSED)
-    with serving(program, ("alice",), port=house.lmtp_port) as other:
+    with serving(program, ("alice",), port=house.mail_port) as other:
         bring(other)
         select(session(other), 1)
 

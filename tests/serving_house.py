@@ -40,6 +40,11 @@ def free_ports(count):
     raise RuntimeError(f"there are no {count} free ports in a row")
 
 
+def ports_of(mail, first):
+    """The words that give a server its ports: that of mail, and that of the first user's sessions. 0 leaves one to the system."""
+    return ["--lmtp-port", str(mail), "--imap-port", str(first)]
+
+
 class DoesNotServe(RuntimeError):
     """A program that was to serve, and doesn't: its status, what it said of its listeners and what it was to say, and what it wrote to standard error."""
 
@@ -66,9 +71,9 @@ class House:
         raise fault
 
     def _start(self, program, options, environment):
-        self.lmtp_port = free_ports(1 + len(self.users)) if self._port is None else self._port
-        self.imap_ports = [self.lmtp_port + 1 + number for number in range(len(self.users))]
-        words = [program, "serve", "--lmtp-port", str(self.lmtp_port), "--imap-port", str(self.imap_ports[0]), *options, *self.users, *self._folders]
+        self.mail_port = free_ports(1 + len(self.users)) if self._port is None else self._port
+        self.imap_ports = [self.mail_port + 1 + number for number in range(len(self.users))]
+        words = [program, "serve", *ports_of(self.mail_port, self.imap_ports[0]), *options, *self.users, *self._folders]
         self._faults = tempfile.TemporaryFile()
         self.process = subprocess.Popen(
             words,
@@ -84,7 +89,7 @@ class House:
     def announcement(self):
         """What it has to say of its listeners, where it was told a UIDVALIDITY."""
         users = "".join(f"IMAP {ADDRESS}:{port} {user}\n" for port, user in zip(self.imap_ports, self.users))
-        return f"LMTP {ADDRESS}:{self.lmtp_port}\n{users}"
+        return f"LMTP {ADDRESS}:{self.mail_port}\n{users}"
 
     # Whether it said so of each listener.
     def _listens(self):
@@ -100,7 +105,7 @@ class House:
 
     def connect_lmtp(self):
         """A connection to the port that mail comes to."""
-        return connect(self.lmtp_port)
+        return connect(self.mail_port)
 
     def connect_imap(self, number):
         """A connection to the port of the user of this number."""
@@ -130,7 +135,7 @@ class House:
 
     def leaves_nothing(self):
         """Whether no process of its session is left, and nobody listens on its ports. Ask once it has ended."""
-        return is_gone(self.pid) and all(_is_free(port) for port in [self.lmtp_port, *self.imap_ports])
+        return is_gone(self.pid) and all(_is_free(port) for port in [self.mail_port, *self.imap_ports])
 
     def kill(self):
         """Ends it at once, if it still runs."""

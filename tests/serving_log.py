@@ -20,7 +20,7 @@ import sys
 import threading
 
 from hostile.checks import PATIENCE, Tally
-from serving_house import ADDRESS, House, connect, end_by_exit, free_ports
+from serving_house import ADDRESS, House, connect, end_by_exit, free_ports, ports_of
 from talks import DELIVERED, MailTalk, Wrong, data_of, envelope, mail, session, standing
 
 FULL = b"452 4.2.2 Mailbox full"
@@ -52,7 +52,7 @@ class Foldered(House):
 
     def announcement(self):
         users = "".join(f"IMAP {ADDRESS}:{port} {user}\n" for port, user in zip(self.imap_ports, ("alice", "bob")))
-        return f"LMTP {ADDRESS}:{self.lmtp_port}\n{users}"
+        return f"LMTP {ADDRESS}:{self.mail_port}\n{users}"
 
 
 def log_of(program, options, visit):
@@ -218,7 +218,7 @@ def bring_many(port):
 def hold_nobody_up(program):
     """Nobody reads the error stream while many messages come; then it is read to its end."""
     port = free_ports(3)
-    words = [program, "serve", "--lmtp-port", str(port), "--imap-port", str(port + 1), "--uidvalidity", "7", "--log"]
+    words = [program, "serve", *ports_of(port, port + 1), "--uidvalidity", "7", "--log"]
     words += ["--messages", "32768", "--ring", "65536", "alice", "bob"]
     pipe = subprocess.PIPE
     with subprocess.Popen(words, stdin=pipe, stdout=pipe, stderr=pipe, bufsize=0, start_new_session=True) as running:

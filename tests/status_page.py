@@ -23,7 +23,7 @@ import sys
 import time
 
 from hostile.checks import PATIENCE, Tally
-from serving_house import ADDRESS, connect, end_by_exit
+from serving_house import ADDRESS, connect, end_by_exit, ports_of
 from talks import DELIVERED, ImapTalk, MailTalk, Wrong, data_of, standing
 
 FULL = b"452 4.2.2 Mailbox full"
@@ -44,7 +44,7 @@ class Server:
     """A server of alice, bob and a folder of alice's, on ports that the system chooses, with a page."""
 
     def __init__(self, program, options=()):
-        words = [program, "serve", "--lmtp-port", "0", "--imap-port", "0", "--status-port", "0", "--uidvalidity", "7"]
+        words = [program, "serve", *ports_of(0, 0), "--status-port", "0", "--uidvalidity", "7"]
         words += ["--workers", "2", "--messages", "2", "--ring", "16", *options, "alice", "bob", "alice/Work"]
         pipe = subprocess.PIPE
         self.process = subprocess.Popen(words, stdin=pipe, stdout=pipe, stderr=pipe, start_new_session=True)
@@ -258,7 +258,7 @@ def ask_promtool(server):
 
 def refuse_ports(program):
     """Ports that the page can't have: too low, no number, or taken."""
-    words = ["serve", "--lmtp-port", "0", "--imap-port", "0", "--status-port"]
+    words = ["serve", *ports_of(0, 0), "--status-port"]
     for port in ("80", "1023", "+5", "65536", "x"):
         ended = subprocess.run([program, *words, port, "alice"], input=b"", capture_output=True, timeout=20, check=False)
         expect(f"port {port}", (ended.returncode, ended.stdout, b"--status-port" in ended.stderr), (2, b"", True))

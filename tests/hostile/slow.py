@@ -106,7 +106,7 @@ class Dawdling:
             bringing.deliver(["alice"], data_of(f"{number}", 60))
         bringing.quit()
         self.at_first = self.house.resident()
-        self.mail_crowd = Crowd(self.house.lmtp_port, b"LHLO c.example\r\nNOOP\r\nRSET\r\n" * 9, b"LHLO c.example\r\n" * 2000, b"LHLO c.example\r\n" + envelope(["bob"]))
+        self.mail_crowd = Crowd(self.house.mail_port, b"LHLO c.example\r\nNOOP\r\nRSET\r\n" * 9, b"LHLO c.example\r\n" * 2000, b"LHLO c.example\r\n" + envelope(["bob"]))
         question = b"d SELECT INBOX\r\n" + b"d UID FETCH 1:* (BODY.PEEK[])\r\n" * 100
         self.crowd = Crowd(self.house.imap_ports[0], b"b SELECT INBOX\r\nb IDLE\r\n" * 9, question, b"e NOOP ")
         self.number, self.longest = 0, 0.0
