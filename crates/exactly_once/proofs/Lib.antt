@@ -3,6 +3,7 @@ pub mod Told
 pub mod Lines
 pub mod Saying
 pub mod Copying
+pub mod EachExchange
 pub mod Whole
 pub mod Grown
 pub mod Calls
