@@ -54,16 +54,8 @@ IsShortPath (Ok (say.Mail path)) = length (sender_text path) ≤ most_sender
 IsShortPath r = Unit {0}
 
 form_short : (form : Form) (line : List ℕ) → Line_form form line → IsShortPath (judged form)
-form_short (Plain say.Lhlo) line is = tt
 form_short (Plain (say.Mail path)) line is = absurd is
-form_short (Plain (say.Rcpt path)) line is = tt
-form_short (Plain say.Data) line is = tt
-form_short (Plain say.Rset) line is = tt
-form_short (Plain say.Noop) line is = tt
-form_short (Plain say.Vrfy) line is = tt
-form_short (Plain say.Quit) line is = tt
-form_short (Plain say.Expn) line is = tt
-form_short (Plain say.Help) line is = tt
+form_short (Plain _) line is = tt
 form_short (Mail spelled path words) line is = by (is_too_long spelled path) (list_all is_body words) refl
   where
     by : (a b : Bool) → is_too_long spelled path ≡ a → IsShortPath (if a then Err PathTooLong else if b then Ok (say.Mail path) else Err Parameter)

@@ -67,12 +67,7 @@ list_tells_nothing listing reference pattern folders plain = by (asks_for_root r
 
 pub word_inner : (item : StatusItem) → list_all is_inner (status_word item ++ codes " ") ≡ true
 word_inner status.Messages = refl
-word_inner status.UidNext = refl
-word_inner status.UidValidity = refl
-word_inner status.Unseen = refl
-word_inner status.Deleted = refl
-word_inner status.Size = refl
-word_inner status.Recent = refl
+word_inner _ = refl
 
 number_small : (s : Status) (item : StatusItem) → IsCounted s → status_number s item < 10 ^ 64
 number_small s status.Messages h = omega (arith, h.messages)

@@ -88,15 +88,7 @@ line_named line command e =
 
 four : (command : Command) → length (word command) ≡ 4
 four say.Lhlo = refl
-four (say.Mail path) = refl
-four (say.Rcpt path) = refl
-four say.Data = refl
-four say.Rset = refl
-four say.Quit = refl
-four say.Noop = refl
-four say.Vrfy = refl
-four say.Expn = refl
-four say.Help = refl
+four _ = refl
 
 -- whether it begins with a word of four letters is whether that word is its own
 begins_as : (other name line : List ℕ) → Named name line → length name ≡ 4 → length other ≡ 4 → begins other line ≡ is_same name other
@@ -115,15 +107,7 @@ ask_by_word name =
 
 word_asks : (command : Command) → ask_by_word (word command) ≡ asks command
 word_asks say.Lhlo = refl
-word_asks (say.Mail path) = refl
-word_asks (say.Rcpt path) = refl
-word_asks say.Data = refl
-word_asks say.Rset = refl
-word_asks say.Quit = refl
-word_asks say.Noop = refl
-word_asks say.Vrfy = refl
-word_asks say.Expn = refl
-word_asks say.Help = refl
+word_asks _ = refl
 
 named_asks : (name line : List ℕ) → Named name line → length name ≡ 4 → ask_of line ≡ ask_by_word name
 named_asks name line h n =
@@ -149,17 +133,7 @@ IsNo reply = (is_code (codes "250") reply ≡ false) × (is_code (codes "354") r
 
 pub unchanged : (ask : Ask) (relay : Relay) (line reply : List ℕ) → IsNo reply → after_reply ask relay line reply ≡ relay
 unchanged AsksMail Between line reply h = ap (λ (b : Bool). if b then Begun line [] else Between) h.0
-unchanged AsksMail (Begun mail recipients) line reply h = refl
-unchanged AsksMail (Sends mail recipients lines) line reply h = refl
-unchanged AsksRcpt Between line reply h = refl
 unchanged AsksRcpt (Begun mail recipients) line reply h = ap (λ (b : Bool). if b then Begun mail (recipients ++ line ∷ []) else Begun mail recipients) h.0
-unchanged AsksRcpt (Sends mail recipients lines) line reply h = refl
-unchanged AsksData Between line reply h = refl
 unchanged AsksData (Begun mail recipients) line reply h = ap (λ (b : Bool). if b then Sends mail recipients [] else Begun mail recipients) h.1
-unchanged AsksData (Sends mail recipients lines) line reply h = refl
-unchanged AsksDrop Between line reply h = refl
 unchanged AsksDrop (Begun mail recipients) line reply h = ap (λ (b : Bool). if b then Between else Begun mail recipients) h.0
-unchanged AsksDrop (Sends mail recipients lines) line reply h = refl
-unchanged AsksOther Between line reply h = refl
-unchanged AsksOther (Begun mail recipients) line reply h = refl
-unchanged AsksOther (Sends mail recipients lines) line reply h = refl
+unchanged _ _ line reply h = refl

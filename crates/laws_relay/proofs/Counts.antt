@@ -53,25 +53,14 @@ rcpt_one directory (Waiting count) n path = refl
 rcpt_one directory Ended n path = refl
 
 data_one : (phase : Phase) (n : ℕ) → HasOne (on_data phase n)
-data_one Start n = refl
-data_one Ready n = refl
-data_one (Transaction sender []) n = refl
 data_one (Transaction sender (mailbox ∷ more)) n = refl
-data_one (Data sender recipients lines) n = refl
-data_one (Waiting count) n = refl
-data_one Ended n = refl
+data_one _ n = refl
 
 command_one : (directory : Directory) (s : Standing) (command : Command) → HasOne (on_command directory s command)
-command_one directory s say.Lhlo = refl
 command_one directory s (say.Mail path) = mail_one s.phase s.submitted path
 command_one directory s (say.Rcpt path) = rcpt_one directory s.phase s.submitted path
 command_one directory s say.Data = data_one s.phase s.submitted
-command_one directory s say.Rset = refl
-command_one directory s say.Noop = refl
-command_one directory s say.Vrfy = refl
-command_one directory s say.Quit = refl
-command_one directory s say.Expn = refl
-command_one directory s say.Help = refl
+command_one directory s _ = refl
 
 reading_one : (directory : Directory) (s : Standing) (r : Result Command CommandFault) → HasOne (on_reading directory s r)
 reading_one directory s (Ok command) = command_one directory s command

@@ -76,64 +76,13 @@ lines_uncut host NulByte h = one_uncut (reply_text host NulByte) refl
 -- they are its text
 lines_joined : (host : List ℕ) (reply : Reply) → joined (lines_of host reply) ≡ reply_text host reply ++ crlf
 lines_joined host Greeting = append-nil (reply_text host Greeting ++ crlf)
-lines_joined host LineTooLong = refl
-lines_joined host CommandUnknown = refl
-lines_joined host NotImplemented = refl
-lines_joined host BadClientName = refl
-lines_joined host InvalidArguments = refl
-lines_joined host PathTooLong = refl
-lines_joined host ParameterUnknown = refl
-lines_joined host BadSequence = refl
 lines_joined host Extensions = all_behind (codes "250-" ++ host ++ crlf) (codes "250-PIPELINING") crlf (codes "250-ENHANCEDSTATUSCODES") crlf (codes "250 8BITMIME") crlf
-lines_joined host SenderOk = refl
-lines_joined host DomainUnknown = refl
-lines_joined host MailboxUnknown = refl
-lines_joined host TooManyRecipients = refl
-lines_joined host RecipientOk = refl
-lines_joined host StartInput = refl
-lines_joined host Okay = refl
-lines_joined host CannotVerify = refl
-lines_joined host Bye = refl
-lines_joined host ShuttingDown = refl
-lines_joined host Delivered = refl
-lines_joined host ShardFull = refl
-lines_joined host ShardClosed = refl
-lines_joined host MailboxFull = refl
-lines_joined host OutOfMemory = refl
-lines_joined host NoUidLeft = refl
-lines_joined host MessageTooBig = refl
-lines_joined host NulByte = refl
+lines_joined host _ = refl
 
 -- and its last line is what is read of it
 last_read : (host : List ℕ) (reply : Reply) (rest : List (List ℕ)) → last_lines (lines_of host reply ++ rest) ≡ last_line host reply ∷ last_lines rest
 last_read host Greeting rest = refl
-last_read host LineTooLong rest = refl
-last_read host CommandUnknown rest = refl
-last_read host NotImplemented rest = refl
-last_read host BadClientName rest = refl
-last_read host InvalidArguments rest = refl
-last_read host PathTooLong rest = refl
-last_read host ParameterUnknown rest = refl
-last_read host BadSequence rest = refl
-last_read host Extensions rest = refl
-last_read host SenderOk rest = refl
-last_read host DomainUnknown rest = refl
-last_read host MailboxUnknown rest = refl
-last_read host TooManyRecipients rest = refl
-last_read host RecipientOk rest = refl
-last_read host StartInput rest = refl
-last_read host Okay rest = refl
-last_read host CannotVerify rest = refl
-last_read host Bye rest = refl
-last_read host ShuttingDown rest = refl
-last_read host Delivered rest = refl
-last_read host ShardFull rest = refl
-last_read host ShardClosed rest = refl
-last_read host MailboxFull rest = refl
-last_read host OutOfMemory rest = refl
-last_read host NoUidLeft rest = refl
-last_read host MessageTooBig rest = refl
-last_read host NulByte rest = refl
+last_read host _ rest = refl
 
 -- ---- all replies
 
