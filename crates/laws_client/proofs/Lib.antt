@@ -43,6 +43,7 @@ mod LastRests
 mod LastWords
 mod LastTurns
 mod EachCommand
+mod EachFlag
 mod Waiting
 mod WholeLines
 mod Submitted

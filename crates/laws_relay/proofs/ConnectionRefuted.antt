@@ -37,14 +37,14 @@ use Rattle.lmtp_machine.proofs.Calls.{wire-append}
 use Rattle.laws_relay.proofs.ServedHolds.{bobs, copy_of, hers, one_mailbox, right, told}
 use Rattle.laws_relay.proofs.ServedRefuted.{lost, never_sent, of_nobody, of_nothing, refused_stands, was_taken}
 
-abbrev host : List ℕ
+abbrev pub host : List ℕ
 host = codes "mx.example.org"
 
-abbrev house : Premises
+abbrev pub house : Premises
 house = record { directory = home; rooms = []; host = host; max_message = 1000; closings = [] }
 
 -- worker 2's connection 4
-abbrev setting : Setting
+abbrev pub setting : Setting
 setting = setting_at house 2 4
 
 -- ---- what may be seen

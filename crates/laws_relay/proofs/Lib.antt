@@ -48,3 +48,4 @@ mod ServedLines
 mod ServedHolds
 mod ServedRefuted
 mod ConnectionRefuted
+mod ConnectionHolds

@@ -44,7 +44,7 @@ abbrev pub bobs : Job
 bobs = copy_of for_bob 1 right
 
 -- hers was stored, and his refused
-abbrev as_told : Refusal → List Event
+abbrev pub as_told : Refusal → List Event
 as_told why = Sent hers 5 ∷ Sent bobs 6 ∷ Judged bobs (Refused why) 6 ∷ Judged hers (Stored 7) 5 ∷ []
 
 -- another mailbox has no copy of hers
