@@ -21,3 +21,5 @@ pub mod WorldAlone
 pub mod ToldRefuted
 pub mod OneRecord
 pub mod SpeechRefuted
+pub mod Lanes
+pub mod Histories

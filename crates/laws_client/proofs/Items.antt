@@ -34,7 +34,6 @@ use Rattle.laws_client.specs.Beliefs.{IsOf}
 use Rattle.laws_client.specs.Fetches.{AreToldNames, IsToldPart, IsToldSpan, AreToldParts, is_name_byte}
 use Rattle.laws_client.proofs.Bytes.{both, is_word, decimal_word, decimal_digits, decimal_says, first_of, rest_of}
 use Rattle.laws_client.proofs.Kept.{body_word, both_all, count_kept, each_date_byte, each_name_byte, item_kept, IsSmall, part_small, section_small, text_dated}
-use Rattle.laws_client.proofs.EachFlag.{by_flags}
 
 -- ---- words
 
@@ -190,42 +189,38 @@ abbrev pub flag_list : Flags → Bool → List ℕ
 flag_list f last = (40 ∷ (spaced (flag_words f) ++ 41 ∷ [])) ++ tail last
 
 flag_words_other : (a b c d e : Bool) → (list_all is_other (words (flag_list (flags_of a b c d e) true)) ≡ true) × (list_all is_other (words (flag_list (flags_of a b c d e) false)) ≡ true)
-flag_words_other a b c d e =
-    by_flags (λ a b c d e. (list_all is_other (words (flag_list (flags_of a b c d e) true)) ≡ true) × (list_all is_other (words (flag_list (flags_of a b c d e) false)) ≡ true)) (
-      (
-        ((((refl, refl), (refl, refl)), ((refl, refl), (refl, refl))), (((refl, refl), (refl, refl)), ((refl, refl), (refl, refl)))),
-        (
-          (
-            (
-              (refl, refl),
-              (refl, refl),
-            ),
-            ((refl, refl), (refl, refl)),
-          ),
-          (((refl, refl), (refl, refl)), ((refl, refl), (refl, refl))),
-        ),
-      ),
-      (
-        (
-          (
-            ((refl, refl), (refl, refl)),
-            ((refl, refl), (refl, refl)),
-          ),
-          (((refl, refl), (refl, refl)), ((refl, refl), (refl, refl))),
-        ),
-        (
-          (
-            ((refl, refl), (refl, refl)),
-            (
-              (refl, refl),
-              (refl, refl),
-            ),
-          ),
-          (((refl, refl), (refl, refl)), ((refl, refl), (refl, refl))),
-        ),
-      ),
-    )
-    a b c d e
+flag_words_other true true true true true = (refl, refl)
+flag_words_other true true true true false = (refl, refl)
+flag_words_other true true true false true = (refl, refl)
+flag_words_other true true true false false = (refl, refl)
+flag_words_other true true false true true = (refl, refl)
+flag_words_other true true false true false = (refl, refl)
+flag_words_other true true false false true = (refl, refl)
+flag_words_other true true false false false = (refl, refl)
+flag_words_other true false true true true = (refl, refl)
+flag_words_other true false true true false = (refl, refl)
+flag_words_other true false true false true = (refl, refl)
+flag_words_other true false true false false = (refl, refl)
+flag_words_other true false false true true = (refl, refl)
+flag_words_other true false false true false = (refl, refl)
+flag_words_other true false false false true = (refl, refl)
+flag_words_other true false false false false = (refl, refl)
+flag_words_other false true true true true = (refl, refl)
+flag_words_other false true true true false = (refl, refl)
+flag_words_other false true true false true = (refl, refl)
+flag_words_other false true true false false = (refl, refl)
+flag_words_other false true false true true = (refl, refl)
+flag_words_other false true false true false = (refl, refl)
+flag_words_other false true false false true = (refl, refl)
+flag_words_other false true false false false = (refl, refl)
+flag_words_other false false true true true = (refl, refl)
+flag_words_other false false true true false = (refl, refl)
+flag_words_other false false true false true = (refl, refl)
+flag_words_other false false true false false = (refl, refl)
+flag_words_other false false false true true = (refl, refl)
+flag_words_other false false false true false = (refl, refl)
+flag_words_other false false false false true = (refl, refl)
+flag_words_other false false false false false = (refl, refl)
 
 pub flag_list_other : (f : Flags) (last : Bool) → list_all is_other (words (flag_list f last)) ≡ true
 flag_list_other f true = (flag_words_other f.answered f.flagged f.deleted f.seen f.draft).0
@@ -406,21 +401,38 @@ item_harmless row (fetch.Body peek which span) last small told =
 -- ---- brackets of items
 
 flags_closed : (a b c d e : Bool) → open_behind false (flags_text (flags_of a b c d e)) ≡ false
-flags_closed a b c d e =
-    by_flags (λ a b c d e. open_behind false (flags_text (flags_of a b c d e)) ≡ false) (
-      ((((refl, refl), (refl, refl)), ((refl, refl), (refl, refl))), (((refl, refl), (refl, refl)), ((refl, refl), (refl, refl)))),
-      (
-        (
-          (
-            (refl, refl),
-            (refl, refl),
-          ),
-          ((refl, refl), (refl, refl)),
-        ),
-        (((refl, refl), (refl, refl)), ((refl, refl), (refl, refl))),
-      ),
-    )
-    a b c d e
+flags_closed true true true true true = refl
+flags_closed true true true true false = refl
+flags_closed true true true false true = refl
+flags_closed true true true false false = refl
+flags_closed true true false true true = refl
+flags_closed true true false true false = refl
+flags_closed true true false false true = refl
+flags_closed true true false false false = refl
+flags_closed true false true true true = refl
+flags_closed true false true true false = refl
+flags_closed true false true false true = refl
+flags_closed true false true false false = refl
+flags_closed true false false true true = refl
+flags_closed true false false true false = refl
+flags_closed true false false false true = refl
+flags_closed true false false false false = refl
+flags_closed false true true true true = refl
+flags_closed false true true true false = refl
+flags_closed false true true false true = refl
+flags_closed false true true false false = refl
+flags_closed false true false true true = refl
+flags_closed false true false true false = refl
+flags_closed false true false false true = refl
+flags_closed false true false false false = refl
+flags_closed false false true true true = refl
+flags_closed false false true true false = refl
+flags_closed false false true false true = refl
+flags_closed false false true false false = refl
+flags_closed false false false true true = refl
+flags_closed false false false true false = refl
+flags_closed false false false false true = refl
+flags_closed false false false false false = refl
 
 date_closed : (text : stored.Text) → open_behind false (date_item text) ≡ false
 date_closed text =

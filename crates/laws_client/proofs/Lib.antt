@@ -43,13 +43,10 @@ mod LastRests
 mod LastWords
 mod LastTurns
 mod EachCommand
-mod EachFlag
 mod Waiting
 mod WholeLines
 mod Submitted
 mod Firsts
-mod Lanes
-mod Histories
 mod Out
 mod Seated
 mod Answered

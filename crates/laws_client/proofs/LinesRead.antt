@@ -12,7 +12,6 @@ use Rattle.change_ring.specs.Words.{flag_words, spaced}
 use Rattle.laws_client.specs.Client.{Known, Messages, knowing, reads, literal_of, told, words, in_words, with_number, numbered, is_digit, number, closing, items, with_flags, with_uid, on_list, exists, expunged, fetched}
 use Rattle.laws_client.specs.ListTurns.{is_inner}
 use Rattle.laws_client.proofs.Bytes.{whole_line, words_cut, words_are_inner, decimal_word, decimal_says, decimal_digits, first_of, rest_of}
-use Rattle.laws_client.proofs.EachFlag.{by_flags}
 
 -- ---- any line that begins with a number
 
@@ -59,38 +58,72 @@ abbrev pub told_of : ℕ → Flags → Known → Known
 told_of uid f m = record { uid = Some uid; flags = Some (flag_words f) }
 
 flags_told : (a b c d e : Bool) (m : Known) → items (words (flags_part (flags_of a b c d e) ++ 41 ∷ [])) m ≡ with_flags (flag_words (flags_of a b c d e)) m
-flags_told a b c d e m =
-    by_flags (λ a b c d e. items (words (flags_part (flags_of a b c d e) ++ 41 ∷ [])) m ≡ with_flags (flag_words (flags_of a b c d e)) m) (
-      ((((refl, refl), (refl, refl)), ((refl, refl), (refl, refl))), (((refl, refl), (refl, refl)), ((refl, refl), (refl, refl)))),
-      (
-        (
-          (
-            (refl, refl),
-            (refl, refl),
-          ),
-          ((refl, refl), (refl, refl)),
-        ),
-        (((refl, refl), (refl, refl)), ((refl, refl), (refl, refl))),
-      ),
-    )
-    a b c d e
+flags_told true true true true true m = refl
+flags_told true true true true false m = refl
+flags_told true true true false true m = refl
+flags_told true true true false false m = refl
+flags_told true true false true true m = refl
+flags_told true true false true false m = refl
+flags_told true true false false true m = refl
+flags_told true true false false false m = refl
+flags_told true false true true true m = refl
+flags_told true false true true false m = refl
+flags_told true false true false true m = refl
+flags_told true false true false false m = refl
+flags_told true false false true true m = refl
+flags_told true false false true false m = refl
+flags_told true false false false true m = refl
+flags_told true false false false false m = refl
+flags_told false true true true true m = refl
+flags_told false true true true false m = refl
+flags_told false true true false true m = refl
+flags_told false true true false false m = refl
+flags_told false true false true true m = refl
+flags_told false true false true false m = refl
+flags_told false true false false true m = refl
+flags_told false true false false false m = refl
+flags_told false false true true true m = refl
+flags_told false false true true false m = refl
+flags_told false false true false true m = refl
+flags_told false false true false false m = refl
+flags_told false false false true true m = refl
+flags_told false false false true false m = refl
+flags_told false false false false true m = refl
+flags_told false false false false false m = refl
 
 pub flags_inner : (a b c d e : Bool) → list_all is_inner (flags_part (flags_of a b c d e) ++ 41 ∷ []) ≡ true
-flags_inner a b c d e =
-    by_flags (λ a b c d e. list_all is_inner (flags_part (flags_of a b c d e) ++ 41 ∷ []) ≡ true) (
-      ((((refl, refl), (refl, refl)), ((refl, refl), (refl, refl))), (((refl, refl), (refl, refl)), ((refl, refl), (refl, refl)))),
-      (
-        (
-          (
-            (refl, refl),
-            (refl, refl),
-          ),
-          ((refl, refl), (refl, refl)),
-        ),
-        (((refl, refl), (refl, refl)), ((refl, refl), (refl, refl))),
-      ),
-    )
-    a b c d e
+flags_inner true true true true true = refl
+flags_inner true true true true false = refl
+flags_inner true true true false true = refl
+flags_inner true true true false false = refl
+flags_inner true true false true true = refl
+flags_inner true true false true false = refl
+flags_inner true true false false true = refl
+flags_inner true true false false false = refl
+flags_inner true false true true true = refl
+flags_inner true false true true false = refl
+flags_inner true false true false true = refl
+flags_inner true false true false false = refl
+flags_inner true false false true true = refl
+flags_inner true false false true false = refl
+flags_inner true false false false true = refl
+flags_inner true false false false false = refl
+flags_inner false true true true true = refl
+flags_inner false true true true false = refl
+flags_inner false true true false true = refl
+flags_inner false true true false false = refl
+flags_inner false true false true true = refl
+flags_inner false true false true false = refl
+flags_inner false true false false true = refl
+flags_inner false true false false false = refl
+flags_inner false false true true true = refl
+flags_inner false false true true false = refl
+flags_inner false false true false true = refl
+flags_inner false false true false false = refl
+flags_inner false false false true true = refl
+flags_inner false false false true false = refl
+flags_inner false false false false true = refl
+flags_inner false false false false false = refl
 
 digits_closing : (ds : List ℕ) → list_all is_digit ds ≡ true → closing ds ≡ (0, ds)
 digits_closing [] h = refl

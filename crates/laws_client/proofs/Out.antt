@@ -20,8 +20,8 @@ use Rattle.imap_session.specs.Exchange.{Event as Happened, Sent}
 use Rattle.imap_session.specs.Store.{Met}
 use Rattle.exactly_once.proofs.Going.{below_itself}
 use Rattle.exactly_once.proofs.Grown.{heard_stays_heard}
-use Rattle.laws_client.proofs.Histories.{every_in}
-use Rattle.laws_client.proofs.Lanes.{Puts, PutsNoCopy, put_by, step_puts, step_puts_copy}
+use Rattle.exactly_once.proofs.Histories.{every_in}
+use Rattle.exactly_once.proofs.Lanes.{Puts, PutsNoCopy, put_by, step_puts, step_puts_copy}
 use Rattle.laws_client.proofs.Moved.{Calls, Moved, moved, rested, stepped}
 
 -- the copy of a message of the session with this serial at a seat

@@ -10,8 +10,8 @@ use Rattle.world.specs.Law.{StandsOnce, pair_of, pairs}
 use Rattle.world.specs.World.{Config, Event, IsWorld, World, shard_of}
 use Rattle.world.proofs.Always.{always, kept_always}
 use Rattle.world.proofs.Mails.{IsIn, is_in_contains}
-use Rattle.laws_client.proofs.Histories.{every_in, history_was_put}
-use Rattle.laws_client.proofs.Lanes.{put_by}
+use Rattle.exactly_once.proofs.Histories.{every_in, history_was_put}
+use Rattle.exactly_once.proofs.Lanes.{put_by}
 use Rattle.laws_client.proofs.Out.{Fate, IsOnly}
 
 -- the entry of a key that stands once

@@ -24,7 +24,6 @@ use Rattle.laws_client.specs.Flags.{Believes, FlagsOf, Point, counted}
 use Rattle.laws_client.specs.FlagTurns.{LeavesFlags}
 use Rattle.laws_client.specs.FlagLaws.{RowTellsFlags, StoreTellsFlags}
 use Rattle.laws_client.proofs.Moments.{now_is_moment}
-use Rattle.laws_client.proofs.EachFlag.{by_flags}
 
 -- ---- words
 
@@ -59,42 +58,38 @@ uid_keeps P Q row last a h rest behind m is =
 
 flags_named : (a b c d e : Bool) (rest : List (List ℕ))
     → (flag_names (words (flag_list (flags_of a b c d e) true) ++ rest) ≡ flag_words (flags_of a b c d e)) × (flag_names (words (flag_list (flags_of a b c d e) false) ++ rest) ≡ flag_words (flags_of a b c d e))
-flags_named a b c d e rest =
-    by_flags (λ a b c d e. (flag_names (words (flag_list (flags_of a b c d e) true) ++ rest) ≡ flag_words (flags_of a b c d e)) × (flag_names (words (flag_list (flags_of a b c d e) false) ++ rest) ≡ flag_words (flags_of a b c d e))) (
-      (
-        ((((refl, refl), (refl, refl)), ((refl, refl), (refl, refl))), (((refl, refl), (refl, refl)), ((refl, refl), (refl, refl)))),
-        (
-          (
-            (
-              (refl, refl),
-              (refl, refl),
-            ),
-            ((refl, refl), (refl, refl)),
-          ),
-          (((refl, refl), (refl, refl)), ((refl, refl), (refl, refl))),
-        ),
-      ),
-      (
-        (
-          (
-            ((refl, refl), (refl, refl)),
-            ((refl, refl), (refl, refl)),
-          ),
-          (((refl, refl), (refl, refl)), ((refl, refl), (refl, refl))),
-        ),
-        (
-          (
-            ((refl, refl), (refl, refl)),
-            (
-              (refl, refl),
-              (refl, refl),
-            ),
-          ),
-          (((refl, refl), (refl, refl)), ((refl, refl), (refl, refl))),
-        ),
-      ),
-    )
-    a b c d e
+flags_named true true true true true rest = (refl, refl)
+flags_named true true true true false rest = (refl, refl)
+flags_named true true true false true rest = (refl, refl)
+flags_named true true true false false rest = (refl, refl)
+flags_named true true false true true rest = (refl, refl)
+flags_named true true false true false rest = (refl, refl)
+flags_named true true false false true rest = (refl, refl)
+flags_named true true false false false rest = (refl, refl)
+flags_named true false true true true rest = (refl, refl)
+flags_named true false true true false rest = (refl, refl)
+flags_named true false true false true rest = (refl, refl)
+flags_named true false true false false rest = (refl, refl)
+flags_named true false false true true rest = (refl, refl)
+flags_named true false false true false rest = (refl, refl)
+flags_named true false false false true rest = (refl, refl)
+flags_named true false false false false rest = (refl, refl)
+flags_named false true true true true rest = (refl, refl)
+flags_named false true true true false rest = (refl, refl)
+flags_named false true true false true rest = (refl, refl)
+flags_named false true true false false rest = (refl, refl)
+flags_named false true false true true rest = (refl, refl)
+flags_named false true false true false rest = (refl, refl)
+flags_named false true false false true rest = (refl, refl)
+flags_named false true false false false rest = (refl, refl)
+flags_named false false true true true rest = (refl, refl)
+flags_named false false true true false rest = (refl, refl)
+flags_named false false true false true rest = (refl, refl)
+flags_named false false true false false rest = (refl, refl)
+flags_named false false false true true rest = (refl, refl)
+flags_named false false false true false rest = (refl, refl)
+flags_named false false false false true rest = (refl, refl)
+flags_named false false false false false rest = (refl, refl)
 
 pub list_named : (f : Flags) (last : Bool) (rest : List (List ℕ)) → flag_names (words (flag_list f last) ++ rest) ≡ flag_words f
 list_named f true rest = (flags_named f.answered f.flagged f.deleted f.seen f.draft rest).0

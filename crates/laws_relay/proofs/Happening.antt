@@ -16,7 +16,8 @@ use Rattle.house.specs.declared.event.Event.TheVariants.{Bytes, Vanish, Put, Tak
 use Rattle.laws_relay.specs.ReplyLaws.{IsInLine}
 use Rattle.exactly_once.specs.Promise.{Lines, Replies, Silence}
 use Rattle.laws_relay.specs.Record.{came_for, came_in, has_vanished, is_meant, told_in, told_to, vanishes_in}
-use Rattle.laws_relay.proofs.Moving.{IsNoPutOf, no_copy_grows, sent_by, step_puts, step_puts_copy}
+use Rattle.exactly_once.proofs.Lanes.{IsNoPutOf, put_by, step_puts, step_puts_copy}
+use Rattle.laws_relay.proofs.Moving.{no_copy_grows}
 use Rattle.laws_relay.proofs.Printed.{Past, WentOn, goes_on_known}
 use Rattle.laws_relay.proofs.Scenes.{Brings, BringsNothing, IsQuiet, SceneKnown, Says, at_caller, bytes_says, caller_known, hear_quiet, hear_says, here_known, no_session, nobody_known, nothing_brought, past_same, past_then, put_quiet, put_says, says_nothing, stander_known, went_gone, where_meant}
 use Rattle.laws_relay.proofs.Seated.{greeted_known, known_grows, more_known, own_copy, put_known, puts_of_another, unread_known}
@@ -102,10 +103,10 @@ module _ (sessions : Sessions) (still : AreStill sessions) where
   opens_here : (k : Setup) (pasts : (seat serial : ℕ) → Past) (s : Scene) (e : Event) (piece : Piece) (at : ℕ) (bytes : List ℕ) (o : Option Caller) → IsInLine k.host → SceneKnown sessions k pasts s
       → Says sessions k s at piece → Brings sessions s e at bytes false → s.caller at ≡ None
       → ConnectionGoes (terms_of k s.shut) false at (s.world.heard at) (more_waits (greeted (terms_of k s.shut) at (s.next at)) bytes) o (text_of k piece)
-      → at < k.connections → SeatKnown k at (s.world.heard at) (sent_by s.world at) (set_at s.next at (s.next at + 1) at) (past_then sessions k pasts s e piece at) o
+      → at < k.connections → SeatKnown k at (s.world.heard at) (put_by s.world at) (set_at s.next at (s.next at + 1) at) (past_then sessions k pasts s e piece at) o
   opens_here k pasts s e piece at bytes o in_line h says brings free goes l =
       let heard = s.world.heard at in
-      let sent = sent_by s.world at in
+      let sent = put_by s.world at in
       let serial = s.next at in
       let is : serial ≡ serial_of (s.next at) (s.caller at) = ap (serial_of (s.next at)) (sym free) in
       let seat = at_caller sessions k pasts s at None h l free in
@@ -121,10 +122,10 @@ module _ (sessions : Sessions) (still : AreStill sessions) where
   bytes_here : (k : Setup) (pasts : (seat serial : ℕ) → Past) (s : Scene) (e : Event) (piece : Piece) (at : ℕ) (bytes : List ℕ) (b : Caller) (o : Option Caller) → IsInLine k.host
       → SceneKnown sessions k pasts s → Says sessions k s at piece → Brings sessions s e at bytes false → s.caller at ≡ Some b → b.gone ≡ false
       → ConnectionGoes (terms_of k s.shut) false at (s.world.heard at) (more_waits b bytes) o (text_of k piece)
-      → at < k.connections → SeatKnown k at (s.world.heard at) (sent_by s.world at) (s.next at) (past_then sessions k pasts s e piece at) o
+      → at < k.connections → SeatKnown k at (s.world.heard at) (put_by s.world at) (s.next at) (past_then sessions k pasts s e piece at) o
   bytes_here k pasts s e piece at bytes b o in_line h says brings there read goes l =
       let heard = s.world.heard at in
-      let sent = sent_by s.world at in
+      let sent = put_by s.world at in
       let past = pasts at b.serial in
       let seat = at_caller sessions k pasts s at (Some b) h l there in
       let known = more_known (own_terms k) at heard sent past.came past.told bytes b read seat.there.1 in
@@ -162,11 +163,11 @@ module _ (sessions : Sessions) (still : AreStill sessions) where
   vanish_known k pasts s e piece at t in_line h brings says p =
       rw p.after (record { seats = caller_known sessions k pasts s e piece at [] true s.world p.left s.next h says brings (λ seat r c. c) (λ seat d n these u x. x) (λ seat d. refl) here })
     where
-      here : at < k.connections → SeatKnown k at (s.world.heard at) (sent_by s.world at) (s.next at) (past_then sessions k pasts s e piece at) p.left
+      here : at < k.connections → SeatKnown k at (s.world.heard at) (put_by s.world at) (s.next at) (past_then sessions k pasts s e piece at) p.left
       here l =
           let b = p.caller in
           let heard = s.world.heard at in
-          let sent = sent_by s.world at in
+          let sent = put_by s.world at in
           let past = pasts at b.serial in
           let seat = at_caller sessions k pasts s at (Some b) h l p.there in
           let known = unread_known (own_terms k) at heard sent past.came past.told b seat.there.1 in
@@ -186,11 +187,11 @@ module _ (sessions : Sessions) (still : AreStill sessions) where
             (λ seat d n. no_copy_grows seat s.world p.moved (step_puts k.config s.world (world.Put at (shard_of k.config p.copy.mailbox) p.copy) p.moved seat d p.step) n) (λ seat d. refl) here;
       })
     where
-      here : at < k.connections → SeatKnown k at (p.moved.heard at) (sent_by p.moved at) (s.next at) (past_then sessions k pasts s e piece at) p.left
+      here : at < k.connections → SeatKnown k at (p.moved.heard at) (put_by p.moved at) (s.next at) (past_then sessions k pasts s e piece at) p.left
       here l =
           let b = p.caller in
-          let sent = sent_by s.world at in
-          let later = sent_by p.moved at in
+          let sent = put_by s.world at in
+          let later = put_by p.moved at in
           let past = pasts at b.serial in
           let seat = at_caller sessions k pasts s at (Some b) h l p.there in
           let puts = step_puts_copy k.config s.world at (shard_of k.config p.copy.mailbox) p.copy p.moved p.step in
@@ -216,11 +217,11 @@ module _ (sessions : Sessions) (still : AreStill sessions) where
             (λ seat d n. no_copy_grows seat s.world p.moved (step_puts k.config s.world (world.Hear at) p.moved seat tt p.step) n) (λ seat d. refl) here;
       })
     where
-      here : at < k.connections → SeatKnown k at (p.moved.heard at) (sent_by p.moved at) (s.next at) (past_then sessions k pasts s e piece at) p.left
+      here : at < k.connections → SeatKnown k at (p.moved.heard at) (put_by p.moved at) (s.next at) (past_then sessions k pasts s e piece at) p.left
       here l =
           let b = p.caller in
-          let sent = sent_by s.world at in
-          let later = sent_by p.moved at in
+          let sent = put_by s.world at in
+          let later = put_by p.moved at in
           let past = pasts at b.serial in
           let seat = at_caller sessions k pasts s at (Some b) h l p.there in
           let hears : (r : Noted) → Contains (s.world.heard at) r → Contains (p.moved.heard at) r = λ r c. step_hears k.config s.world (world.Hear at) p.moved at r p.step c in
@@ -365,7 +366,7 @@ module _ (sessions : Sessions) (still : AreStill sessions) where
   -- the same histories
   scene_same : (k : Setup) (pasts now : (seat serial : ℕ) → Past) (s : Scene) → ((seat n : ℕ) → now seat n ≡ pasts seat n) → SceneKnown sessions k pasts s → SceneKnown sessions k now s
   scene_same k pasts now s e h = record {
-    seats = λ seat l. seat_stays k seat (s.world.heard seat) (s.world.heard seat) (sent_by s.world seat) (sent_by s.world seat) (s.next seat) (pasts seat) (now seat) (s.caller seat)
+    seats = λ seat l. seat_stays k seat (s.world.heard seat) (s.world.heard seat) (put_by s.world seat) (put_by s.world seat) (s.next seat) (pasts seat) (now seat) (s.caller seat)
         (λ r c. c) (λ n these t x. x) (e seat) (h.seats seat l);
   }
 

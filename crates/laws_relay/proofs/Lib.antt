@@ -14,7 +14,6 @@ mod ReplyRefuted
 mod Marked
 mod Seated
 mod Moving
-mod Histories
 mod Copies
 mod RecordFronts
 mod RecordJoined

@@ -16,9 +16,9 @@ use Rattle.laws_relay.specs.Concluded.{KnowsAll, MayConclude}
 use Rattle.laws_relay.specs.RecordLaws.{ByTheRecord, IsDone, OfAllEvents, OfScripts, unsaid_by}
 use Rattle.laws_relay.specs.Record.{came_for, has_vanished, new_house, told_to}
 use Rattle.laws_relay.proofs.Happening.{no_pasts, nothing_known, past_after, record_known}
-use Rattle.laws_relay.proofs.Histories.{every_in, history_was_put}
+use Rattle.exactly_once.proofs.Histories.{every_in, history_was_put}
 use Rattle.laws_relay.proofs.RecordJoined.{Concludes, connection_concludes, connection_knows_all}
-use Rattle.laws_relay.proofs.Moving.{sent_by}
+use Rattle.exactly_once.proofs.Lanes.{put_by}
 use Rattle.laws_relay.proofs.Printed.{HasEnded}
 use Rattle.laws_relay.proofs.Scenes.{SceneKnown}
 use Rattle.laws_relay.proofs.Seated.{IsOneOf}
@@ -60,7 +60,7 @@ module _ (sessions : Sessions) (still : AreStill sessions) where
           → (may : MayConclude k.host k.directory after.world seat serial (came_for sessions seat serial (new_house sessions k) entries ++ later) told unread)
           × (has_vanished sessions seat serial (new_house sessions k) entries ≡ false → may.unprinted ≡ unsaid_by serial (after.caller seat))
       each seat serial l m later told unread e =
-          let was = opened_below k seat (after.world.heard seat) (sent_by after.world seat) (after.next seat) (past_after sessions still k (no_pasts sessions still) (new_house sessions k) entries seat) (after.caller seat)
+          let was = opened_below k seat (after.world.heard seat) (put_by after.world seat) (after.next seat) (past_after sessions still k (no_pasts sessions still) (new_house sessions k) entries seat) (after.caller seat)
           (all.seats seat l) serial m in
           let c = subst (λ (n : ℕ). Concludes k.host k.directory after.world seat n (came_for sessions seat serial (new_house sessions k) entries ++ later) told unread (wire k.host was.known.unprinted)) was.serial_is
           (connection_concludes k.config after.world kept (always k.config steps after.world came) (own_terms k) in_line seat was.last (came_for sessions seat serial (new_house sessions k) entries)
@@ -71,8 +71,8 @@ module _ (sessions : Sessions) (still : AreStill sessions) where
           → (later : List ℕ) → KnowsAll k.host k.directory after.world seat serial (came_for sessions seat serial (new_house sessions k) entries ++ later) (told_to sessions k seat serial (new_house sessions k) entries)
       knows_all seat serial l m stays done later = by was.ended
         where
-          was : Opened k seat (after.world.heard seat) (sent_by after.world seat) serial (past_after sessions still k (no_pasts sessions still) (new_house sessions k) entries seat serial) (after.caller seat)
-          was = opened_below k seat (after.world.heard seat) (sent_by after.world seat) (after.next seat) (past_after sessions still k (no_pasts sessions still) (new_house sessions k) entries seat) (after.caller seat)
+          was : Opened k seat (after.world.heard seat) (put_by after.world seat) serial (past_after sessions still k (no_pasts sessions still) (new_house sessions k) entries seat serial) (after.caller seat)
+          was = opened_below k seat (after.world.heard seat) (put_by after.world seat) (after.next seat) (past_after sessions still k (no_pasts sessions still) (new_house sessions k) entries seat) (after.caller seat)
               (all.seats seat l) serial m
 
           there : was.last.gone ≡ false
@@ -101,7 +101,7 @@ module _ (sessions : Sessions) (still : AreStill sessions) where
           by (inr x) =
               let put = history_was_put k.config after.world kept mailbox entry there in
               let new = (all.seats (entry.0.key.seat) l).later entry.0.key.serial x in
-              absurd (none (every_in (IsOneOf entry.0.key.serial []) (Item (entry.0.key.seat) entry.0) (sent_by after.world (entry.0.key.seat) (shard_of k.config mailbox))
+              absurd (none (every_in (IsOneOf entry.0.key.serial []) (Item (entry.0.key.seat) entry.0) (put_by after.world (entry.0.key.seat) (shard_of k.config mailbox))
               (new.1 (shard_of k.config mailbox)) put.1 refl))
 
   pub of_all_events : OfAllEvents sessions

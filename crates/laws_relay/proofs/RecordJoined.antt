@@ -38,8 +38,8 @@ use Rattle.world.proofs.Mails.{IsIn, is_in_contains}
 use Rattle.laws_relay.specs.Concluded.{IsHandedOver, IsKeyOf, KnowsAll, MayConclude, StandsAsSent, StandsNowhere, fate_at, key_at, message_at}
 use Rattle.laws_relay.proofs.Copies.{HeardOf, IsCopy, copy_at, copy_key, each_is_copy, heard_at, named_at}
 use Rattle.laws_relay.proofs.RecordFronts.{IsFrontOf, all_replied, front_at, judged_at, stored_submitted}
-use Rattle.laws_relay.proofs.Histories.{every_in, history_was_put}
-use Rattle.laws_relay.proofs.Moving.{sent_by}
+use Rattle.exactly_once.proofs.Histories.{every_in, history_was_put}
+use Rattle.exactly_once.proofs.Lanes.{put_by}
 use Rattle.laws_relay.proofs.Seated.{AreFrom, AreHeard, IsKnown, IsOneOf, messages_from}
 
 -- ---- what is known of one connection
@@ -58,7 +58,7 @@ record Facts (k : Config) (w : World) (host : List ℕ) (directory : Directory) 
   pub answers_are : all_told fates ≡ answered
   pub from : AreFrom setting (length directory.homes) 0 (judged ++ pending)
   pub heard : AreHeard (w.heard setting.seat) judged answered
-  pub sent : (t : ℕ) → Every (IsOneOf setting.serial (copies_of (judged ++ pending))) (sent_by w setting.seat t)
+  pub sent : (t : ℕ) → Every (IsOneOf setting.serial (copies_of (judged ++ pending))) (put_by w setting.seat t)
   pub stored : (i j : ℕ) → is_taken (message_at known i) j ≡ true → was_stored (fate_at fates i) j ≡ true
   pub tells : (i j : ℕ) → j < length (message_at known i).replies → is_taken (message_at known i) j ≡ was_stored (fate_at fates i) j
 
@@ -87,9 +87,9 @@ entry_is_copy : (k : Config) (w : World) (host : List ℕ) (directory : Director
 entry_is_copy k w host directory setting known whole f m a there seat serial =
     let put = history_was_put k w f.kept m a there in
     let s : ℕ = shard_of k m in
-    let mine : IsIn (Item setting.seat a.0) (sent_by w setting.seat s) = subst (λ (p : ℕ). IsIn (Item p a.0) (sent_by w p s)) seat put.1 in
+    let mine : IsIn (Item setting.seat a.0) (put_by w setting.seat s) = subst (λ (p : ℕ). IsIn (Item p a.0) (put_by w p s)) seat put.1 in
     let copies : List Job = copies_of (f.judged ++ f.pending) in
-    let own : Contains copies a.0 = every_in (IsOneOf setting.serial copies) (Item setting.seat a.0) (sent_by w setting.seat s) (f.sent s) mine serial in
+    let own : Contains copies a.0 = every_in (IsOneOf setting.serial copies) (Item setting.seat a.0) (put_by w setting.seat s) (f.sent s) mine serial in
     let each : Every (IsCopy setting 0 (f.judged ++ f.pending)) copies = each_is_copy setting (length directory.homes) 0 (f.judged ++ f.pending) f.from in
     (All-contains (IsCopy setting 0 (f.judged ++ f.pending)) copies a.0 (all_of_every (IsCopy setting 0 (f.judged ++ f.pending)) copies each) own, put.0)
 
@@ -249,7 +249,7 @@ wire-append : (host : List ℕ) (xs ys : List Reply) → wire host (xs ++ ys) �
 wire-append host xs ys = flat_map-append _ xs ys
 
 abbrev facts_of : (k : Config) (w : World) → Kept k w → Headline k w → (g : Terms) (seat : ℕ) (b : Caller) (came told : List ℕ)
-    → (h : IsKnown g seat (w.heard seat) (sent_by w seat) came told b)
+    → (h : IsKnown g seat (w.heard seat) (put_by w seat) came told b)
     → (known whole : List Handed) → AreCut known whole → MayForget g.host g.directory known whole h.submitted h.answered
     → Facts k w g.host g.directory (setting_of g seat b.serial) known whole
 facts_of k w kept world g seat b came told h known whole front m = record {
@@ -267,7 +267,7 @@ facts_of k w kept world g seat b came told h known whole front m = record {
   from = subst (AreFrom (setting_of g seat b.serial) (length g.directory.homes) 0) h.parts
       (messages_from (setting_of g seat b.serial) g.directory h.taken h.said h.submitted h.answered b.talk.at h.come);
   heard = h.heard_each;
-  sent = λ t. subst (λ (ss : List Submission). Every (IsOneOf b.serial (copies_of ss)) (sent_by w seat t)) h.parts (h.sent_each t);
+  sent = λ t. subst (λ (ss : List Submission). Every (IsOneOf b.serial (copies_of ss)) (put_by w seat t)) h.parts (h.sent_each t);
   stored = m.stored;
   tells = m.tells;
 }
@@ -312,7 +312,7 @@ pub record Concludes (host : List ℕ) (directory : Directory) (w : World) (seat
   pub rest : may.unprinted ≡ unprinted
 
 pub connection_concludes : (k : Config) (w : World) → Kept k w → Headline k w → (g : Terms) → IsInLine g.host → (seat : ℕ) (b : Caller) (came told : List ℕ)
-    → (h : IsKnown g seat (w.heard seat) (sent_by w seat) came told b)
+    → (h : IsKnown g seat (w.heard seat) (put_by w seat) came told b)
     → (later heard unheard : List ℕ) → heard ++ unheard ≡ told → Concludes g.host g.directory w seat b.serial (came ++ later) heard unheard (wire g.host h.unprinted)
 connection_concludes k w kept world g in_line seat b came told h later heard unheard e =
     let setting : Setting = setting_of g seat b.serial in
@@ -322,10 +322,10 @@ connection_concludes k w kept world g in_line seat b came told h later heard unh
     let known : List Handed = handed_over sent heard in
     let whole : List Handed = handed_over sent (heard ++ untold) in
     let said : heard ++ untold ≡ wire g.host (Greeting ∷ h.said) =
-    sym (append_assoc heard unheard (wire g.host h.unprinted)) ∙ ap (λ (l : List ℕ). l ++ wire g.host h.unprinted) e ∙ said_is g seat (w.heard seat) (sent_by w seat) came told b h in
+    sym (append_assoc heard unheard (wire g.host h.unprinted)) ∙ ap (λ (l : List ℕ). l ++ wire g.host h.unprinted) e ∙ said_is g seat (w.heard seat) (put_by w seat) came told b h in
     let m = concludes g.host setting g.directory h.taken h.said h.submitted h.answered b.talk.at in_line h.come (h.waited ++ later) heard untold said in
     let f : Facts k w g.host g.directory setting known whole = facts_of k w kept world g seat b came told h known whole (fronts_are_cut sent heard untold) m in
-    subst (λ (x : List ℕ). Concludes g.host g.directory w seat b.serial x heard unheard unprinted) (sent_is g seat (w.heard seat) (sent_by w seat) came told later b h)
+    subst (λ (x : List ℕ). Concludes g.host g.directory w seat b.serial x heard unheard unprinted) (sent_is g seat (w.heard seat) (put_by w seat) came told later b h)
     (record { may = may_of k w world g seat b.serial sent heard unheard unprinted untold h.said refl said f; rest = refl })
 
 -- ---- where nothing more is to be said
@@ -366,7 +366,7 @@ each_is_read k w host directory setting known whole f all none mailbox entry the
     by (inr l) = absurd (omega (arith, l, within))
 
 pub connection_knows_all : (k : Config) (w : World) → Kept k w → Headline k w → (g : Terms) → IsInLine g.host → (seat : ℕ) (b : Caller) (came told : List ℕ)
-    → IsKnown g seat (w.heard seat) (sent_by w seat) came told b → b.gone ≡ false → b.talk.pending ≡ [] → b.talk.unsaid ≡ []
+    → IsKnown g seat (w.heard seat) (put_by w seat) came told b → b.gone ≡ false → b.talk.pending ≡ [] → b.talk.unsaid ≡ []
     → (later : List ℕ) → KnowsAll g.host g.directory w seat b.serial (came ++ later) told
 connection_knows_all k w kept world g in_line seat b came told h there none silent later =
     let setting : Setting = setting_of g seat b.serial in
@@ -374,7 +374,7 @@ connection_knows_all k w kept world g in_line seat b came told h there none sile
     let known : List Handed = handed_over sent told in
     let whole : List Handed = handed_over sent (told ++ []) in
     let said : told ++ [] ≡ wire g.host (Greeting ∷ h.said) =
-    ap (λ (l : List ℕ). told ++ l) (sym (sym (h.says there) ∙ silent)) ∙ said_is g seat (w.heard seat) (sent_by w seat) came told b h in
+    ap (λ (l : List ℕ). told ++ l) (sym (sym (h.says there) ∙ silent)) ∙ said_is g seat (w.heard seat) (put_by w seat) came told b h in
     let m = concludes g.host setting g.directory h.taken h.said h.submitted h.answered b.talk.at in_line h.come (h.waited ++ later) told [] said in
     let f : Facts k w g.host g.directory setting known whole = facts_of k w kept world g seat b came told h known whole (fronts_are_cut sent told []) m in
     let all : KnowsAll g.host g.directory w seat b.serial sent told = record {
@@ -382,4 +382,4 @@ connection_knows_all k w kept world g in_line seat b came told h there none sile
       none_untold = refl;
       read = each_is_read k w g.host g.directory setting known whole f (ap (handed_over sent) (sym (append-nil told))) none;
     } in
-    subst (λ (x : List ℕ). KnowsAll g.host g.directory w seat b.serial x told) (sent_is g seat (w.heard seat) (sent_by w seat) came told later b h) all
+    subst (λ (x : List ℕ). KnowsAll g.host g.directory w seat b.serial x told) (sent_is g seat (w.heard seat) (put_by w seat) came told later b h) all

@@ -18,7 +18,7 @@ use Rattle.house.specs.declared.event.Event.{Event}
 use Rattle.house.specs.declared.event.Event.TheVariants.{Bytes, Put, Hear}
 use Rattle.exactly_once.specs.Promise.{Lines, Replies, Silence}
 use Rattle.laws_relay.specs.Record.{came_in, is_meant, told_in, vanishes_in}
-use Rattle.laws_relay.proofs.Moving.{sent_by}
+use Rattle.exactly_once.proofs.Lanes.{put_by}
 use Rattle.laws_relay.proofs.Printed.{Past, WentOn}
 use Rattle.laws_relay.proofs.Seated.{SentGrows}
 use Rattle.laws_relay.proofs.Seats.{ArePast, IsNew, SeatKnown, own_terms, seat_stays, seat_went}
@@ -51,7 +51,7 @@ module _ (sessions : Sessions) where
 
   -- what is known of each seat, by what came for each of its connections and what it was told so far
   pub record SceneKnown (k : Setup) (pasts : (seat serial : ℕ) → Past) (s : Scene) : Type 0 where
-    pub seats : (seat : ℕ) → seat < k.connections → SeatKnown k seat (s.world.heard seat) (sent_by s.world seat) (s.next seat) (pasts seat) (s.caller seat)
+    pub seats : (seat : ℕ) → seat < k.connections → SeatKnown k seat (s.world.heard seat) (put_by s.world seat) (s.next seat) (pasts seat) (s.caller seat)
 
   -- what came and what was told by then
   abbrev pub past_then : Setup → ((seat serial : ℕ) → Past) → Scene → Event → Piece → (seat serial : ℕ) → Past
@@ -182,9 +182,9 @@ module _ (sessions : Sessions) where
 
   pub nobody_known : (k : Setup) (pasts : (seat serial : ℕ) → Past) (s : Scene) (e : Event) (piece : Piece) (v : World) → SceneKnown k pasts s → Bears k.connections s.world v
       → BringsNothing s e → IsQuiet k s piece
-      → (seat : ℕ) → seat < k.connections → SeatKnown k seat (v.heard seat) (sent_by v seat) (s.next seat) (past_then k pasts s e piece seat) (s.caller seat)
+      → (seat : ℕ) → seat < k.connections → SeatKnown k seat (v.heard seat) (put_by v seat) (s.next seat) (past_then k pasts s e piece seat) (s.caller seat)
   nobody_known k pasts s e piece v h bears none quiet seat l =
-      seat_stays k seat (s.world.heard seat) (v.heard seat) (sent_by s.world seat) (sent_by v seat) (s.next seat) (pasts seat) (past_then k pasts s e piece seat) (s.caller seat)
+      seat_stays k seat (s.world.heard seat) (v.heard seat) (put_by s.world seat) (put_by v seat) (s.next seat) (pasts seat) (past_then k pasts s e piece seat) (s.caller seat)
       (bears.heard seat) (bears.sent seat l)
       (λ n. past_is (pasts seat n) [] [] false (came_in sessions seat n s e) (told_in sessions k seat n s piece) (vanishes_in sessions seat n s e) (none.came seat n) (quiet seat n) (none.gone seat n) ∙ past_same
       (pasts seat n)) (h.seats seat l)
@@ -214,47 +214,47 @@ module _ (sessions : Sessions) where
   -- one seat, and all others
   pub caller_known : (k : Setup) (pasts : (seat serial : ℕ) → Past) (s : Scene) (e : Event) (piece : Piece) (at : ℕ) (bytes : List ℕ) (vanishes : Bool) (v : World) (o : Option Caller)
       (next : ℕ → ℕ) → SceneKnown k pasts s → Says k s at piece → Brings s e at bytes vanishes
-      → ((seat : ℕ) (r : Noted) → Contains (s.world.heard seat) r → Contains (v.heard seat) r) → ((seat : ℕ) → seat ≢ at → (n : ℕ) → SentGrows n (sent_by s.world seat) (sent_by v seat))
+      → ((seat : ℕ) (r : Noted) → Contains (s.world.heard seat) r → Contains (v.heard seat) r) → ((seat : ℕ) → seat ≢ at → (n : ℕ) → SentGrows n (put_by s.world seat) (put_by v seat))
       → ((seat : ℕ) → seat ≢ at → next seat ≡ s.next seat)
-      → (at < k.connections → SeatKnown k at (v.heard at) (sent_by v at) (next at) (past_then k pasts s e piece at) o)
-      → (seat : ℕ) → seat < k.connections → SeatKnown k seat (v.heard seat) (sent_by v seat) (next seat) (past_then k pasts s e piece seat) (set_at s.caller at o seat)
+      → (at < k.connections → SeatKnown k at (v.heard at) (put_by v at) (next at) (past_then k pasts s e piece at) o)
+      → (seat : ℕ) → seat < k.connections → SeatKnown k seat (v.heard seat) (put_by v seat) (next seat) (past_then k pasts s e piece seat) (set_at s.caller at o seat)
   caller_known k pasts s e piece at bytes vanishes v o next h says brings heard sent same here seat l = by (eqb_tells seat at)
     where
       by : ((eqb seat at ≡ true) × (seat ≡ at)) ⊎ ((eqb seat at ≡ false) × (seat ≢ at))
-          → SeatKnown k seat (v.heard seat) (sent_by v seat) (next seat) (past_then k pasts s e piece seat) (set_at s.caller at o seat)
-      by (inl (t, x)) = rw t (subst (λ (j : ℕ). SeatKnown k j (v.heard j) (sent_by v j) (next j) (past_then k pasts s e piece j) o) (sym x) (here (subst (λ (j : ℕ). j < k.connections) x l)))
-      by (inr (t, x)) = rw t (subst (λ (m : ℕ). SeatKnown k seat (v.heard seat) (sent_by v seat) m (past_then k pasts s e piece seat) (s.caller seat)) (sym (same seat x))
-          (seat_stays k seat (s.world.heard seat) (v.heard seat) (sent_by s.world seat) (sent_by v seat) (s.next seat) (pasts seat) (past_then k pasts s e piece seat) (s.caller seat)
+          → SeatKnown k seat (v.heard seat) (put_by v seat) (next seat) (past_then k pasts s e piece seat) (set_at s.caller at o seat)
+      by (inl (t, x)) = rw t (subst (λ (j : ℕ). SeatKnown k j (v.heard j) (put_by v j) (next j) (past_then k pasts s e piece j) o) (sym x) (here (subst (λ (j : ℕ). j < k.connections) x l)))
+      by (inr (t, x)) = rw t (subst (λ (m : ℕ). SeatKnown k seat (v.heard seat) (put_by v seat) m (past_then k pasts s e piece seat) (s.caller seat)) (sym (same seat x))
+          (seat_stays k seat (s.world.heard seat) (v.heard seat) (put_by s.world seat) (put_by v seat) (s.next seat) (pasts seat) (past_then k pasts s e piece seat) (s.caller seat)
           (heard seat) (sent seat x) (λ n. other_past k pasts s e piece at bytes vanishes says brings seat n (meant_elsewhere seat n s at x)) (h.seats seat l)))
 
   -- its connection, which has this serial, went on
   pub here_known : (k : Setup) (pasts : (seat serial : ℕ) → Past) (s : Scene) (e : Event) (piece : Piece) (at : ℕ) (bytes : List ℕ) (vanishes : Bool) (v : World) (o : Option Caller)
       (next : ℕ → ℕ) (serial : ℕ) (says : Says k s at piece) → Brings s e at bytes vanishes
       → serial ≡ serial_of (s.next at) (s.caller at) → next at ≡ serial + 1 → ((r : Noted) → Contains (s.world.heard at) r → Contains (v.heard at) r)
-      → ((n : ℕ) → n ≢ serial → SentGrows n (sent_by s.world at) (sent_by v at))
-      → ArePast k at (s.world.heard at) (sent_by s.world at) (pasts at) serial → ((n : ℕ) → serial + 1 ≤ n → IsNew (sent_by s.world at) (pasts at) n)
-      → WentOn (own_terms k) at (v.heard at) (sent_by v at)
+      → ((n : ℕ) → n ≢ serial → SentGrows n (put_by s.world at) (put_by v at))
+      → ArePast k at (s.world.heard at) (put_by s.world at) (pasts at) serial → ((n : ℕ) → serial + 1 ≤ n → IsNew (put_by s.world at) (pasts at) n)
+      → WentOn (own_terms k) at (v.heard at) (put_by v at)
       (record { came = (pasts at serial).came ++ bytes; told = (pasts at serial).told ++ wire k.host says.replies; gone = (pasts at serial).gone || vanishes }) serial o
-      → SeatKnown k at (v.heard at) (sent_by v at) (next at) (past_then k pasts s e piece at) o
+      → SeatKnown k at (v.heard at) (put_by v at) (next at) (past_then k pasts s e piece at) o
   here_known k pasts s e piece at bytes vanishes v o next serial says brings is follows heard sent past new went =
-      seat_went k at (s.world.heard at) (v.heard at) (sent_by s.world at) (sent_by v at) (next at) (pasts at) (past_then k pasts s e piece at) o serial heard sent
+      seat_went k at (s.world.heard at) (v.heard at) (put_by s.world at) (put_by v at) (next at) (pasts at) (past_then k pasts s e piece at) o serial heard sent
       (λ n d. other_past k pasts s e piece at bytes vanishes says brings at n (meant_other n s at (λ x. d (x ∙ sym is)))) follows past new
-      (subst (λ (x : Past). WentOn (own_terms k) at (v.heard at) (sent_by v at) x serial o)
+      (subst (λ (x : Past). WentOn (own_terms k) at (v.heard at) (put_by v at) x serial o)
       (sym (more_past k pasts s e piece at bytes vanishes says brings at serial (meant_here serial s at is))) went)
 
   -- who stands at a seat
   pub at_caller : (k : Setup) (pasts : (seat serial : ℕ) → Past) (s : Scene) (at : ℕ) (o : Option Caller) → SceneKnown k pasts s → at < k.connections → s.caller at ≡ o
-      → SeatKnown k at (s.world.heard at) (sent_by s.world at) (s.next at) (pasts at) o
-  at_caller k pasts s at o h l there = subst (SeatKnown k at (s.world.heard at) (sent_by s.world at) (s.next at) (pasts at)) there (h.seats at l)
+      → SeatKnown k at (s.world.heard at) (put_by s.world at) (s.next at) (pasts at) o
+  at_caller k pasts s at o h l there = subst (SeatKnown k at (s.world.heard at) (put_by s.world at) (s.next at) (pasts at)) there (h.seats at l)
 
   -- the one at a seat went on
   pub stander_known : (k : Setup) (pasts : (seat serial : ℕ) → Past) (s : Scene) (e : Event) (piece : Piece) (at : ℕ) (bytes : List ℕ) (vanishes : Bool) (v : World) (b : Caller)
       (o : Option Caller) (says : Says k s at piece) → Brings s e at bytes vanishes
-      → s.caller at ≡ Some b → ((r : Noted) → Contains (s.world.heard at) r → Contains (v.heard at) r) → ((n : ℕ) → n ≢ b.serial → SentGrows n (sent_by s.world at) (sent_by v at))
-      → SeatKnown k at (s.world.heard at) (sent_by s.world at) (s.next at) (pasts at) (Some b)
-      → WentOn (own_terms k) at (v.heard at) (sent_by v at)
+      → s.caller at ≡ Some b → ((r : Noted) → Contains (s.world.heard at) r → Contains (v.heard at) r) → ((n : ℕ) → n ≢ b.serial → SentGrows n (put_by s.world at) (put_by v at))
+      → SeatKnown k at (s.world.heard at) (put_by s.world at) (s.next at) (pasts at) (Some b)
+      → WentOn (own_terms k) at (v.heard at) (put_by v at)
       (record { came = (pasts at b.serial).came ++ bytes; told = (pasts at b.serial).told ++ wire k.host says.replies; gone = (pasts at b.serial).gone || vanishes }) b.serial o
-      → SeatKnown k at (v.heard at) (sent_by v at) (s.next at) (past_then k pasts s e piece at) o
+      → SeatKnown k at (v.heard at) (put_by v at) (s.next at) (past_then k pasts s e piece at) o
   stander_known k pasts s e piece at bytes vanishes v b o says brings there heard sent h went =
       here_known k pasts s e piece at bytes vanishes v o s.next b.serial says brings (ap (serial_of (s.next at)) (sym there)) h.there.0 heard sent h.there.3
       (λ n l. h.later n (subst (λ (x : ℕ). x ≤ n) (sym h.there.0) l)) went

@@ -30,6 +30,7 @@ use Rattle.lmtp_machine.specs.Kept.{IsMessage}
 use Rattle.house_peers.specs.ConnectionStands.{IsAwaited}
 use Rattle.house_peers.specs.Caller.{GoesOn, Caller, IsAnswered, Proceeds, Terms, Works, answers, copies_of, fades, greeted, keys_of, lingers, more_waits, setting_of, stalls, talks, unread, waits, works}
 use Rattle.house_peers.specs.inner.Meeting.{meets}
+use Rattle.exactly_once.proofs.Lanes.{Puts}
 use Rattle.laws_relay.specs.Connections.{HasCome}
 use Rattle.laws_relay.specs.Numbers.{no_submission}
 use Rattle.laws_relay.proofs.Connected.{begins, takes_bytes, tells_verdicts}
@@ -410,10 +411,6 @@ greeted_known g shut seat serial heard sent none = record {
     start m e = cc
 
 -- ---- it puts a copy
-
--- the copy joined a lane, or was refused at once
-abbrev pub Puts : ℕ → Job → (sent later : ℕ → List (Entry Job)) → Type 0
-Puts seat copy sent later = (t : ℕ) → (later t ≡ sent t) ⊎ (later t ≡ sent t ++ Item seat copy ∷ [])
 
 -- it is no other connection's
 pub puts_of_another : (seat n : ℕ) (copy : Job) (sent later : ℕ → List (Entry Job)) → Puts seat copy sent later → (copy.key.serial ≡ n → ⊥) → SentGrows n sent later

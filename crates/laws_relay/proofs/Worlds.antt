@@ -3,14 +3,15 @@ use Rattle.std.proofs.Common.{ℕ, ◌<◌, List, [], ◌∷◌, Contains, refl,
 use Rattle.delivery_token.specs.declared.log.Noted.{Noted}
 use Rattle.world.specs.World.{Config, World, Event, Step}
 use Rattle.exactly_once.proofs.Grown.{heard_stays_heard}
-use Rattle.laws_relay.proofs.Moving.{IsNoPutOf, no_copy_grows, same_lanes, sent_by, step_puts}
+use Rattle.exactly_once.proofs.Lanes.{IsNoPutOf, put_by, step_puts}
+use Rattle.laws_relay.proofs.Moving.{no_copy_grows, same_lanes}
 use Rattle.laws_relay.proofs.Seated.{SentGrows}
 use Rattle.laws_relay.specs.Sessions.{IsStill}
 
 -- more was heard at each seat, and none of the first seats put a copy
 pub record Bears (connections : ℕ) (w v : World) : Type 0 where
   pub heard : (seat : ℕ) (r : Noted) → Contains (w.heard seat) r → Contains (v.heard seat) r
-  pub sent : (seat : ℕ) → seat < connections → (n : ℕ) → SentGrows n (sent_by w seat) (sent_by v seat)
+  pub sent : (seat : ℕ) → seat < connections → (n : ℕ) → SentGrows n (put_by w seat) (put_by v seat)
 
 pub bears_then : (connections : ℕ) (w u v : World) → Bears connections w u → Bears connections u v → Bears connections w v
 bears_then connections w u v a b = record {

@@ -14,7 +14,7 @@ use Rattle.world.proofs.Always.{accepted_taken, every_front}
 use Rattle.world.proofs.Base.{Every, all_of_every, every_weaker, part_every}
 use Rattle.world.proofs.Kept.{Kept, OwnCopy}
 use Rattle.world.proofs.Mails.{IsIn}
-use Rattle.laws_relay.proofs.Moving.{sent_by}
+use Rattle.exactly_once.proofs.Lanes.{put_by}
 
 -- ---- lists
 
@@ -62,18 +62,18 @@ taken_every k s p m Q (End r ∷ es) h q = taken_every k s p m Q es h.1 q.1
 
 -- a copy of its seat, for this mailbox, that it put
 abbrev pub WasPut : World → (p s m : ℕ) → Job → Type 0
-WasPut w p s m c = (c.mailbox ≡ m) × IsIn (Item p c) (sent_by w p s)
+WasPut w p s m c = (c.mailbox ≡ m) × IsIn (Item p c) (put_by w p s)
 
 pub history_was_put : (k : Config) (w : World) → Kept k w → (m : ℕ) (a : Job × ℕ) → Contains (w.box m).accepted a → WasPut w a.0.key.seat (shard_of k m) m a.0
 history_was_put k w K m a there =
     let p : ℕ = a.0.key.seat in
     let s : ℕ = shard_of k m in
     let all : List (Entry Job) = (w.lane s).got ++ (w.lane s).waiting in
-    let seen : Every (λ (e : Entry Job). (producer e == p) ≡ true → IsIn e (sent_by w p s)) all =
+    let seen : Every (λ (e : Entry Job). (producer e == p) ≡ true → IsIn e (put_by w p s)) all =
     subst (λ (l : List (Entry Job)). Every (λ (e : Entry Job). (producer e == p) ≡ true → IsIn e l) all) ((K.lanes s).each p) (every_filter (λ (e : Entry Job). producer e == p) all) in
     let mine : Every (λ (e : Entry Job). (c : Job) → e ≡ Item p c → c.mailbox ≡ m → WasPut w p s m c) all =
-    every_weaker (λ (e : Entry Job). (producer e == p) ≡ true → IsIn e (sent_by w p s)) (λ (e : Entry Job). (c : Job) → e ≡ Item p c → c.mailbox ≡ m → WasPut w p s m c)
-    (λ e f c is of_m. (of_m, subst (λ (x : Entry Job). IsIn x (sent_by w p s)) is (f (ap (λ (x : Entry Job). producer x == p) is ∙ eq-eqb p p refl)))) all seen in
+    every_weaker (λ (e : Entry Job). (producer e == p) ≡ true → IsIn e (put_by w p s)) (λ (e : Entry Job). (c : Job) → e ≡ Item p c → c.mailbox ≡ m → WasPut w p s m c)
+    (λ e f c is of_m. (of_m, subst (λ (x : Entry Job). IsIn x (put_by w p s)) is (f (ap (λ (x : Entry Job). producer x == p) is ∙ eq-eqb p p refl)))) all seen in
     let taken : Every (WasPut w p s m) (taken_copies k w p m) =
     taken_every k s p m (WasPut w p s m) (w.lane s).got (every_front (OwnCopy k s) (w.lane s).got (w.lane s).waiting (K.own s)) (every_front _ (w.lane s).got (w.lane s).waiting mine) in
     let stands : Every (WasPut w p s m) (copies (accepted_of w p m)) = part_every (WasPut w p s m) (accepted_taken k w K p m) taken in
