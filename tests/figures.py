@@ -36,7 +36,7 @@ LIMITS = {
     "lines of code, definitions and proofs": 202300,
     "files that name an option (ring_max)": 49,
     "files that name a setting of serve (lmtp_port)": 29,
-    "files that name a refusal of a copy (MailboxFull)": 40,
+    "files that name a refusal of a copy (MailboxFull)": 39,
     "files that name a field of the house (visitors)": 43,
     "files that name a verb with an answer (STATUS)": 36,
     "files that name an item of FETCH (RFC822.SIZE)": 42,

@@ -1,5 +1,5 @@
 -- A connection that brought a message, and what its peer may conclude: a message for alice, whose copy is stored, for carol, who is unknown, and for bob, whose mailbox is full.
-use Rattle.std.proofs.Common.{◌≡◌, ◌==◌, ◌&&◌, inl, inr, ℕ, zero, suc, ◌<◌, Bool, true, false, List, [], ◌∷◌, ◌++◌, length, length-append, refl, Some, None, ap, subst, AllPairs, Contains, get_or, if◌then◌else◌, arith}
+use Rattle.std.proofs.Common.{◌≡◌, ◌==◌, ◌&&◌, inl, inr, ℕ, zero, suc, ◌<◌, Bool, true, false, List, [], ◌∷◌, ◌++◌, length, length-append, map, refl, Some, None, ap, subst, AllPairs, Contains, get_or, if◌then◌else◌, arith}
 use Rattle.std.specs.Prelude.{codes}
 use Rattle.std.specs.List.{cons_option}
 use Rattle.std.proofs.lemmas.Bool.{eqb-true}
@@ -7,7 +7,6 @@ use Rattle.change_ring.specs.Log.{IsLegalLog}
 use Rattle.change_ring.specs.declared.change.Change.TheVariants.{Add}
 use Rattle.delivery_token.specs.Text.{undated}
 use Rattle.delivery_token.specs.declared.Job.{Job}
-use Rattle.delivery_token.specs.declared.Refusal.TheVariants as refusals
 use Rattle.delivery_token.specs.declared.Verdict.{Verdict}
 use Rattle.delivery_token.specs.declared.Verdict.TheVariants.{Stored, Refused}
 use Rattle.envelope.specs.Reading.{read, forward_at}
@@ -19,12 +18,12 @@ use Rattle.lane_work.specs.Talk.{HasTaken, goes_on, greeted, submits}
 use Rattle.line_io.specs.inner.WireLaws.{reading_cut}
 use Rattle.lmtp_machine.specs.Calls.{IsQuiet}
 use Rattle.lmtp_machine.specs.Conversation.{Conversation, Leads, led_by, line, none, opened}
-use Rattle.lmtp_machine.specs.Dialogue.{Answered, Data, Event as Spoken, Line, Ready, Submission, Turn, Waiting, dialogue}
+use Rattle.lmtp_machine.specs.Dialogue.{Answered, Data, Event as Spoken, Line, Ready, Submission, Turn, Waiting, dialogue, verdict_reply}
 use Rattle.lmtp_machine.specs.declared.reply.Reply.{Reply}
 use Rattle.lmtp_machine.specs.declared.reply.Reply.TheVariants as say
 use Rattle.serving_workers.specs.Leaving.{all_written}
 use Rattle.laws_relay.specs.Served.{ConnectionConcludes, ConnectionStands, ServedRelaysConclude, replied as said_to}
-use Rattle.laws_relay.specs.rows.HandedRows.{alice, bob, home, three}
+use Rattle.laws_relay.specs.rows.HandedRows.{alice, bob, home, no_room, three}
 use Rattle.laws_relay.specs.rows.AccountRows.{for_alice, for_bob, replied}
 use Rattle.laws_relay.proofs.ConnectionRefuted.{house, setting}
 use Rattle.laws_relay.proofs.ServedHolds.{as_told, bobs, hers, job_in, right}
@@ -35,7 +34,7 @@ abbrev message : Submission
 message = record { keys = for_alice ∷ for_bob ∷ []; mailboxes = 0 ∷ 1 ∷ []; text = undated right }
 
 abbrev verdicts : List Verdict
-verdicts = Stored 7 ∷ Refused refusals.MailboxFull ∷ []
+verdicts = Stored 7 ∷ Refused no_room ∷ []
 
 -- what it brought up to the message's last line, and that
 abbrev brought : List ℕ
@@ -63,7 +62,7 @@ abbrev is_ready : Conversation
 is_ready = led_by setting home waits (Answered verdicts)
 
 abbrev said : List Reply
-said = ((say.Greeting ∷ []) ++ begun.replies ++ ended.replies) ++ say.Delivered ∷ say.MailboxFull ∷ []
+said = ((say.Greeting ∷ []) ++ begun.replies ++ ended.replies) ++ map verdict_reply verdicts
 
 begins : Leads setting home opened brought begun in_data
 unfolding read forward_at
@@ -102,7 +101,7 @@ was_taken = submits last_line ended waits message verdicts (goes_on brought begu
 -- ---- what the history has of it
 
 abbrev history : List Event
-history = as_told refusals.MailboxFull
+history = as_told no_room
 
 one_seat : (b : Bool) → AllPairs (λ (a c : Job × ℕ). IsBefore a.0 c.0) (cons_option (if b then Some (hers, 5) else None) (cons_option (if b then Some (bobs, 6) else None) []))
 one_seat true zero (suc zero) d before within = inr (refl, inr (refl, omega arith))
@@ -113,10 +112,10 @@ one_seat false i j d before within = absurd (omega (arith, within))
 
 one_life : (t : ℕ) (a b : Bool) → (5 == t) ≡ a → (6 == t) ≡ b
     → IsLife t (cons_option (if a then Some (Sent hers 5) else None) (cons_option (if b then Some (Sent bobs 6) else None)
-    (cons_option (if b then Some (JudgedCopy bobs (Refused refusals.MailboxFull) 6) else None) (cons_option (if a then Some (JudgedCopy hers (Stored 7) 5) else None) []))))
+    (cons_option (if b then Some (JudgedCopy bobs (Refused no_room) 6) else None) (cons_option (if a then Some (JudgedCopy hers (Stored 7) 5) else None) []))))
 one_life t true true e f = absurd (omega (arith, eqb-true 5 t e, eqb-true 6 t f))
 one_life t true false e f = subst (λ (n : ℕ). IsLife n (Sent hers 5 ∷ JudgedCopy hers (Stored 7) 5 ∷ [])) (eqb-true 5 t e) (judged_once hers (Stored 7))
-one_life t false true e f = subst (λ (n : ℕ). IsLife n (Sent bobs 6 ∷ JudgedCopy bobs (Refused refusals.MailboxFull) 6 ∷ [])) (eqb-true 6 t f) (judged_once bobs (Refused refusals.MailboxFull))
+one_life t false true e f = subst (λ (n : ℕ). IsLife n (Sent bobs 6 ∷ JudgedCopy bobs (Refused no_room) 6 ∷ [])) (eqb-true 6 t f) (judged_once bobs (Refused no_room))
 one_life t false false e f = unused
 
 one_mailbox_each : (m : ℕ) (a b p : Bool) → (1 == m) ≡ a → (0 == m) ≡ b → AllPairs IsBefore (cons_option (if a && p then Some bobs else None) (cons_option (if b && p then Some hers else None) []))

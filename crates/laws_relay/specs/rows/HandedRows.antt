@@ -3,6 +3,7 @@ use Rattle.std.specs.Prelude.{◌≡◌, ℕ, true, false, codes, List, [], ◌�
 use Rattle.std.proofs.Common.{refl}
 use Rattle.delivery_token.specs.Text.{undated}
 use Rattle.delivery_token.specs.declared.Verdict.TheVariants.{Stored, Refused}
+use Rattle.delivery_token.specs.declared.Refusal.{Refusal}
 use Rattle.delivery_token.specs.declared.Refusal.TheVariants.{MailboxFull}
 use Rattle.envelope.specs.Directory.{Directory}
 use Rattle.envelope.specs.Values.{Path, To}
@@ -25,6 +26,10 @@ bob = codes "RCPT TO:<bob@example.org>"
 
 abbrev pub message : (mail : List ℕ) → (recipients lines replies : List (List ℕ)) → Handed
 message mail recipients lines replies = record { mail = mail; recipients = recipients; lines = lines; replies = replies }
+
+-- a copy's mailbox had no room for it
+abbrev pub no_room : Refusal
+no_room = MailboxFull
 
 -- ---- recipients
 
