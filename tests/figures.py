@@ -29,7 +29,7 @@ LIMITS = {
     "product functions with 8 arguments or more": 5,
     "most arguments of a product function": 8,
     "per mille of clauses that begin with a line over 100 columns": 1,
-    "lines of proofs": 103200,
+    "lines of proofs": 103100,
     "lines of docs/PROVING.md": 300,
     "promised definitions with more than four arguments": 22,
     "lines of definitions over 150 columns": 6,

@@ -2,7 +2,6 @@
 use Rattle.std.proofs.Common.{[], ◌∷◌, refl, arith, inl}
 use Rattle.std.specs.Prelude.{codes, false, true, Some}
 use Rattle.std.specs.Fmt.{digits}
-use Rattle.shard_queue.specs.declared.lane.Entry.TheVariants.{Item}
 use Rattle.change_ring.specs.Log.{no_flags}
 use Rattle.change_ring.specs.declared.change.Change.TheVariants.{Add, Flags as SetFlags}
 use Rattle.change_ring.specs.declared.change.Flags.{Flags}
@@ -10,14 +9,13 @@ use Rattle.change_ring.specs.declared.flag_op.FlagOp.TheVariants.{Insert}
 use Rattle.imap_grammar.specs.Reading.{read}
 use Rattle.imap_grammar.specs.declared.set.SeqNumber.TheVariants.{Number}
 use Rattle.imap_session.specs.declared.standing.After.TheVariants.{Go}
-use Rattle.imap_session.specs.Exchange.{Alter, Altered, Entered, Fed, Look, Looked, Turn}
-use Rattle.world.specs.World.{Box, Put, Take, Deliver, Answer as AnswerEvent, Hear, put_joins, takes, delivers, answers, hears_one, enters, mails}
-use Rattle.world.specs.First.{one_copy, one_reply}
+use Rattle.imap_session.specs.Exchange.{Alter, Altered, Look, Looked, Turn}
+use Rattle.world.specs.World.{Box, mails}
+use Rattle.world.specs.First.{one_copy}
 use Rattle.laws_client.specs.Talks.{Line}
-use Rattle.laws_client.specs.Lives.{comes, turns, others}
+use Rattle.laws_client.specs.Lives.{turns}
 use Rattle.laws_client.specs.RecordLife.{one_last}
-use Rattle.laws_client.proofs.RecordOneLife.{selects, shows_it}
-use Rattle.world.proofs.FirstRun.{box}
+use Rattle.laws_client.proofs.RecordOneLife.{one_life_is_lived, selects, shows_it}
 use Rattle.laws_client.specs.FlagLife.{OneLifeKnowsFlags}
 
 abbrev flagged : Flags
@@ -35,39 +33,11 @@ sets_it = record {
 }
 
 pub one_life_knows_flags : OneLifeKnowsFlags
-unfolding read digits selects shows_it sets_it
+unfolding read digits selects shows_it one_life_is_lived sets_it
 one_life_knows_flags = (
   _,
   turns
-      (turns
-      (others
-      (others
-      (others
-      (others
-      (others
-      (turns comes (Line (codes "a1 SELECT INBOX") (Entered (record { count = 0; uidvalidity = 1; uidnext = 1 }) ∷ [])) (codes "a1 SELECT INBOX\r\n") selects _ refl tt refl
-      (_, (enters (omega arith) (omega arith) refl (omega arith) refl, (_, refl, refl), (refl, refl), refl), refl))
-      (Put 0 0 one_copy) _ tt
-      (put_joins (record { seat = omega arith; own = refl; mailbox = omega arith; shard = (omega arith, refl); above_sent = λ t i d l. absurd (omega arith); above_heard = λ i d l. absurd (omega arith) }) refl (omega arith) refl))
-      (Take 0) _ tt (takes (Item 0 one_copy) [] refl refl refl))
-      (Deliver 0) _ tt (delivers one_copy box refl (omega arith, omega arith) (omega arith) (record { room = omega arith; log = refl; base = inl refl; accepted = refl }) refl))
-      (AnswerEvent 0) _ tt (answers one_reply refl (omega arith) refl))
-      (Hear 0) _ tt (hears_one 0 one_reply [] refl refl))
-      (Line (codes "a2 NOOP") (Fed [] (Add 1 ∷ []) ∷ [])) (codes "a2 NOOP\r\n") shows_it _ refl tt refl (
-        _,
-        (
-          (_, refl, mails box (omega arith) (record { room = omega arith; log = refl; base = refl; accepted = refl }) refl),
-          (
-            _,
-            refl,
-            (
-              record { kept = omega arith; mailbox = box; logs = record { room = omega arith; log = refl; base = refl; accepted = refl }; made = refl },
-              record { kept = omega arith; counted = refl; handed = refl },
-            ),
-          ),
-        ),
-        refl,
-      ))
+      one_life_is_lived.1
       (Line (codes "a3 STORE 1 +FLAGS (\\Flagged)") (Looked (1 ∷ []) ∷ Altered (Some flagged) ∷ [])) (codes "a3 STORE 1 +FLAGS (\\Flagged)\r\n") sets_it _ refl tt refl (
         _,
         (refl, (_, refl, refl)),

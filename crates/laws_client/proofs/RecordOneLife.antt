@@ -26,7 +26,7 @@ selects = record {
 unfoldable pub shows_it : Turn
 shows_it = record { events = record { call = FeedCall unlimited; answer = Fed [] (Add 1 ∷ []) } ∷ []; bytes = codes "* 1 EXISTS\r\na2 OK NOOP completed\r\n"; after = Go; standing = one_last }
 
-pub one_life_is_lived : OneLifeIsLived
+unfoldable pub one_life_is_lived : OneLifeIsLived
 unfolding read digits selects shows_it
 one_life_is_lived = (
   _,
