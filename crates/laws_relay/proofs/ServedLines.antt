@@ -151,12 +151,11 @@ line_concludes {house} {seat} {connections} {spoken} history came said conversed
     }
 
 pub lines_conclude : ServersConclude → LinesConclude
-lines_conclude servers config finished left range faultless n worker came said here =
-    let one = left.mail n worker in
-    let served = one.served.served in
-    let is : one.line ≡ record { came = Some came; said = Some said } = same (sym one.here ∙ here) in
-    let over : WereOver (record { came = Some came; said = Some said }) served.spoken = subst (λ (line : Told). WereOver line served.spoken) is served.over in
-    line_concludes finished.front came said served.conversed (servers config finished left range faultless n worker) over.read over.written
+lines_conclude servers config finished kept in_line n worker came said here =
+    let mail = kept.mail n worker in
+    let is : mail.line ≡ record { came = Some came; said = Some said } = same (sym mail.here ∙ here) in
+    let over : WereOver (record { came = Some came; said = Some said }) mail.spoken = subst (λ (line : Told). WereOver line mail.spoken) is mail.over in
+    line_concludes finished.front came said mail.conversed (servers config finished kept in_line n worker) over.read over.written
   where
     same : {a b : Told} → Some (Some a) ≡ Some (Some b) → a ≡ b
     same e = cc

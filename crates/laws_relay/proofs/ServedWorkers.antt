@@ -1,8 +1,7 @@
 -- Of each connection of a worker that served, and of each worker of a server that stopped in order, a relay may conclude by the history.
-use Rattle.std.proofs.Common.{◌≡◌, ◌⊎◌, inl, inr, ℕ, ◌+◌, ◌<◌, ◌==◌, Bool, true, false, List, [], ◌∷◌, ◌++◌, length, map, None, refl, ap, sym, subst, ◌∙◌, Contains, arith}
-use Rattle.std.specs.Prelude.{All, if◌then◌else◌, slice_index_or}
+use Rattle.std.proofs.Common.{◌≡◌, ◌⊎◌, inl, inr, ℕ, ◌+◌, ◌<◌, ◌==◌, Bool, true, false, List, [], ◌∷◌, ◌++◌, length, None, refl, ap, sym, subst, ◌∙◌, Contains, arith}
+use Rattle.std.specs.Prelude.{All, if◌then◌else◌}
 use Rattle.std.proofs.lemmas.Bool.Decides.{nat_tests}
-use Rattle.std.proofs.lemmas.List.{length-map}
 use Rattle.std.proofs.lemmas.List.Concat.{flat_map-append}
 use Rattle.std.proofs.lemmas.List.Elements.{All-weaker, Contains-append_cases}
 use Rattle.delivery_token.specs.declared.Job.{Job}
@@ -14,7 +13,6 @@ use Rattle.house_history.specs.Legal.{Legal, WasJudged}
 use Rattle.house_history.specs.Laws.{StandsAlone}
 use Rattle.house_history.proofs.Standing.{alone_there, keys_in_order}
 use Rattle.lane_work.specs.Account.{Premises, setting_at}
-use Rattle.lane_work.specs.Backing.{StandAsTold, WordsStand}
 use Rattle.lane_work.specs.Copies.{told}
 use Rattle.lane_work.specs.Talk.{HasTaken, Judged}
 use Rattle.line_io.specs.Wire.{wire_lines}
@@ -22,17 +20,12 @@ use Rattle.lmtp_machine.specs.declared.reply.Reply.{Reply}
 use Rattle.lmtp_machine.specs.Conversation.{Conversation}
 use Rattle.lmtp_machine.specs.Replies.{wire}
 use Rattle.running_house.specs.Laws.{TalkIsOfLines}
-use Rattle.serving.specs.Left.{answers, histories}
 use Rattle.serving_workers.specs.Leaving.{HaveConversed, next, none, passed}
 use Rattle.serving_workers.specs.Lines.{Spoken}
-use Rattle.shard_queue.specs.declared.lane.Entry.TheVariants.{End}
-use Rattle.shard_queue.specs.Lane.{of}
-use Rattle.shard_queue.specs.Permits.{history as taken_of}
 use Rattle.laws_relay.specs.Handed.{Between, handed, handed_over}
 use Rattle.laws_relay.specs.ReplyLaws.{IsInLine}
 use Rattle.laws_relay.specs.Served.{ClientSlotsConclude, ConnectionStands, ServedConcludes, ServedRelaysConclude, ServersConclude, WorkersConclude, bytes_on, replies_on}
 use Rattle.laws_relay.proofs.FateLaws.{taken_there}
-use Rattle.laws_relay.proofs.Names.{settings_are_in_line}
 use Rattle.laws_relay.proofs.Positions.{none_at}
 use Rattle.laws_relay.proofs.ToldCopies.{all_left, all_right, taken_copy, told_of}
 
@@ -174,48 +167,32 @@ one_concludes served house seat serial bytes said judged history in_line legal s
 
 -- ---- a worker
 
-pub workers_conclude : ServedRelaysConclude → TalkIsOfLines → WordsStand → WorkersConclude
-workers_conclude served lines words_stand house seat line heard words history in_line some lanes mail backed =
-    let as_many : house.directory.shards ≡ length mail.sent = lanes ∙ ap length mail.ended ∙ length-map mail.sent (λ entries. entries ++ End seat ∷ []) in
-    let stand : StandAsTold seat history (told mail.served.judged) =
-    words_stand house.directory house.rooms seat (told mail.served.judged) history heard mail.sent words some as_many mail.served.books mail.ended backed in
-    record {
-      each = λ serial under more front untold e.
-          one_concludes served house seat serial (bytes_on mail.served.conversed serial) (replies_on mail.served.conversed serial) (judged_on mail.served.conversed serial) history in_line backed.legal
-          (record {
-            stood = all_on (λ (one : Job × Verdict). (uid : ℕ) → one.1 ≡ Stored uid → WasJudged history one.0 (Stored uid)) mail.served.conversed serial stand.stood;
-            all = λ copy verdict own of_serial judged. told_on lines mail.served.conversed serial copy verdict of_serial (stand.all copy verdict own judged);
-          })
-          (each_talk mail.served.conversed serial under) more front untold e;
-      nothing_else = λ copy uid stands own. of_these lines mail.served.conversed copy (Stored uid) (stand.all copy (Stored uid) own stands);
-    }
+pub workers_conclude : ServedRelaysConclude → TalkIsOfLines → WorkersConclude
+workers_conclude served lines house seat connections spoken judged history in_line legal conversed stand = record {
+  each = λ serial under more front untold e.
+      one_concludes served house seat serial (bytes_on conversed serial) (replies_on conversed serial) (judged_on conversed serial) history in_line legal
+      (record {
+        stood = all_on (λ (one : Job × Verdict). (uid : ℕ) → one.1 ≡ Stored uid → WasJudged history one.0 (Stored uid)) conversed serial stand.stood;
+        all = λ copy verdict own of_serial judged. told_on lines conversed serial copy verdict of_serial (stand.all copy verdict own judged);
+      })
+      (each_talk conversed serial under) more front untold e;
+  nothing_else = λ copy uid stands own. of_these lines conversed copy (Stored uid) (stand.all copy (Stored uid) own stands);
+}
 
 -- ---- a server
 
 pub servers_conclude : WorkersConclude → ServersConclude
-servers_conclude workers config finished left range faultless n worker =
-    let in_line : IsInLine left.house.host = subst IsInLine (sym left.set.host) (settings_are_in_line config faultless) in
-    let some : 0 < left.house.directory.shards = subst (λ (d : Directory). 0 < d.shards) (sym left.set.directory) (let few = range.shards.0 in omega (arith, few)) in
-    let lanes : left.house.directory.shards ≡ length (map (of n) (histories finished)) =
-    ap (λ (d : Directory). d.shards) left.set.directory ∙ sym left.shards ∙ sym (length-map finished.lanes.items taken_of) ∙ sym (length-map (histories finished) (of n)) in
-    let many = left.workers in
-    workers left.house n (left.mail n worker).line (slice_index_or (answers finished) n []) (map (of n) (histories finished)) finished.front in_line some lanes (left.mail n worker).served (left.backed n (omega (arith, worker, many)))
+servers_conclude workers config finished kept in_line n worker =
+    let mail = kept.mail n worker in
+    workers kept.house n mail.connections mail.spoken mail.judged finished.front in_line kept.legal mail.conversed mail.stand
 
 -- ---- a client slot
 
-pub client_slots_conclude : WordsStand → ClientSlotsConclude
-client_slots_conclude words_stand config finished left range n client_slot under =
-    let some : 0 < left.house.directory.shards = subst (λ (d : Directory). 0 < d.shards) (sym left.set.directory) (let few = range.shards.0 in omega (arith, few)) in
-    let lanes : left.house.directory.shards ≡ length (map (of n) (histories finished)) =
-    ap (λ (d : Directory). d.shards) left.set.directory ∙ sym left.shards ∙ sym (length-map finished.lanes.items taken_of) ∙ sym (length-map (histories finished) (of n)) in
-    let has = left.clients n client_slot under in
-    let backed = left.backed n under in
-    let as_many : left.house.directory.shards ≡ length has.sent = lanes ∙ ap length has.ended ∙ length-map has.sent (λ entries. entries ++ End n ∷ []) in
-    let stand : StandAsTold n finished.front has.served.0 =
-    words_stand left.house.directory left.house.rooms n has.served.0 finished.front (slice_index_or (answers finished) n []) has.sent (map (of n) (histories finished)) some as_many has.served.2 has.ended backed in
-    record {
-      stand = stand;
+pub client_slots_conclude : ClientSlotsConclude
+client_slots_conclude config finished kept n client_slot under =
+    let appends = kept.clients n client_slot under in record {
+      stand = appends.stand;
       once = All-weaker (λ (one : Job × Verdict). (uid : ℕ) → one.1 ≡ Stored uid → WasJudged finished.front one.0 (Stored uid)) (λ (one : Job × Verdict). (uid : ℕ) → one.1 ≡ Stored uid → StandsAlone finished.front one.0 uid)
-          (λ one stood uid is. alone_there finished.front one.0 uid backed.legal (stood uid is)) has.served.0 stand.stood;
-      in_order = λ mailbox. keys_in_order finished.front mailbox n backed.legal;
+          (λ one stood uid is. alone_there finished.front one.0 uid kept.legal (stood uid is)) appends.copies appends.stand.stood;
+      in_order = λ mailbox. keys_in_order finished.front mailbox n kept.legal;
     }

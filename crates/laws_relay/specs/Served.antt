@@ -1,18 +1,17 @@
 -- What a relay may conclude of the mail connections of a server, by the bytes that it sent and was told there.
-use Rattle.std.specs.Prelude.{◌≡◌, ◌<◌, ◌≤◌, ◌==◌, ◌⊎◌, ℕ, Bool, true, false, List, [], ◌++◌, All, AllPairs, Contains, Option, Some, None, length, slice_get, slice_index_or, if◌then◌else◌}
+use Rattle.std.specs.Prelude.{◌≡◌, ◌<◌, ◌≤◌, ◌==◌, ◌⊎◌, ℕ, Bool, true, false, List, [], ◌++◌, All, AllPairs, Contains, Option, Some, length, slice_get, slice_index_or, if◌then◌else◌}
 use Rattle.delivery_token.specs.Keys.{Below}
 use Rattle.delivery_token.specs.declared.CopyKey.{CopyKey}
 use Rattle.delivery_token.specs.declared.Job.{Job}
 use Rattle.delivery_token.specs.declared.Verdict.{Verdict}
 use Rattle.delivery_token.specs.declared.Verdict.TheVariants.{Stored}
-use Rattle.delivery_token.specs.declared.log.Noted.{Noted}
 use Rattle.envelope.specs.Directory.{Directory}
 use Rattle.house_history.specs.declared.event.Event.{Event}
 use Rattle.house_history.specs.Events.{accepted_in, keys_of_seat}
 use Rattle.house_history.specs.Laws.{StandsAlone}
 use Rattle.house_history.specs.Legal.{Legal, Stands, WasJudged}
 use Rattle.lane_work.specs.Account.{Premises, closings_of, setting_at}
-use Rattle.lane_work.specs.Backing.{HaveStood, IsBacked, StandAsTold}
+use Rattle.lane_work.specs.Backing.{HaveStood, StandAsTold}
 use Rattle.lane_work.specs.Copies.{told}
 use Rattle.lane_work.specs.Talk.{HasTaken, Judged}
 use Rattle.lmtp_machine.specs.declared.reply.Reply.{Reply}
@@ -20,13 +19,11 @@ use mathlib.Core.List.{IsPrefix}
 use Rattle.lmtp_machine.specs.Conversation.{Conversation}
 use Rattle.lmtp_machine.specs.Dialogue.{Phase, Start}
 use Rattle.lmtp_machine.specs.Replies.{wire}
-use Rattle.settings.specs.Settings.{IsInRange, config_fault}
 use Rattle.settings.specs.declared.config.Config.{Config}
-use Rattle.shard_queue.specs.declared.lane.Entry.{Entry}
 use Rattle.serving_workers.specs.Finished.{Finished}
-use Rattle.serving_workers.specs.Leaving.{AreWritten, HasServedMail, HaveConversed, next, none, passed}
-use Rattle.serving_workers.specs.Lines.{Spoken, Told}
-use Rattle.serving.specs.Left.{HasLeft}
+use Rattle.serving_workers.specs.Leaving.{AreWritten, HaveConversed, next, none, passed}
+use Rattle.serving_workers.specs.Lines.{Spoken}
+use Rattle.serving.specs.Kept.{HasKept}
 use Rattle.laws_relay.specs.Concluding.{IsTextOf, key_at, message_at}
 use Rattle.laws_relay.specs.Fates.{Names}
 use Rattle.laws_relay.specs.Handed.{Handed, handed_over, is_taken}
@@ -123,17 +120,17 @@ pub record WorkerConcludes (house : Premises) (seat : ℕ) (history : List Event
   -- whatever stands of this worker is of one of these connections
   pub nothing_else : (copy : Job) (uid : ℕ) → Stands history copy uid → copy.key.seat ≡ seat → copy.key.serial < connections
 
--- Of a worker that has served, where the history has what it put and heard and nothing else of its seat.
+-- Of a worker of whose seat just those copies stand of which its conversations told Stored.
 abbrev pub WorkersConclude : Type 0
-WorkersConclude = (house : Premises) (seat : ℕ) (line : Told) (heard : List (Entry Noted)) (words : List (List (Entry Job))) (history : List Event)
-    → IsInLine house.host → 0 < house.directory.shards → house.directory.shards ≡ length words
-    → (mail : HasServedMail house seat line heard words) → IsBacked seat history heard words
-    → WorkerConcludes house seat history mail.served.conversed
+WorkersConclude = (house : Premises) (seat connections : ℕ) (spoken : List Spoken) (judged : List Judged) (history : List Event)
+    → IsInLine house.host → Legal history
+    → (conversed : HaveConversed house seat connections spoken judged) → StandAsTold seat history (told judged)
+    → WorkerConcludes house seat history conversed
 
--- So it is of each worker of a server that stopped in order.
+-- So it is of each worker of a server that stopped in order, whose name can stand in a line.
 abbrev pub ServersConclude : Type 0
-ServersConclude = (config : Config) (finished : Finished) (left : HasLeft config finished) → IsInRange config → config_fault config ≡ None
-    → (n : ℕ) (worker : n < config.workers) → WorkerConcludes left.house n finished.front (left.mail n worker).served.served.conversed
+ServersConclude = (config : Config) (finished : Finished) (kept : HasKept config finished) → IsInLine kept.house.host
+    → (n : ℕ) (worker : n < config.workers) → WorkerConcludes kept.house n finished.front (kept.mail n worker).conversed
 
 -- ---- what clients append
 
@@ -146,13 +143,12 @@ pub record ClientSlotConcludes (seat : ℕ) (history : List Event) (copies : Lis
   pub once : All (λ (one : Job × Verdict). (uid : ℕ) → one.1 ≡ Stored uid → StandsAlone history one.0 uid) copies
   pub in_order : (mailbox : ℕ) → AllPairs Below (keys_of_seat seat (accepted_in mailbox history))
 
--- So it is of each client slot of a server that stopped in order, and of the very messages that the server
--- hands out as appended there: they are what was put on its lanes, and the verdicts are what
--- came on its reply channel (`HasServedClients`).
+-- So it is of each client slot of a server that stopped in order, and of the very messages of which the server
+-- says that its clients appended them there (`KeptAppends`).
 abbrev pub ClientSlotsConclude : Type 0
-ClientSlotsConclude = (config : Config) (finished : Finished) (left : HasLeft config finished) → IsInRange config
+ClientSlotsConclude = (config : Config) (finished : Finished) (kept : HasKept config finished)
     → (n : ℕ) (client_slot : config.workers ≤ n) (under : n < length finished.channels.items)
-    → ClientSlotConcludes n finished.front (left.clients n client_slot under).served.0
+    → ClientSlotConcludes n finished.front (kept.clients n client_slot under).copies
 
 -- ---- a line that tells what came and what was said
 
@@ -190,7 +186,7 @@ module _ (house : Premises) (seat : ℕ) (history : List Event) where
 
 -- So it is of the line of each worker of a server that stopped in order, where the line tells what came and what was said.
 abbrev pub LinesConclude : Type 0
-LinesConclude = (config : Config) (finished : Finished) (left : HasLeft config finished) → IsInRange config → config_fault config ≡ None
+LinesConclude = (config : Config) (finished : Finished) (kept : HasKept config finished) → IsInLine kept.house.host
     → (n : ℕ) → n < config.workers → (came : List (List ℕ)) (said : List (List ℕ × Bool))
     → slice_get finished.lines n ≡ Some (Some (record { came = Some came; said = Some said }))
-    → LineConcludes left.house n finished.front came said
+    → LineConcludes kept.house n finished.front came said

@@ -5,7 +5,6 @@ ghost use Rattle.laws_relay.specs.Served.{ClientSlotsConclude, LinesConclude, Se
 
 use crate::account_laws::connections_of_accounts_are_known;
 use crate::reply_laws::messages_are_known;
-use lane_work::books_stand;
 use running_house::connections_are_of_lines;
 
 /// Of a mail connection of a server, at any moment between two messages: each recipient whose reply a relay has read as 250 has its copy in the one history that
@@ -20,18 +19,17 @@ pub fn served_relays_conclude()
     connections_are_of_lines();
 }
 
-/// So it is of each connection of a worker that has served, where the history has what the worker put and heard, and nothing else of its seat.
+/// So it is of each connection of a worker, where the history is legal, and has just those copies of its seat of which its conversations told Stored.
 /// And whatever stands of this worker is of one of these connections.
 pub fn workers_conclude()
     ensures { WorkersConclude }
 {
     served_relays_conclude();
     connections_are_of_lines();
-    books_stand();
 }
 
-/// So it is of each worker of a server that stopped in order, by what `serve_house` (`serving`) hands out, whatever its settings are, as long as
-/// nothing is wrong with them.
+/// So it is of each worker of a server that stopped in order, by what `serve_house` (`serving`, clause `kept`) says of what it hands out, whatever its
+/// settings are, as long as nothing is wrong with them.
 pub fn servers_conclude()
     ensures { ServersConclude }
 {
@@ -42,9 +40,7 @@ pub fn servers_conclude()
 /// under the UID that was told, in the order in which they were appended.
 pub fn client_slots_conclude()
     ensures { ClientSlotsConclude }
-{
-    books_stand();
-}
+{}
 
 /// So it is of the line of each worker, where it tells what came and what was said: each connection that came in there is one that was served, with
 /// the bytes that its peer sends; and what it was told is the replies to these, or the first of them.

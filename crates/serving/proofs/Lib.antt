@@ -1,5 +1,6 @@
 mod AnnouncingLaws
 mod Endings
+mod Kept
 mod Refuted
 mod Serving
 mod Users

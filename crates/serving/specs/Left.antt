@@ -18,6 +18,7 @@ use Rattle.house_shared.specs.Crew.{AllAt}
 use Rattle.reckoning.specs.Shelves.{IsRecorded}
 use Rattle.serving_workers.specs.Finished.{Finished}
 use Rattle.serving_workers.specs.Lines.{Told}
+use Rattle.serving.specs.Kept.{IsSetAs}
 
 -- of each shard, all that was taken from its lane
 abbrev pub histories : Finished → List (List (Entry Job))
@@ -34,12 +35,6 @@ module _ (mailboxes shard producer : ℕ) where
     pub told : List (Entry Noted)
     pub each : WereAnswered mailboxes shard producer taken told
     pub ended : of shard heard ≡ told ++ End shard ∷ []
-
--- What its connections were told of is these settings': whose mail is taken, the name that is said, and how large a message may be.
-pub record IsSetAs (config : Config) (house : Premises) : Type 0 where
-  pub directory : house.directory ≡ directory_for config
-  pub host : house.host ≡ config.host.items
-  pub max_message : house.max_message ≡ config.max_message
 
 -- Producer n had a line, at which its connections came in.
 pub record IsWorkerOf (house : Premises) (n : ℕ) (finished : Finished) : Type 0 where

@@ -1,5 +1,6 @@
 pub mod Announcing
 pub mod Faults
 pub mod inner
+pub mod Kept
 pub mod Left
 pub mod Producers

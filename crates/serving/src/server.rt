@@ -7,6 +7,7 @@ ghost use Rattle.serving.specs.Producers.{server_fault};
 ghost use Rattle.mailbox.specs.declared.history.History.{History};
 ghost use Rattle.settings.specs.declared.config.ConfigFault.{ConfigFault};
 ghost use Rattle.serving.specs.Announcing.{HasAnnounced, HasBegun, IsAnnouncement, users_of};
+ghost use Rattle.serving.specs.Kept.{HasKept};
 ghost use Rattle.serving.specs.Left.{HasLeft};
 ghost use Rattle.serving.specs.inner.Faults.{IsOfSettings, IsOfSocket};
 ghost use Rattle.house_shared.specs.Users.{user_numbered};
@@ -247,6 +248,9 @@ pub fn serve_house<
 
     // Without an error all stopped in order: the one history has what each producer put and heard, and that is what its connections brought and were told.
     ensures left { IfOk result (HasLeft config.now) }
+
+    // What a reader needs of that: of what was brought just those copies stand of which Stored was told, and the mailboxes are as the history leaves them.
+    ensures kept { IfOk result (HasKept config.now) }
 
     // `Config` tells the settings' first fault, and then nothing was written. Without an error there is no fault.
     ensures wrong { (fault : ConfigFault) → result ≡ Err (ServeFault.Config fault)

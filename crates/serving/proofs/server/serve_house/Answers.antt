@@ -1,5 +1,7 @@
 use Rattle.std.proofs.Common.{rules, refl}
+use Rattle.std.proofs.lemmas.Result.{IfOk-weaker}
 use Rattle.serving.proofs.AnnouncingLaws.{nothing_said}
+use Rattle.serving.proofs.Kept.{left_kept}
 use Rattle.serving.proofs.Serving.{settings_or_memory}
 use Rattle.serving.proofs.server.serve_house.Goals as goal
 
@@ -18,3 +20,7 @@ returns-in_err-sockets-clause-told g c = nothing_said c.args.config.now c.args.b
 
 pub returns-in_err-log-clause-told : goal.returns-in_err-log-clause-told
 returns-in_err-log-clause-told g c = nothing_said c.args.config.now c.args.beginning.report.status c.args.beginning.uidvalidity (g.W.Sink.taken c.args.output.now)
+
+pub returns-clause-kept : goal.returns-clause-kept
+returns-clause-kept g c =
+    IfOk-weaker c.serve_in.result _ _ (λ finished left. left_kept c.args.config.now finished c.requires.range left) c.serve_in.ensures.left
