@@ -32,7 +32,7 @@ pub one_carried : {S T : Type 0} (step : S → Call → Answer → S → Type 0)
     → (u : T) × AnswersOne other now one t u before after how next × Stands new u
 one_carried step other Stands carries now (Line line) old new before after how next t a stands =
     let k = line_carried step other Stands carries now line old new before after how next t a.2 stands in
-    (k.0, (a.0, a.1, k.1), k.2)
+    (k.0, (a.0, a.1, k.1, a.3), k.2)
 one_carried step other Stands carries now (Bytes bytes) old new before after how next t a stands =
     (t, record { goes = a.goes; some = a.some; due = a.due; takes = a.takes; unasked = refl; silent = a.silent; waits = a.waits }, subst (λ s. Stands s t) (sym a.unasked) stands)
 

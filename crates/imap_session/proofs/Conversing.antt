@@ -104,7 +104,7 @@ took_more {S} step d between bytes piece old mid new said before after fed link 
     }
 took_more {S} step d between bytes piece old mid new said before after fed link h live f sends (ends line next o whole uncut z a stands) =
     let one = said_alone step between.standing line mid new before after fed.after next a in
-    one_more step d between bytes (take fed.used piece) old mid new said one.0 before after fed.after next link (Line line) h f (sends ∙ ap may_send stands.session) whole (o, z, one.2) stands one.1
+    one_more step d between bytes (take fed.used piece) old mid new said one.0 before after fed.after next link (Line line) h f (sends ∙ ap may_send stands.session) whole (o, z, one.2, uncut) stands one.1
 took_more {S} step d between bytes piece old mid new said before after fed link h live f sends (takes next o none t stands) =
     one_more step d between bytes (take fed.used piece) old mid new said [] before after fed.after next link (Bytes (take fed.used piece)) h f (sends ∙ ap may_send stands.session) (ap (λ (b : List ℕ). b ++ take fed.used piece) none)
     (record { goes = t.goes; some = t.some; due = t.due; takes = t.takes; unasked = t.unasked; silent = refl; waits = t.waits }) stands (t.silent ∙ sym (append-nil before))

@@ -73,10 +73,11 @@ module _ {S : Type 0} (now : Standing) (bytes : List ℕ) (old new : S) where
     pub silent : after ≡ before
     pub waits : how ≡ waits_for next
 
--- What a client sent was answered, by a session that goes on: nothing is answered behind its end. It is no line where bytes of a literal are due.
+-- What a client sent was answered, by a session that goes on: nothing is answered behind its end. It is no line where bytes of a literal are due, and
+-- one line, which has no CRLF within.
 abbrev pub AnswersOne : {S : Type 0} → (S → Call → Answer → S → Type 0) → Standing → Sends → S → S → List ℕ → List ℕ → After → Standing → Type 0
 AnswersOne step now (Line line) old new before after how next = (now.ended ≡ false) × (due_of now.mailing.begun ≡ 0)
-    × AnswersLine step now line old new before after how next
+    × AnswersLine step now line old new before after how next × IsUncut line
 AnswersOne step now (Bytes bytes) old new before after how next = TakesLiteral now bytes old new before after how next
 
 module _ {S : Type 0} (step : S → Call → Answer → S → Type 0) (d : Dialogue) (piece : List ℕ) (old new : S) where

@@ -8,5 +8,6 @@ pub mod Folders
 pub mod Shows
 pub mod Telling
 pub mod Dialogue
+pub mod Happenings
 pub mod inner
 pub mod rows

@@ -1,3 +1,4 @@
 pub mod Attending
 pub mod Visits
+pub mod Living
 pub mod inner

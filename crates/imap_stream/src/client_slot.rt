@@ -1,10 +1,14 @@
 //! What the thread of a client slot does with its client: it reads and answers, and while the session idles it waits for its bell too, and shows what
 //! there is. What it does at once is one call of the visit; who starts the thread stands above.
 
-ghost use Rattle.std.specs.Prelude.{◌≡◌, ◌<◌, ◌≤◌, [], None, IfOk, IfSome, OnErr, List, ℕ, false, length, max, take, true};
+ghost use Rattle.std.specs.Prelude.{◌≡◌, ◌<◌, ◌≤◌, [], None, IfOk, IfSome, OnErr, Option, List, ℕ, false, length, max, take, true};
 ghost use Rattle.std.specs.Io.KnownBytes.{Consumes, IsAtEnd, Keeps};
+ghost use Rattle.house_history.specs.Legal.{Legal};
+ghost use Rattle.imap_session.specs.Exchange.{Admission, Folder, begun_with};
+ghost use Rattle.session_thread.specs.Locks.{LockedStore};
 ghost use Rattle.imap_stream.specs.Attending.{Attended, Ends, HasCalled, IsDismissed};
-ghost use Rattle.imap_stream.specs.Visits.{takes_bytes};
+ghost use Rattle.imap_stream.specs.Living.{HasAttended};
+ghost use Rattle.imap_stream.specs.Visits.{IsGreeted, takes_bytes};
 ghost use Rattle.imap_stream.specs.inner.Attending.{HearsOn, HearsOut};
 
 use crate::visit::Visit;
@@ -141,6 +145,14 @@ impl ClientSlot<'_> {
             visit.new }
         ensures gone { 0 < length buffer.old.items → result ≡ Parting.Gone
             → IsAtEnd (I.remaining input.new) }
+
+        // So where the client had just been greeted, this is the life of its session, by the history that all threads share.
+        ensures lived { (admission : Admission) (folders : List Folder) (store : LockedStore)
+            (taken : Option (List ℕ)) → Legal store.history → store.entered ≡ None
+            → IsGreeted admission folders store taken visit.old
+            → HasAttended (I.remaining input.old) (I.remaining input.new) result
+            (record { first = begun_with admission folders; store = store; taken = taken })
+            visit.new }
 
         // The buffer grows to 4,096 bytes at most.
         ensures most { length buffer.new.items ≤ max (length buffer.old.items) 4_096 }

@@ -14,18 +14,14 @@ use Rattle.imap_session.specs.Exchange.{Answer, PendingLiteral, ForDone, ForLite
 use Rattle.imap_session.specs.Commands.{on_verdict, turn_of, turn_with, without_sent, copies_of, with_copy}
 use Rattle.imap_session.specs.Store.{IdleTurns, Met}
 use Rattle.house_peers.proofs.Rising.{NumbersRise, idles_keep, then_rises}
-use Rattle.laws_client.specs.Commands.{IsPrinted, whole_line}
-use Rattle.laws_client.specs.Talks.{Happening, Line, LongLine, Turned, Literal, Heard, leads_to}
+use Rattle.imap_session.specs.Happenings.{Happening, Heard, IsPrinted, IsSentFor, Line, Literal, LongLine, Told, Turned, VerdictsArePrinted, bytes_in, leads_to, told_line, told_of, whole_line}
 use Rattle.laws_client.proofs.Folders.{line_stays}
 use Rattle.laws_client.proofs.IdleTags.{AreTagsOf, Keeps, played_keeps}
 use Rattle.laws_client.proofs.Talking.{happening_keeps_so}
 use Rattle.laws_client.proofs.Turns.{the_turn}
 use Rattle.laws_client.specs.Appends.{CameAs, SaysVerdict, TellsOfNone, as_it_is, CameBy, IsCopyOf}
-use Rattle.laws_client.specs.Lives.{IsSentFor}
 use Rattle.laws_client.proofs.Out.{Fate, copy_of}
 use Rattle.laws_client.proofs.Submitted.{ComesInTurn, IsBegunAs, Mailed, mail_turn, sent_more, copied_more}
-use Rattle.laws_client.specs.Clients.{Told, bytes_in}
-use Rattle.laws_client.specs.RecordTurns.{VerdictsArePrinted, told_line, told_of}
 use Rattle.laws_client.proofs.LastLines.{IsWord}
 use Rattle.laws_client.proofs.LastTurns.{SaysSent, turn_tells}
 use Rattle.laws_client.proofs.Moved.{Calls}

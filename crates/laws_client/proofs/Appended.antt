@@ -20,8 +20,8 @@ use Rattle.laws_client.proofs.Talked.{met_hears}
 use Rattle.imap_session.specs.Folders.{folders_of}
 use Rattle.house.specs.Scene.{LeavesMailbox, empty_scene}
 use Rattle.house.specs.Setup.{Setup, session_seat}
-use Rattle.laws_client.specs.Appends.{AppendsWereTold, TellsOfAppends, AnswersNoted, AppendsAreTold, AreAnswered, Author, EndsWith, IsAnswered, SaysVerdict, TellsKept, TellsOfNone, as_it_is, author_at, copy_under, CameBy, SaysCopied, last_line, tells_stored, tells_copy, IsCopyOf, SaysMoved, TellsCopied, SaysOfBatch, SaysRefused, awaits_next, has_no_number, all_stored, EarlierStand}
-use Rattle.laws_client.specs.Clients.{Told, bytes_in}
+use Rattle.laws_client.specs.Appends.{AppendsAreKept, AppendsWereKept, AppendsWereTold, TellsOfAppends, AnswersNoted, AppendsAreTold, AreAnswered, Author, EndsWith, IsAnswered, SaysVerdict, TellsKept, TellsOfNone, as_it_is, author_at, copy_under, CameBy, SaysCopied, last_line, tells_stored, tells_copy, IsCopyOf, SaysMoved, TellsCopied, SaysOfBatch, SaysRefused, awaits_next, has_no_number, all_stored, EarlierStand}
+use Rattle.imap_session.specs.Happenings.{Told, bytes_in}
 use Rattle.laws_client.specs.ClientRecords.{sent_by_then, shown_by_then}
 use Rattle.laws_client.proofs.Answered.{Came, AreNoted, InTurn, IsNoted, KnownAt, still_noted, EarlierNoted}
 use Rattle.laws_client.proofs.Entries.{the_client, the_serial}
@@ -359,15 +359,17 @@ tells_so k events w place serial a sent told verdicts came own noted order =
       verdicts = verdicts;
       each = each;
       in_order = rising_pair InTurn (filter_map as_it_is verdicts) order;
-      kept = λ before after one tag words e ends tells.
-          let s = said_at k w author before after one tag words verdicts (λ n. Unit {0}) (subst (λ (told : List Told). AreAnswered k w author told verdicts) e each) ends tells (every_noted (filter_map as_it_is verdicts)) in
-          (s.noted, s.kept);
-      copied = λ before after one tag words e ends tells.
-          let a = answered_at k w author before after one verdicts (subst (λ (told : List Told). AreAnswered k w author told verdicts) e each) in
-          copied_in k w author (bytes_in one) tag words a.0 a.1 ends tells;
-      apart = λ before mid after one two tag words other_tag other_words e ends tells other_ends other_tells.
-          let b = both_said k w author before mid after one two tag words other_tag other_words verdicts (subst (λ (told : List Told). AreAnswered k w author told verdicts) e each) ends tells other_ends other_tells order in
-          (b.first, b.second, b.one, b.two, b.order);
+      known = record {
+        kept = λ before after one tag words e ends tells.
+            let s = said_at k w author before after one tag words verdicts (λ n. Unit {0}) (subst (λ (told : List Told). AreAnswered k w author told verdicts) e each) ends tells (every_noted (filter_map as_it_is verdicts)) in
+            (s.noted, s.kept);
+        copied = λ before after one tag words e ends tells.
+            let a = answered_at k w author before after one verdicts (subst (λ (told : List Told). AreAnswered k w author told verdicts) e each) in
+            copied_in k w author (bytes_in one) tag words a.0 a.1 ends tells;
+        apart = λ before mid after one two tag words other_tag other_words e ends tells other_ends other_tells.
+            let b = both_said k w author before mid after one two tag words other_tag other_words verdicts (subst (λ (told : List Told). AreAnswered k w author told verdicts) e each) ends tells other_ends other_tells order in
+            (b.first, b.second, b.one, b.two, b.order);
+      };
     }
 
 -- what waits of all that its client sent
@@ -420,3 +422,15 @@ appends_were_told k entries t place printable is stays none =
     (all_sent k.config.uidvalidity first f.client.reached.sent f.visitor.waits (sent_by_then place [] entries) (KnownAt k.config first f.last) (KnownAt k.config first t.world) f.client.reached.waits
     (λ n m h. known_steps k.config first f.later f.left t.world f.moved n m (known_left k place first f.last f.left f.leaves n m h)) talked.told talked.notes.verdicts talked.notes.each) talked.notes.order in
     (kb.kept, subst (TellsOfAppends k t.world (author_at k entries place a.serial)) (sym kb.is) so)
+
+-- ---- without the verdicts
+
+pub appends_are_kept : AppendsAreKept
+appends_are_kept k entries t place v printable is there read =
+    let told = appends_are_told k entries t place v printable is there read in
+    (told.0, told.1.known)
+
+pub appends_were_kept : AppendsWereKept
+appends_were_kept k entries t place printable is stays none =
+    let told = appends_were_told k entries t place printable is stays none in
+    (told.0, told.1.known)

@@ -29,15 +29,15 @@ use Rattle.exactly_once.proofs.Going.{record_append}
 use Rattle.exactly_once.proofs.Whole.{IsWhole, goes_whole, whole_append}
 use Rattle.laws_client.specs.Beliefs.{IsRight}
 use Rattle.laws_client.specs.Client.{Client as Reader, Known, knowing}
-use Rattle.laws_client.specs.Talks.{Happening, Heard, Line, Literal, LongLine, Turned, leads_to}
+use Rattle.imap_session.specs.Happenings.{Answer, Happening, Heard, Line, Literal, LongLine, Told, Turned, Words, bytes_in, leads_to, told_line, told_of, whole_line}
 use Rattle.laws_client.specs.Appends.{EndsWith}
 use Rattle.laws_client.specs.AtEntries.{AnswersAt, AnswersMakeCurrent, VerdictsMakeCurrent}
-use Rattle.laws_client.specs.Clients.{Answer, Told, Words, bytes_in, hears_all}
+use Rattle.laws_client.specs.Clients.{hears_all}
 use Rattle.laws_client.specs.Current.{shows_all}
 use Rattle.laws_client.specs.Lives.{Lives}
 use Rattle.laws_client.specs.ClientRecords.{IsPrintable, is_left, lets_in, sent_by_then, sent_in, shown_by_then, shown_in, unless, first_words}
 use Rattle.laws_client.specs.Sizes.{HasShortTexts, HasSmallNumbers}
-use Rattle.laws_client.specs.RecordTurns.{Stands, told_line, told_of}
+use Rattle.laws_client.specs.RecordTurns.{Stands}
 use Rattle.laws_client.specs.Views.{IsOfOthers, messages_of}
 use Rattle.laws_client.proofs.IdleTags.{AreTagsOf}
 use Rattle.laws_client.proofs.Answered.{Came, told_bytes}
@@ -52,7 +52,6 @@ use Rattle.laws_client.proofs.Recording.{Arrival, Client, came_as, client_more, 
 use Rattle.laws_client.proofs.Since.{Fresh, Lately, fresh_grown, goes_lately, turned, untold}
 use Rattle.imap_session.specs.declared.texts.ResponseText.TheVariants as texts
 use Rattle.imap_session.specs.Texts.{response_text}
-use Rattle.laws_client.specs.Commands.{whole_line}
 
 -- ---- one entry more
 

@@ -19,7 +19,8 @@ use Rattle.imap_session.specs.Commands.{appended_words, long_idle_text, long_res
 use Rattle.laws_client.specs.Beliefs.{Leads, Leaves, TellsNothing}
 use Rattle.laws_client.specs.ListTurns.{is_inner, IsPlain, IsTag, Says, SeesAll}
 use Rattle.laws_client.specs.Fetches.{IsNumbered}
-use Rattle.laws_client.specs.Commands.{AreNames, HasToldParts, IsPrinted, MayAnswer, MayAsk, MayCome, stays}
+use Rattle.laws_client.specs.Commands.{AreNames, HasToldParts, MayAnswer, MayAsk, MayCome, stays}
+use Rattle.imap_session.specs.Happenings.{IsPrinted}
 use Rattle.laws_client.specs.ListLaws.{AnswerIsFollowed, LongLineTellsNothing, VerdictIsFollowed}
 use Rattle.laws_client.proofs.Ends.{leaves, refusals, tagged_tells_nothing}
 use Rattle.laws_client.proofs.Chosen.{small_in}

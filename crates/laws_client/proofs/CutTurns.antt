@@ -24,8 +24,8 @@ use Rattle.imap_session.specs.declared.standing.Selected.{Selected}
 use Rattle.imap_session.specs.Exchange as ex
 use Rattle.imap_session.specs.Exchange.{Answer, PendingLiteral, Found, Refused, Event as Happened, Exchange, Mailing, Sent, Standing, Turn, bye, closed, is_idling, played, refusal_after, refusal_text, refused, saying, tagged, untagged, Origin, Client, Copied, Batch}
 use Rattle.imap_session.specs.Commands.{appended_words, completed, idle_turn_in, long_rest_text, long_text, on_command, on_idle_line, on_read, on_rest, on_verdict, refused_text, says, turn_of, turn_with, without_begun, without_sent, arguments_text, logged_in, on_text_line, wants_response, awaiting_response, copied_words, moved_words, on_stored, move_done, with_copy, copies_of, told_copied}
-use Rattle.laws_client.specs.Commands.{AreNames, HasToldParts, whole_line}
-use Rattle.laws_client.specs.Talks.{Happening, Line, LongLine, Turned, Literal, Heard, leads_to}
+use Rattle.laws_client.specs.Commands.{AreNames, HasToldParts}
+use Rattle.imap_session.specs.Happenings.{Happening, Heard, Line, Literal, LongLine, Turned, leads_to, whole_line}
 use Rattle.laws_client.specs.ListTurns.{IsPlain, is_inner}
 use Rattle.laws_client.proofs.IdleTags.{AreTagsOf}
 use Rattle.laws_client.proofs.Tags.{TaggedOf, read_tagged_so}

@@ -11,14 +11,13 @@ use Rattle.house.specs.Setup.{Setup}
 use Rattle.imap_session.specs.Exchange as calls
 use Rattle.laws_client.specs.ListTurns.{IsRead, IsRowOf, Sees, SeesAll}
 use Rattle.laws_client.proofs.IdleTags.{AreTagsOf}
-use Rattle.laws_client.specs.Clients.{Answer, Told, Words, bytes_in}
 use Rattle.laws_client.specs.Cuts.{AnswersAreCut, AnswersWereCut, CutsSo, Cutter, EachIsOne, IsAnswered, IsOneAnswer, between, cut_between, cuts, ends, has_any, is_ended, leaves_open, opens}
 use Rattle.laws_client.specs.Lives.{Lives, comes, others, turns}
 use Rattle.laws_client.specs.ClientRecords.{IsPrintable, first_standing, first_words, shown_by_then, user_by_then}
 use Rattle.laws_client.specs.Sizes.{HasShortTexts, HasSmallNumbers}
-use Rattle.laws_client.specs.RecordTurns.{Stands, told_line, told_of}
-use Rattle.laws_client.specs.Commands.{AreNames, whole_line}
-use Rattle.laws_client.specs.Talks.{Happening, Heard, Line, Literal, LongLine, Turned, leads_to}
+use Rattle.laws_client.specs.RecordTurns.{Stands}
+use Rattle.laws_client.specs.Commands.{AreNames}
+use Rattle.imap_session.specs.Happenings.{Answer, Happening, Heard, Line, Literal, LongLine, Told, Turned, Words, bytes_in, leads_to, told_line, told_of, whole_line}
 use Rattle.imap_grammar.specs.Reading.{read}
 use Rattle.imap_grammar.specs.declared.command.Command.{Command}
 use Rattle.laws_client.specs.Views.{view_of}

@@ -24,12 +24,11 @@ use Rattle.imap_session.specs.Commands.{completed, on_idle_line, says, showing, 
 use Rattle.imap_session.specs.Store.{Met}
 use Rattle.house.specs.Meets.{Meets}
 use Rattle.line_io.specs.Wire.{crlf}
-use Rattle.laws_client.specs.Talks.{Line}
+use Rattle.imap_session.specs.Happenings.{Answer as Answer_to, Line, Told, Words, told_line, told_of, whole_in, whole_line}
 use Rattle.laws_client.specs.ListTurns.{IsTag}
 use Rattle.laws_client.proofs.Tags.{tags_are_tags}
-use Rattle.laws_client.specs.Clients.{Answer as Answer_to, Told, Words, has_ok, hears_all}
+use Rattle.laws_client.specs.Clients.{has_ok, hears_all}
 use Rattle.laws_client.specs.Lives.{turns}
-use Rattle.laws_client.specs.RecordTurns.{told_line, told_of}
 use Rattle.laws_client.specs.Current.{IsAnswered}
 use Rattle.laws_client.specs.Views.{messages_of}
 use Rattle.laws_client.proofs.RecordEntering.{mapped, only_done, only_refused, refusal_has_none}
@@ -48,7 +47,6 @@ use Rattle.imap_session.specs.declared.texts.ResponseText.TheVariants as texts
 use Rattle.imap_session.specs.Texts.{response_text}
 use Rattle.imap_grammar.specs.declared.command.Verb.TheVariants as verbs
 use Rattle.laws_client.proofs.Barred.{line_case, login_shows_none, refused_turn, shown_waits}
-use Rattle.laws_client.specs.Commands.{whole_line, whole_in}
 use Rattle.laws_client.proofs.WholeLines.{said_turn}
 
 -- ---- a cursor at the end of its log

@@ -10,9 +10,10 @@ use Rattle.imap_session.specs.Exchange.{Answer as StoreAnswer, Standing, Turn, m
 use Rattle.imap_session.specs.Commands.{logged_in, on_command, on_read, says, turn_of, turn_of_long_line, with_bytes, on_text_line, without_begun}
 use Rattle.imap_session.specs.Store.{Met}
 use Rattle.laws_client.specs.Client.{Client}
-use Rattle.laws_client.specs.Commands.{MayAnswer, stays, MayCome, whole_line}
+use Rattle.laws_client.specs.Commands.{MayAnswer, stays, MayCome}
 use Rattle.laws_client.specs.Fetches.{IsNumbered}
-use Rattle.laws_client.specs.Talks.{Happening, Line, LongLine, Turned, Literal, Heard, MayHappen, leads_to}
+use Rattle.laws_client.specs.Talks.{MayHappen}
+use Rattle.imap_session.specs.Happenings.{Happening, Heard, Line, Literal, LongLine, Told, Turned, VerdictsArePrinted, leads_to, told_line, told_of, whole_line}
 use Rattle.laws_client.specs.ListTurns.{AreTags, IsTag}
 use Rattle.laws_client.proofs.Commands.{long_line_tells_nothing, may_answer}
 use Rattle.laws_client.proofs.Tags.{Tagged, read_tagged}
@@ -21,10 +22,10 @@ use Rattle.laws_client.proofs.Turns.{the_turn}
 use Rattle.imap_session.proofs.Barring.{refuses}
 use Rattle.imap_session.specs.declared.texts.ResponseText.{ResponseText}
 use Rattle.laws_client.proofs.Barred.{asked_has, line_case, login_asks, refused_turn}
-use Rattle.laws_client.specs.Clients.{Asked, Told, answered, asked, asked_by, hears, hears_all, reads_on}
+use Rattle.laws_client.specs.Clients.{Asked, answered, asked, asked_by, hears, hears_all, reads_on}
 use Rattle.laws_client.specs.Lives.{Lives, comes, turns, others}
 use Rattle.laws_client.specs.Sizes.{HasShortTexts, HasSmallNumbers}
-use Rattle.laws_client.specs.RecordTurns.{Stands, VerdictsArePrinted, told_line, told_of}
+use Rattle.laws_client.specs.RecordTurns.{Stands}
 use Rattle.laws_client.proofs.Boxes.{box_goes}
 use Rattle.laws_client.proofs.RecordEntering.{tagged_has}
 use Rattle.laws_client.proofs.RecordKnown.{may_ask, stands_still, bare_stands, unfinished_may}

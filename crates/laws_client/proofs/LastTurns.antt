@@ -24,7 +24,7 @@ use Rattle.imap_session.specs.Commands.{appended_words, idle_turn_in, on_verdict
 use Rattle.imap_session.specs.Store.{Met}
 use Rattle.exactly_once.proofs.Whole.{line_whole, lines_whole, IsWhole, ends, whole_append}
 use Rattle.laws_client.specs.ListTurns.{is_inner}
-use Rattle.laws_client.specs.Talks.{Happening, Line, LongLine, Turned, Literal, Heard, leads_to}
+use Rattle.imap_session.specs.Happenings.{Happening, Heard, Line, Literal, LongLine, Turned, leads_to}
 use Rattle.laws_client.proofs.Bytes.{both}
 use Rattle.laws_client.proofs.IdleTags.{AreTagsOf}
 use Rattle.laws_client.proofs.LinesRead.{flags_inner, flags_part}

@@ -100,5 +100,8 @@ mod ServedFlags
 mod ServedStays
 mod ServedVisits
 mod AttendingRefuted
+mod AttendedRefuted
+mod HistoryHolds
+mod HistoryRefuted
 mod StillHouse
 mod RunRefuted

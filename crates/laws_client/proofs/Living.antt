@@ -4,10 +4,11 @@ use Rattle.std.specs.Prelude.{Bool, Option, Some, None, if◌then◌else◌}
 use Rattle.world.specs.World.{Config, World}
 use Rattle.imap_session.specs.Exchange.{Standing}
 use Rattle.laws_client.specs.Client.{Client, fresh, reads}
-use Rattle.laws_client.specs.Clients.{Answer, Asked, IsRightAbout, KnowsWhereItIs, StaysThere, Told, Words, answered, hears, hears_all}
+use Rattle.laws_client.specs.Clients.{Asked, IsRightAbout, KnowsWhereItIs, StaysThere, answered, hears, hears_all}
 use Rattle.laws_client.specs.Lives.{Lives, comes, turns, others, LivesAreKnown}
 use Rattle.laws_client.specs.Sizes.{HasShortTexts, HasSmallNumbers}
-use Rattle.laws_client.specs.RecordTurns.{Stands, told_of}
+use Rattle.laws_client.specs.RecordTurns.{Stands}
+use Rattle.imap_session.specs.Happenings.{Answer, Told, Words, told_of}
 use Rattle.laws_client.specs.Views.{view_of}
 use Rattle.laws_client.proofs.Boxes.{box_goes}
 use Rattle.laws_client.proofs.RecordKnown.{stands_still, turn_known}

@@ -12,10 +12,9 @@ use Rattle.imap_session.specs.declared.standing.Selected.{Selected}
 use Rattle.imap_session.specs.Exchange.{Answer, ForDone, Sent, Standing, Turn, Waiting, is_idling, played, waiting}
 use Rattle.imap_session.specs.Commands.{barred_at, fault_text, logged_in, without_login, logs_in_as, on_command, on_found, on_idle_line, on_line, on_read, on_rest, on_verdict, says, turn_with, without_begun, without_sent, on_text_line, completed, turn_of}
 use Rattle.imap_session.specs.Texts.{response_text}
-use Rattle.laws_client.specs.Clients.{Told}
 use Rattle.laws_client.specs.Lives.{Lives, comes, turns, others}
 use Rattle.laws_client.specs.Selecting.{HasLoggedIn, LoginComesFirst}
-use Rattle.laws_client.specs.Talks.{Happening, Line, LongLine, Turned, Literal, Heard, leads_to}
+use Rattle.imap_session.specs.Happenings.{Happening, Heard, Line, Literal, LongLine, Told, Turned, leads_to}
 use Rattle.exactly_once.proofs.EachExchange.{idle_keeps}
 use Rattle.laws_client.proofs.IdleTags.{Keeps, played_keeps}
 use Rattle.laws_client.proofs.Selecting.{StaysIn, fault_sel, idle_selected, in_command, in_found, in_idle_line, in_part, in_rest, selected_stays, verdict_sel}

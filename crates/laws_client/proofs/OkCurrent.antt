@@ -23,18 +23,17 @@ use Rattle.imap_session.specs.Exchange.{Call, Answer, Event, Looked, Found, Coun
 use Rattle.imap_session.specs.Commands.{on_command, turn_of, says, unlimited, without_begun}
 use Rattle.laws_client.specs.ListTurns.{IsTag}
 use Rattle.line_io.specs.Wire.{crlf}
-use Rattle.laws_client.specs.Talks.{Line}
+use Rattle.imap_session.specs.Happenings.{Answer as Answer_to, Line, Told, told_line, told_of, whole_line}
 use Rattle.laws_client.proofs.Tags.{tags_are_tags}
 use Rattle.laws_client.specs.Current.{DoneCommandsMakeCurrent, IsAnswered, IsCurrent, ListsAreCurrent, shows_all}
 use Rattle.laws_client.proofs.RecordCurrent.{FedAll, LastFed, fed_all, last_current, last_weaker}
 use Rattle.laws_client.proofs.RecordEntering.{only_done, only_refused}
-use Rattle.laws_client.specs.Clients.{Answer as Answer_to, Asked, Neither, IsRightAbout, Told, answered, asked, asked_by, hears, hears_all}
+use Rattle.laws_client.specs.Clients.{Asked, Neither, IsRightAbout, answered, asked, asked_by, hears, hears_all}
 use Rattle.laws_client.specs.Beliefs.{IsRight}
 use Rattle.laws_client.specs.Client.{Client, Known, knowing, reads}
 use Rattle.laws_client.specs.Selecting.{Known_selected}
 use Rattle.laws_client.proofs.Selecting.{knowing_is_selected}
 use Rattle.laws_client.specs.Lives.{turns}
-use Rattle.laws_client.specs.RecordTurns.{told_line, told_of}
 use Rattle.laws_client.specs.Views.{messages_of, view_of}
 use Rattle.laws_client.proofs.Living.{hears_last, lives_known}
 use Rattle.laws_client.proofs.Moved.{short_met}
@@ -50,7 +49,6 @@ use Rattle.laws_client.proofs.Barred.{line_case, login_shows_none, shown_waits}
 use Rattle.exactly_once.proofs.EachExchange.{Plays, turn_so}
 use Rattle.laws_client.proofs.Turns.{closed_quiet}
 use Rattle.laws_client.proofs.EachCommand.{Steps, command_so, tells_done}
-use Rattle.laws_client.specs.Commands.{whole_line}
 use Rattle.laws_client.proofs.WholeLines.{said_turn}
 
 -- ---- how bytes end

@@ -36,7 +36,7 @@ use Rattle.imap_session.specs.declared.texts.ResponseText.TheVariants as texts
 use Rattle.imap_session.specs.Texts.{response_text}
 use Rattle.imap_grammar.specs.declared.command.Verb.TheVariants as verbs
 use Rattle.laws_client.proofs.Barred.{line_case, login_shows_none, refused_turn, shown_waits}
-use Rattle.laws_client.specs.Commands.{whole_line}
+use Rattle.imap_session.specs.Happenings.{whole_line}
 use Rattle.laws_client.proofs.WholeLines.{said_turn}
 
 abbrev pub the_session : Session → Option Session → Session

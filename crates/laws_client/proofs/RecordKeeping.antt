@@ -23,7 +23,8 @@ use Rattle.laws_client.specs.Views.{IsOfOthers}
 use Rattle.laws_client.proofs.Entries.{IsAside, IsAt, SceneKnown, Speech, aside_known, differs, idle_known, leave_known, let_known, lines_at, lingers, moved_known, moves_known, say_known, says, sent_then, shown_then, users_then, silent_at, the_client}
 use Rattle.laws_client.proofs.Folded.{folders_plain}
 use Rattle.laws_client.proofs.Living.{lives_known}
-use Rattle.laws_client.specs.Clients.{IsRightAbout, Told, hears_all}
+use Rattle.laws_client.specs.Clients.{IsRightAbout, hears_all}
+use Rattle.imap_session.specs.Happenings.{Told}
 use Rattle.laws_client.proofs.Boxes.{box_goes}
 use Rattle.laws_client.proofs.RecordCurrent.{all_counted}
 use Rattle.laws_client.proofs.Moved.{moved, moved_extends, short_before}

@@ -10,9 +10,10 @@ use Rattle.imap_session.specs.Exchange.{Answer as StoreAnswer, Standing, Folder,
 use Rattle.imap_session.specs.Commands.{logged_in, on_command, on_read, says, turn_of, on_text_line, wants_response, without_begun}
 use Rattle.imap_session.specs.Store.{Met}
 use Rattle.laws_client.specs.Client.{Client}
-use Rattle.laws_client.specs.Commands.{AreNames, HasToldParts, MayAnswer, MayAsk, stays, whole_line, MayCome}
+use Rattle.laws_client.specs.Commands.{AreNames, HasToldParts, MayAnswer, MayAsk, stays, MayCome}
 use Rattle.laws_client.specs.Fetches.{IsNumbered}
-use Rattle.laws_client.specs.Talks.{Happening, Line, LongLine, Turned, Literal, Heard, MayHappen, leads_to}
+use Rattle.laws_client.specs.Talks.{MayHappen}
+use Rattle.imap_session.specs.Happenings.{Happening, Heard, Line, Literal, LongLine, Turned, VerdictsArePrinted, leads_to, told_line, told_of, whole_line}
 use Rattle.laws_client.specs.ListTurns.{IsTag}
 use Rattle.laws_client.proofs.Tags.{Tagged, read_tagged}
 use Rattle.laws_client.proofs.Talking.{happening_follows, happening_keeps}
@@ -21,7 +22,7 @@ use Rattle.imap_session.proofs.Barring.{refuses}
 use Rattle.imap_session.specs.declared.texts.ResponseText.{ResponseText}
 use Rattle.laws_client.proofs.Barred.{asked_has, line_case, login_asks, refused_turn}
 use Rattle.laws_client.specs.Sizes.{HasShortTexts, HasSmallNumbers}
-use Rattle.laws_client.specs.RecordTurns.{Stands, StandsStill, TurnIsKnown, VerdictsArePrinted, told_line, told_of}
+use Rattle.laws_client.specs.RecordTurns.{Stands, StandsStill, TurnIsKnown}
 use Rattle.laws_client.specs.Views.{view_of}
 use Rattle.laws_client.proofs.RecordEntering.{closes_right, entering_right, not_entered_right, not_left_right, reads_right, selected_known, still_right, tagged_has}
 use Rattle.laws_client.proofs.Folders.{idle_folders, line_folders, verdict_folders}

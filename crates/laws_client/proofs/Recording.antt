@@ -26,7 +26,7 @@ use Rattle.house.specs.Scene.{LeavesMailbox, Lingers, Parts, SessionTalks, parts
 use Rattle.house.proofs.Carried.{speaks_carried}
 use Rattle.exactly_once.specs.Promise.{Lines, text_of}
 use Rattle.exactly_once.proofs.Whole.{IsWhole, cut_of, goes_whole, whole_append}
-use Rattle.laws_client.specs.Commands.{IsPrinted}
+use Rattle.imap_session.specs.Happenings.{IsPrinted}
 use Rattle.laws_client.specs.ClientRecords.{first_standing, first_words}
 use Rattle.laws_client.specs.Sizes.{HasSmallNumbers}
 use Rattle.laws_client.specs.Views.{IsOfOthers}

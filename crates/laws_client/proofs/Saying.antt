@@ -21,7 +21,8 @@ use Rattle.imap_session.specs.Exchange.{Alter, Altered, Answer, PendingLiteral, 
 use Rattle.imap_session.specs.Commands.{turn_of, turn_of_verdict, appended_words, on_rest, on_verdict, turn_with, without_begun, without_sent, completed, fault_text, fetched, on_command, on_found, on_idle_line, on_read, only_says, says, showing, logged_in, refused_text, on_text_line, copied_words, on_stored, move_done, with_copy, copies_of, told_copied}
 use Rattle.laws_client.specs.ListTurns.{IsTag}
 use Rattle.laws_client.specs.Fetches.{AreToldParts, IsNumbered}
-use Rattle.laws_client.specs.Commands.{AreNames, HasToldParts, IsFollowed, IsPrinted, MayAnswer, MayAsk, MayCome, stays}
+use Rattle.laws_client.specs.Commands.{AreNames, HasToldParts, IsFollowed, MayAnswer, MayAsk, MayCome, stays}
+use Rattle.imap_session.specs.Happenings.{IsPrinted}
 use Rattle.laws_client.proofs.Commands.{server_tells_nothing, fault_tells_nothing, stored_plain, may_answer}
 use Rattle.laws_client.proofs.Each.{IsIn}
 use Rattle.laws_client.proofs.Ends.{refusal_tells_nothing, tagged_tells_nothing}

@@ -20,15 +20,14 @@ use Rattle.imap_grammar.specs.declared.command.Command.TheVariants as commands
 use Rattle.delivery_token.specs.declared.Verdict.TheVariants as verdicts
 use Rattle.std.proofs.lemmas.Bool.{false≢true}
 use Rattle.laws_client.specs.Client.{Client, fresh, reads}
-use Rattle.laws_client.specs.Commands.{stays, whole_line}
+use Rattle.laws_client.specs.Commands.{stays}
 use Rattle.laws_client.specs.ListTurns.{IsTag}
-use Rattle.laws_client.specs.Talks.{Happening, Line, LongLine, Turned, Literal, Heard, leads_to}
+use Rattle.imap_session.specs.Happenings.{Happening, Heard, Line, Literal, LongLine, Told, Turned, leads_to, told_line, told_of, whole_line}
 use Rattle.laws_client.proofs.Tags.{Tagged, read_tagged}
 use Rattle.world.specs.World.{Config, World}
-use Rattle.laws_client.specs.Clients.{Asked, Told, answered, asked, asked_by, has_ok, hears, hears_all, reads_on}
+use Rattle.laws_client.specs.Clients.{Asked, answered, asked, asked_by, has_ok, hears, hears_all, reads_on}
 use Rattle.laws_client.specs.Lives.{Lives, comes, turns, others}
 use Rattle.laws_client.specs.Selecting.{KnowingIsSelected, Known_selected}
-use Rattle.laws_client.specs.RecordTurns.{told_line, told_of}
 use Rattle.laws_client.proofs.RecordEntering.{Only, Wrote, wanted, wrote, writes, mapped, only_done, only_refused, refusal_has_none, tagged_has, at_star, closed_line}
 use Rattle.exactly_once.proofs.EachExchange.{Plays, closed_so, idle_keeps, turn_so}
 use Rattle.laws_client.proofs.Living.{hears_last}

@@ -1,51 +1,45 @@
 -- What a session over mailboxes behind locks counts, call by call, and what its client is told of it.
-use Rattle.std.proofs.Common.{◌≡◌, ◌⊎◌, inl, inr, ℕ, ◌+◌, ◌-◌, ◌<◌, ◌≤◌, ◌^◌, Bool, true, false, ◌==◌, List, [], ◌∷◌, ◌++◌, length, take, drop, map, refl, sym, subst, ap, ◌∙◌, arith, append-nil, Option, Some, None, All, Contains}
-use Rattle.std.specs.Prelude.{IfSome, if◌then◌else◌, min, option_map}
+use Rattle.std.proofs.Common.{◌≡◌, ◌⊎◌, inl, inr, ℕ, ◌+◌, ◌-◌, ◌<◌, ◌≤◌, ◌^◌, List, [], ◌∷◌, ◌++◌, length, take, drop, map, refl, sym, subst, ap, ◌∙◌, arith, append-nil, Option, Some, None, All, Contains}
+use Rattle.std.specs.Prelude.{IfSome, min}
 use Rattle.std.proofs.Math.Nat.{min-le_left}
 use Rattle.std.proofs.Math.Seq.{take-length}
-use Rattle.std.proofs.lemmas.Bool.{eqb-true}
-use Rattle.std.proofs.lemmas.List.{take-append-drop, length-append, length-take, length-map}
+use Rattle.std.proofs.lemmas.List.{take-append-drop, length-take, length-map}
 use Rattle.std.proofs.lemmas.List.Elements.{All-head, All-tail, Contains-append_left}
 use mathlib.Core.List.{IsPrefix}
 use Rattle.change_ring.specs.declared.change.Change.{Change}
 use Rattle.change_ring.specs.declared.change.Change.TheVariants.{Add, Gone, Flags as SetFlags}
 use Rattle.change_ring.specs.Log as change
 use Rattle.change_ring.specs.Log.{FitsView, added, replay, rows_of, view_at}
-use Rattle.change_ring.proofs.LogLaws.{added-append, uids-rows_after}
-use Rattle.change_ring.specs.Window.{total}
-use Rattle.cursor_set.specs.Cursors.{CursorHandle, Open, if_of, in_slot}
+use Rattle.change_ring.proofs.LogLaws.{FitsView-first, added-append, uids-rows_after}
 use Rattle.delivery_token.specs.declared.Job.{Job}
 use Rattle.delivery_token.specs.declared.Verdict.TheVariants.{Stored}
 use Rattle.mailbox.specs.declared.clients.MailFault.{MailFault}
 use Rattle.mailbox.specs.declared.clients.Opening.{Opening}
 use Rattle.mailbox.specs.declared.clients.Row.{Row}
 use Rattle.mailbox.specs.declared.mailbox.Status.{Status}
-use Rattle.mailbox.specs.Mailbox.{Mailbox, Message, message_with}
-use Rattle.mailbox.specs.Stands.{IsKept}
 use Rattle.house_history.specs.declared.event.Event as house
 use Rattle.house_history.specs.declared.event.Event.TheVariants.{Judged}
 use Rattle.house_history.specs.Events.{changes_in}
 use Rattle.house_history.specs.Legal.{Legal, Stands as WasStored}
-use Rattle.house_history.proofs.Parts.{same as same_number}
 use Rattle.house_history.proofs.Follow.{changes_grow}
 use Rattle.house_history.proofs.Standing.{same_copy}
 use Rattle.house_history.proofs.Uids.{uids_fit}
-use Rattle.workers_sync.specs.Holds.{HasCursor}
 use Rattle.imap_session.specs.Exchange.{Call, Answer, Enter, Look, Read, Count, Alter, Expunge, Feed, Leave, Entered, Looked, Found, Counted, Altered, Expunged, Fed, Left, Refused, Starved, Event, Standing, Turn, Discard, Discarded}
 use Rattle.imap_session.specs.Commands.{unlimited}
 use Rattle.imap_session.specs.Store.{Met}
 use Rattle.session_thread.specs.declared.locked_store.Entry.{Entry}
-use Rattle.session_thread.specs.Locks.{HasOpening, HasRow, HasStatus, Holds, LockedStore, entered_at, seeing}
-use Rattle.session_thread.specs.SinceSelect.{IsUpToCursor, Opens, Shows, Tells, WasShown, WasShownIn, shown_since, shown_then}
-use Rattle.session_thread.proofs.SinceSelect.{by_call, since_select}
+use Rattle.session_thread.specs.ByHistory.{ByHistory, Comes, Moves}
+use Rattle.session_thread.specs.Locks.{HasOpening, HasRow, HasStatus, LockedStore}
+use Rattle.session_thread.specs.SinceSelect.{IsUpToCursor, Shows, WasShown, WasShownIn, shown_since, shown_then}
+use Rattle.session_thread.proofs.ByHistory.{by_history, shown_by_history}
 use Rattle.laws_client.specs.Beliefs.{MayShow}
 use Rattle.laws_client.specs.Client.{Client}
-use Rattle.laws_client.specs.Clients.{IsRightAbout, Told, hears, hears_all}
+use Rattle.laws_client.specs.Clients.{IsRightAbout, hears, hears_all}
 use Rattle.laws_client.specs.Fetches.{AreSmall, IsNumbered}
 use Rattle.laws_client.specs.ListTurns.{IsCounted, IsRowOf, Sees}
-use Rattle.laws_client.specs.RecordTurns.{Stands, VerdictsArePrinted, told_of}
-use Rattle.laws_client.specs.Talks.{Happening, leads_to}
-use Rattle.laws_client.specs.Served.{CursorsStaySmall, FeedsReachTheEnd, HasSmallCursor, IsAtEnd, ServedListsAreCurrent, ServedLives, ServedLivesAreKnown, ServedTextsStay, ServedTurnIsKnown, comes, turns, counted_by, counted_in, messages_in}
+use Rattle.laws_client.specs.RecordTurns.{Stands}
+use Rattle.imap_session.specs.Happenings.{Happening, Lived, Told, VerdictsArePrinted, comes, leads_to, told_of, turns}
+use Rattle.laws_client.specs.Served.{CursorsStaySmall, FeedsReachTheEnd, HasSmallCursor, IsAtEnd, ServedListsAreCurrent, ServedLivesAreKnown, ServedTextsStay, ServedTurnIsKnown, counted_by, counted_in, messages_in}
 use Rattle.laws_client.proofs.Living.{hears_last}
 use Rattle.laws_client.proofs.Logs.{length_replay, small_front, small_replay, view_stays, view_then}
 use Rattle.laws_client.proofs.RecordKnown.{stands_still, turn_heard}
@@ -58,16 +52,23 @@ small_of : (xs : List ℕ) → All (λ (uid : ℕ). uid < 2 ^ 32) xs → AreSmal
 small_of [] h = tt
 small_of (x ∷ xs) h = (let few = All-head (λ (uid : ℕ). uid < 2 ^ 32) x xs h in omega (arith, few), small_of xs (All-tail (λ (uid : ℕ). uid < 2 ^ 32) x xs h))
 
-abbrev pub Small : List house.Event → Type 0
-Small history = (m : ℕ) → AreSmall (added (changes_in m history))
+-- the UIDs of each mailbox are small, and each change of its log speaks of a message that is there
+pub record Small (history : List house.Event) : Type 0 where
+  uids : (m : ℕ) → AreSmall (added (changes_in m history))
+  fits : (m : ℕ) → FitsView [] (changes_in m history)
 
 pub small_before : (before after : List house.Event) → IsPrefix before after → Small after → Small before
-small_before before after goes small m =
-    let g = changes_grow m before after goes in
-    small_front (added (changes_in m before)) (added g.0) (subst AreSmall (ap added (sym g.1) ∙ added-append (changes_in m before) g.0) (small m))
+small_before before after goes small = record {
+  uids = λ m. let g = changes_grow m before after goes in
+      small_front (added (changes_in m before)) (added g.0) (subst AreSmall (ap added (sym g.1) ∙ added-append (changes_in m before) g.0) (small.uids m));
+  fits = λ m. let g = changes_grow m before after goes in FitsView-first [] (changes_in m before) g.0 (subst (λ (l : List Change). FitsView [] l) (sym g.1) (small.fits m));
+}
 
 pub small_uids : (history : List house.Event) → Legal history → Small history
-small_uids history legal m = small_of (added (changes_in m history)) (uids_fit history m legal)
+small_uids history legal = record {
+  uids = λ m. small_of (added (changes_in m history)) (uids_fit history m legal);
+  fits = λ m. (legal.logs m).there;
+}
 
 length_added : (cs : List Change) → length (added cs) ≤ length cs
 length_added [] = omega arith
@@ -91,7 +92,7 @@ numbered selection small at = by selection.entered at
   where
     by : (entered : Option Entry) → IfSome entered (λ (here : Entry). here.handle.at ≤ 2 ^ 62) → IsNumbered (counted_in selection.history entered)
     by None h = record { few = omega arith; small = tt }
-    by (Some here) h = numbered_to (changes_in here.mailbox selection.history) here.handle.at (small here.mailbox) h
+    by (Some here) h = numbered_to (changes_in here.mailbox selection.history) here.handle.at (small.uids here.mailbox) h
 
 -- ---- what a session counts, as the history goes on
 
@@ -103,13 +104,10 @@ counted_grows before after None shown goes was = refl
 counted_grows before after (Some here) shown goes was =
     view_grows (changes_in here.mailbox before) (changes_in here.mailbox after) here.handle.at (changes_grow here.mailbox before after goes) was.within
 
-pub entered_of : (old new : LockedStore) → new ≡ seeing old new.history → new.entered ≡ old.entered
-entered_of old new is = ap (λ (p : LockedStore). p.entered) is
-
 -- it has seen more of the history, and is where it was
-counts_still : (old new : LockedStore) (shown : List Change) → new ≡ seeing old new.history → IsPrefix old.history new.history → WasShown old shown → counted_by new ≡ counted_by old
+counts_still : (old new : LockedStore) (shown : List Change) → new.entered ≡ old.entered → IsPrefix old.history new.history → WasShown old shown → counted_by new ≡ counted_by old
 counts_still old new shown is goes was =
-    ap (λ (e : Option Entry). counted_in new.history e) (entered_of old new is) ∙ counted_grows old.history new.history old.entered shown goes was
+    ap (λ (e : Option Entry). counted_in new.history e) is ∙ counted_grows old.history new.history old.entered shown goes was
 
 pub of_entry : (P : Entry → Type 0) (entered : Option Entry) (here : Entry) → entered ≡ Some here → IfSome entered P → P here
 of_entry P entered here is h = subst (λ (e : Option Entry). IfSome e P) is h
@@ -134,48 +132,40 @@ served_lists_are_current selection here is end =
 still_small : (old new : LockedStore) → new ≡ old → HasSmallCursor old → HasSmallCursor new
 still_small old new is h = subst (λ (p : LockedStore). HasSmallCursor p) (sym is) h
 
-seen_small : (old new : LockedStore) → new ≡ seeing old new.history → HasSmallCursor old → HasSmallCursor new
-seen_small old new is h = subst (λ (e : Option Entry). IfSome e (λ (here : Entry). here.handle.at ≤ 2 ^ 62)) (sym (entered_of old new is)) h
-
--- a cursor stands within the log of its mailbox, and that has no more changes
-within_few : (m : Mailbox) (handle : CursorHandle) (view : List ℕ) → IsKept m → HasCursor m handle view → handle.at ≤ 2 ^ 62
-within_few m handle view kept known = let few = kept.few in let within = known.within in omega (arith, few, within)
+seen_small : (old new : LockedStore) → new.entered ≡ old.entered → HasSmallCursor old → HasSmallCursor new
+seen_small old new is h = subst (λ (e : Option Entry). IfSome e (λ (here : Entry). here.handle.at ≤ 2 ^ 62)) (sym is) h
 
 at_small : (selection : LockedStore) (here : Entry) → selection.entered ≡ Some here → here.handle.at ≤ 2 ^ 62 → HasSmallCursor selection
 at_small selection here is few = to_entry (λ (e : Entry). e.handle.at ≤ 2 ^ 62) selection.entered here is few
 
--- a refused call leaves the session as it was
-pub still : (old new : LockedStore) (call : Call) (fault : MailFault) → Holds old call (Refused fault) new → new ≡ old
-still old new (Enter m) fault h = h.0
-still old new (Look by_uid set) fault h = h.0
-still old new (Read uid mark) fault h = h.0
-still old new (Count m) fault h = h.0
-still old new (Alter uid op) fault h = h.0
-still old new (Expunge uids) fault h = h.0
-still old new (Feed limit) fault h = h.0
-still old new (Leave remove) fault h = h.0
-still old new (Discard m uids) fault h = h.0
+comes_small : (old new : LockedStore) (m : ℕ) (opening : Opening) (here : Entry) → Comes old new m opening here → HasSmallCursor new
+comes_small old new m opening here c =
+    let few = subst (λ (x : ℕ). length (changes_in x new.history) ≤ 2 ^ 62) (sym c.mailbox) c.logs.few in
+    let start = c.opens.start in
+    let cursor = c.cursor in
+    at_small new here c.there (omega (arith, few, start, cursor))
 
-pub never : (old new : LockedStore) (call : Call) (n : ℕ) → Holds old call (Starved n) new → ⊥
-never old new (Enter m) n h = h
-never old new _ n h = h
+moves_small : (old new : LockedStore) (here : Entry) (count : ℕ) → length (changes_in here.mailbox new.history) ≤ 2 ^ 62 → Moves old new here count → HasSmallCursor new
+moves_small old new here count few moves =
+    let within = moves.within in
+    at_small new (record here { handle = record here.handle { at = here.handle.at + count } }) moves.there (omega (arith, few, within))
 
-pub small_call : (old new : LockedStore) (call : Call) (answer : Answer) → Holds old call answer new → HasSmallCursor old → HasSmallCursor new
-small_call old new call (Refused fault) h small = still_small old new (still old new call fault h) small
-small_call old new (Enter m) (Entered opening) (nowhere, acceptor, (handle, (found, left, (number, enters), k), is), fits) small =
-    at_small new (record { mailbox = m; start = handle.at; handle = handle }) (ap (λ (p : LockedStore). p.entered) is) (within_few left.mailbox handle _ enters.event.left_kept enters.known)
+pub small_call : (old new : LockedStore) (call : Call) (answer : Answer) → ByHistory old call answer new → HasSmallCursor old → HasSmallCursor new
+small_call old new call (Refused fault) h small = still_small old new h small
+small_call old new (Enter m) (Entered opening) h small = comes_small old new m opening h.1 h.2
 small_call old new (Look by_uid set) (Looked view) h small = still_small old new h.0 small
 small_call old new (Read uid mark) (Found row) h small = seen_small old new h.0 small
 small_call old new (Count m) (Counted status) h small = seen_small old new h.0 small
 small_call old new (Alter uid op) (Altered flags) h small = seen_small old new h.0 small
-small_call old new (Expunge uids) (Expunged view changes gone) (here, there, (next, (found, left, (does, shows), k), is)) small =
-    at_small new (record { mailbox = here.mailbox; start = here.start; handle = next }) (ap (λ (p : LockedStore). p.entered) is) (within_few left.mailbox next _ does.event.left_kept does.counts)
-small_call old new (Feed limit) (Fed view changes) (here, there, (next, (found, left, (feeds, shows), k), is)) small =
-    at_small new (record { mailbox = here.mailbox; start = here.start; handle = next }) (ap (λ (p : LockedStore). p.entered) is) (within_few left.mailbox next _ feeds.event.left_kept feeds.counts)
-small_call old new (Leave remove) (Left gone) h small = subst (λ (e : Option Entry). IfSome e (λ (here : Entry). here.handle.at ≤ 2 ^ 62)) (sym (ap (λ (p : LockedStore). p.entered) h.1)) tt
+small_call old new (Expunge uids) (Expunged view changes gone) h small = moves_small old new h.0 (length changes) h.2.0.few h.2.4
+small_call old new (Feed limit) (Fed view changes) h small = moves_small old new h.0 (length changes) h.2.0.few h.2.3
+small_call old new (Leave remove) (Left gone) h small = subst (λ (e : Option Entry). IfSome e (λ (here : Entry). here.handle.at ≤ 2 ^ 62)) (sym h.0) tt
 small_call old new (Discard m uids) Discarded h small = seen_small old new h.0 small
-small_call old new call (Starved n) h small = absurd (never old new call n h)
 small_call old new _ _ h small = absurd h
+
+pub never : (old new : LockedStore) (call : Call) (n : ℕ) → ByHistory old call (Starved n) new → ⊥
+never old new (Enter m) n h = h
+never old new _ n h = h
 
 pub cursors_stay_small : CursorsStaySmall
 cursors_stay_small old new [] met small = still_small old new met small
@@ -189,58 +179,33 @@ SeesSo old call answer new = Sees (counted_by old) (record { call = call; answer
 unmoved : (old new : LockedStore) (call : Call) (fault : MailFault) → new ≡ old → SeesSo old call (Refused fault) new
 unmoved old new call fault is = (record { leads = ap counted_by is; fits = tt }, tt)
 
--- the view that was looked at
-met_view : (old : LockedStore) (here : Entry) (view : List ℕ) (changes : List Change) → old.entered ≡ Some here → Shows old.history here view changes → view ≡ counted_by old
-met_view old here view changes there shows = shows.met ∙ sym (ap (counted_in old.history) there)
-
-sees_entry : (old new : LockedStore) (call : Call) (opening : Opening) (shown : List Change) → Holds old call (Entered opening) new → Tells old (Entered opening) new → WasShown new [] → HasSmallCursor new
-    → SeesSo old call (Entered opening) new
-sees_entry old new (Enter m) opening shown h tells was small =
-    let handle : CursorHandle = h.2.0 in
-    let here : Entry = record { mailbox = m; start = handle.at; handle = handle } in
-    let there : new.entered ≡ Some here = ap (λ (p : LockedStore). p.entered) h.2.2 in
-    let told = of_entry (λ (e : Entry). Opens new.history e opening) new.entered here there tells in
-    let few = of_entry (λ (e : Entry). e.handle.at ≤ 2 ^ 62) new.entered here there small in
-    let log : List Change = changes_in m new.history in
-    let view : counted_by new ≡ messages_in m new.history = served_lists_are_current new here there told.start in
+sees_entry : (old new : LockedStore) (call : Call) (opening : Opening) → ByHistory old call (Entered opening) new → HasSmallCursor new → SeesSo old call (Entered opening) new
+sees_entry old new (Enter m) opening (nowhere, here, c) small =
+    let few = of_entry (λ (e : Entry). e.handle.at ≤ 2 ^ 62) new.entered here c.there small in
+    let log : List Change = changes_in here.mailbox new.history in
+    let view : counted_by new ≡ messages_in here.mailbox new.history = served_lists_are_current new here c.there (c.cursor ∙ c.opens.start) in
     let count : opening.count ≡ length (counted_by new) =
-    told.count ∙ sym (length-map (rows_of log) (λ (row : change.Row). row.uid)) ∙ ap length (sym view) in
-    let is = ap (λ (xs : List ℕ). length xs) (ap (counted_in new.history) there) in
-    let most = few_at log handle.at in
-    let fine : HasOpening opening = h.3 in
+    c.opens.count ∙ sym (length-map (rows_of log) (λ (row : change.Row). row.uid)) ∙ ap length (sym view) in
+    let is = ap (λ (xs : List ℕ). length xs) (ap (counted_in new.history) c.there) in
+    let most = few_at log here.handle.at in
+    let fine : HasOpening opening = c.fits in
     let next = fine.0 in
     let validity = fine.1 in
     (record { leads = tt; fits = tt }, record { count = count; few = omega (arith, count, is, most, few); uidvalidity = omega (arith, validity); uidnext = omega (arith, next) })
-sees_entry old new _ opening shown h tells was small = absurd h
+sees_entry old new _ opening h small = absurd h
 
-sees_look : (old new : LockedStore) (call : Call) (view : List ℕ) → Holds old call (Looked view) new → Tells old (Looked view) new → SeesSo old call (Looked view) new
-sees_look old new (Look by_uid set) view h tells =
-    let there = h.1.1 in
-    let shows = of_entry (λ (e : Entry). Shows old.history e view []) old.entered h.1.0 there tells in
-    (record { leads = (met_view old h.1.0 view [] there shows, ap counted_by h.0); fits = tt }, tt)
-sees_look old new _ view h tells = absurd h
+sees_look : (old new : LockedStore) (call : Call) (view : List ℕ) → ByHistory old call (Looked view) new → SeesSo old call (Looked view) new
+sees_look old new (Look by_uid set) view (is, (here, there, met)) =
+    (record { leads = (met ∙ sym (ap (counted_in old.history) there), ap counted_by is); fits = tt }, tt)
+sees_look old new _ view h = absurd h
 
--- a row that was found has the UID that was asked for
-row_uid : (uid : ℕ) (f : Message → Row) (messages : List Message) (row : Row) → ((m : Message) → (f m).uid ≡ m.uid) → option_map f (message_with uid messages) ≡ Some row → row.uid ≡ uid
-row_uid uid f [] row same e = cc
-row_uid uid f (m ∷ messages) row same e = by (m.uid == uid) refl (row_uid uid f messages row same) e
-  where
-    some_row : Row → Option Row → Row
-    some_row d None = d
-    some_row d (Some r) = r
+fits_row : (uid : ℕ) (row : Option Row) → IfSome row (λ found. found.uid ≡ uid) → HasRow row → IsRowOf uid row
+fits_row uid None is fine = tt
+fits_row uid (Some row) is fine = (is, fine)
 
-    by : (b : Bool) → (m.uid == uid) ≡ b → (option_map f (message_with uid messages) ≡ Some row → row.uid ≡ uid) → option_map f (if b then Some m else message_with uid messages) ≡ Some row → row.uid ≡ uid
-    by true is more found = ap (λ (o : Option Row). (some_row row o).uid) (sym found) ∙ same m ∙ eqb-true m.uid uid is
-    by false is more found = more found
-
-row_of_uid : (uid : ℕ) (f : Message → Row) (messages : List Message) (row : Option Row) → ((m : Message) → (f m).uid ≡ m.uid) → row ≡ option_map f (message_with uid messages) → HasRow row → IsRowOf uid row
-row_of_uid uid f messages None same e fine = tt
-row_of_uid uid f messages (Some row) same e fine = (row_uid uid f messages row same (sym e), fine)
-
-sees_row : (old new : LockedStore) (call : Call) (row : Option Row) (shown : List Change) → Holds old call (Found row) new → IsPrefix old.history new.history → WasShown old shown → SeesSo old call (Found row) new
-sees_row old new (Read uid mark) row shown h goes was =
-    let reads = h.1.2.2.0 in
-    (record { leads = counts_still old new shown h.0 goes was; fits = row_of_uid uid _ h.1.2.1.mailbox.messages row (λ m. refl) reads.answers h.2 }, tt)
+sees_row : (old new : LockedStore) (call : Call) (row : Option Row) (shown : List Change) → ByHistory old call (Found row) new → IsPrefix old.history new.history → WasShown old shown → SeesSo old call (Found row) new
+sees_row old new (Read uid mark) row shown (is, (here, there, (logs, read, seen))) goes was =
+    (record { leads = counts_still old new shown is goes was; fits = fits_row uid row read.uid_of read.fits }, tt)
 sees_row old new _ row shown h goes was = absurd h
 
 -- what has the numbers of the code's types can be printed
@@ -254,15 +219,15 @@ counted_so status is = record {
   size = is.size;
 }
 
-sees_count : (old new : LockedStore) (call : Call) (status : _) (shown : List Change) → Holds old call (Counted status) new → IsPrefix old.history new.history → WasShown old shown → SeesSo old call (Counted status) new
-sees_count old new (Count m) status shown h goes was = (record { leads = counts_still old new shown h.0 goes was; fits = counted_so status h.3 }, tt)
+sees_count : (old new : LockedStore) (call : Call) (status : _) (shown : List Change) → ByHistory old call (Counted status) new → IsPrefix old.history new.history → WasShown old shown → SeesSo old call (Counted status) new
+sees_count old new (Count m) status shown h goes was = (record { leads = counts_still old new shown h.0 goes was; fits = counted_so status h.4 }, tt)
 sees_count old new _ status shown h goes was = absurd h
 
-sees_discard : (old new : LockedStore) (call : Call) (shown : List Change) → Holds old call Discarded new → IsPrefix old.history new.history → WasShown old shown → SeesSo old call Discarded new
+sees_discard : (old new : LockedStore) (call : Call) (shown : List Change) → ByHistory old call Discarded new → IsPrefix old.history new.history → WasShown old shown → SeesSo old call Discarded new
 sees_discard old new (Discard m uids) shown h goes was = (record { leads = counts_still old new shown h.0 goes was; fits = tt }, tt)
 sees_discard old new _ shown h goes was = absurd h
 
-sees_flags : (old new : LockedStore) (call : Call) (flags : _) (shown : List Change) → Holds old call (Altered flags) new → IsPrefix old.history new.history → WasShown old shown → SeesSo old call (Altered flags) new
+sees_flags : (old new : LockedStore) (call : Call) (flags : _) (shown : List Change) → ByHistory old call (Altered flags) new → IsPrefix old.history new.history → WasShown old shown → SeesSo old call (Altered flags) new
 sees_flags old new (Alter uid op) flags shown h goes was = (record { leads = counts_still old new shown h.0 goes was; fits = tt }, tt)
 sees_flags old new _ flags shown h goes was = absurd h
 
@@ -272,83 +237,73 @@ record MovesOn (old : LockedStore) (view : List ℕ) (changes : List Change) (ne
   goes : counted_by new ≡ replay (counted_by old) changes
   may : MayShow (counted_by old) changes
 
-moves_on : (old new : LockedStore) (here : Entry) (next : CursorHandle) (view : List ℕ) (changes shown : List Change) → old.entered ≡ Some here → new ≡ entered_at old here next new.history → IsPrefix old.history new.history
-    → Shows new.history here view changes → WasShown old shown → WasShown new (shown ++ changes) → FitsView [] (changes_in here.mailbox new.history) → Small new.history → HasSmallCursor new → MovesOn old view changes new
-moves_on old new here next view changes shown there is goes shows was now fits small few =
+moves_on : (old new : LockedStore) (here : Entry) (view : List ℕ) (changes shown : List Change) → old.entered ≡ Some here → Moves old new here (length changes) → IsPrefix old.history new.history
+    → Shows new.history here view changes → WasShown old shown → Small new.history → HasSmallCursor new → MovesOn old view changes new
+moves_on old new here view changes shown there moves goes shows was small few =
     let log : List Change = changes_in here.mailbox new.history in
-    let at : Entry = record { mailbox = here.mailbox; start = here.start; handle = next } in
-    let there_now : new.entered ≡ Some at = ap (λ (p : LockedStore). p.entered) is in
+    let at : Entry = record here { handle = record here.handle { at = here.handle.at + length changes } } in
     let before = shown_to old.history old.entered here shown there was in
-    let after = shown_to new.history new.entered at (shown ++ changes) there_now now in
-    let few_now = of_entry (λ (e : Entry). e.handle.at ≤ 2 ^ 62) new.entered at there_now few in
-    let l = length-append shown changes in
-    let c = before.cursor in
-    let d = after.cursor in
-    let within = after.within in
-    let on : next.at ≡ here.handle.at + length changes = omega (arith, l, c, d) in
-    let inside : here.handle.at ≤ length log = omega (arith, on, within) in
+    let few_now = of_entry (λ (e : Entry). e.handle.at ≤ 2 ^ 62) new.entered at moves.there few in
+    let within = moves.within in
+    let inside : here.handle.at ≤ length log = omega (arith, within) in
     let some : List Change = take (length changes) (drop here.handle.at log) in
     let same : counted_by old ≡ view_at log here.handle.at =
     ap (counted_in old.history) there ∙ sym (view_grows (changes_in here.mailbox old.history) log here.handle.at (changes_grow here.mailbox old.history new.history goes) before.within) in
     let most = few_at log here.handle.at in
     let long = ap length shows.showed in record {
       met = shows.met ∙ sym same;
-      goes = ap (counted_in new.history) there_now ∙ ap (view_at log) (on ∙ ap (λ (cs : List Change). here.handle.at + length cs) shows.showed)
+      goes = ap (counted_in new.history) moves.there ∙ ap (λ (cs : List Change). view_at log (here.handle.at + length cs)) shows.showed
           ∙ ap (λ (l : List Change). view_at l (here.handle.at + length some)) (sym (append-nil log)) ∙ view_then here.handle.at (length changes) log [] inside
           ∙ ap (λ (cs : List Change). replay (view_at log here.handle.at) cs) (sym shows.showed) ∙ ap (λ (xs : List ℕ). replay xs changes) (sym same);
       may = subst (λ (cs : List Change). MayShow (counted_by old) cs) (sym shows.showed) (subst (λ (xs : List ℕ). MayShow xs some) (sym same)
-          (shows_fit log here.handle.at (length changes) fits (small here.mailbox) (omega (arith, most, few_now, on, long))));
+          (shows_fit log here.handle.at (length changes) (small.fits here.mailbox) (small.uids here.mailbox) (omega (arith, most, few_now, long))));
     }
 
-sees_expunge : (old new : LockedStore) (call : Call) (view : List ℕ) (changes : List Change) (gone : ℕ) (shown : List Change) → Holds old call (Expunged view changes gone) new → IsPrefix old.history new.history
-    → Tells old (Expunged view changes gone) new → WasShown old shown → WasShown new (shown ++ changes) → Small new.history → HasSmallCursor new → SeesSo old call (Expunged view changes gone) new
-sees_expunge old new (Expunge uids) view changes gone shown (here, there, (next, (found, left, does, k), is)) goes tells was now small few =
-    let shows = of_entry (λ (e : Entry). Shows new.history e view changes) old.entered here there tells in
-    let on = moves_on old new here next view changes shown there is goes shows was now (k.legal.logs here.mailbox).there small few in
+sees_expunge : (old new : LockedStore) (call : Call) (view : List ℕ) (changes : List Change) (gone : ℕ) (shown : List Change) → ByHistory old call (Expunged view changes gone) new → IsPrefix old.history new.history
+    → WasShown old shown → Small new.history → HasSmallCursor new → SeesSo old call (Expunged view changes gone) new
+sees_expunge old new (Expunge uids) view changes gone shown h goes was small few =
+    let on = moves_on old new h.0 view changes shown h.1 h.2.4 goes h.2.1 was small few in
     (record { leads = (on.met, on.goes); fits = on.may }, tt)
-sees_expunge old new _ view changes gone shown h goes tells was now small few = absurd h
+sees_expunge old new _ view changes gone shown h goes was small few = absurd h
 
-sees_feed : (old new : LockedStore) (call : Call) (view : List ℕ) (changes : List Change) (shown : List Change) → Holds old call (Fed view changes) new → IsPrefix old.history new.history
-    → Tells old (Fed view changes) new → WasShown old shown → WasShown new (shown ++ changes) → Small new.history → HasSmallCursor new → SeesSo old call (Fed view changes) new
-sees_feed old new (Feed limit) view changes shown (here, there, (next, (found, left, does, k), is)) goes tells was now small few =
-    let shows = of_entry (λ (e : Entry). Shows new.history e view changes) old.entered here there tells in
-    let on = moves_on old new here next view changes shown there is goes shows was now (k.legal.logs here.mailbox).there small few in
+sees_feed : (old new : LockedStore) (call : Call) (view : List ℕ) (changes : List Change) (shown : List Change) → ByHistory old call (Fed view changes) new → IsPrefix old.history new.history
+    → WasShown old shown → Small new.history → HasSmallCursor new → SeesSo old call (Fed view changes) new
+sees_feed old new (Feed limit) view changes shown h goes was small few =
+    let on = moves_on old new h.0 view changes shown h.1 h.2.3 goes h.2.1 was small few in
     (record { leads = (on.met, on.goes); fits = on.may }, tt)
-sees_feed old new _ view changes shown h goes tells was now small few = absurd h
+sees_feed old new _ view changes shown h goes was small few = absurd h
 
-pub sees_call : (old new : LockedStore) (call : Call) (answer : Answer) (shown : List Change) → Holds old call answer new → WasShown old shown → HasSmallCursor old → Small new.history → SeesSo old call answer new
-sees_call old new call answer shown h was at small =
-    let b = by_call old new call answer shown h was in
-    by answer h b.0 b.1 b.2 (small_call old new call answer h at)
+pub sees_call : (old new : LockedStore) (call : Call) (answer : Answer) (shown : List Change) → ByHistory old call answer new → WasShown old shown → HasSmallCursor old → Small new.history → SeesSo old call answer new
+sees_call old new call answer shown h was at small = by answer h (by_history old new call answer shown h was).0 (small_call old new call answer h at)
   where
-    by : (answer : Answer) → Holds old call answer new → IsPrefix old.history new.history → Tells old answer new → WasShown new (shown_then shown answer) → HasSmallCursor new → SeesSo old call answer new
-    by (Entered opening) h goes tells now few = sees_entry old new call opening shown h tells now few
-    by (Looked view) h goes tells now few = sees_look old new call view h tells
-    by (Found row) h goes tells now few = sees_row old new call row shown h goes was
-    by (Counted status) h goes tells now few = sees_count old new call status shown h goes was
-    by (Altered flags) h goes tells now few = sees_flags old new call flags shown h goes was
-    by (Expunged view changes gone) h goes tells now few = sees_expunge old new call view changes gone shown h goes tells was now small few
-    by (Fed view changes) h goes tells now few = sees_feed old new call view changes shown h goes tells was now small few
-    by (Left gone) h goes tells now few = (record { leads = tt; fits = tt }, tt)
-    by Discarded h goes tells now few = sees_discard old new call shown h goes was
-    by (Refused fault) h goes tells now few = unmoved old new call fault (still old new call fault h)
-    by (Starved n) h goes tells now few = absurd (never old new call n h)
+    by : (answer : Answer) → ByHistory old call answer new → IsPrefix old.history new.history → HasSmallCursor new → SeesSo old call answer new
+    by (Entered opening) h goes few = sees_entry old new call opening h few
+    by (Looked view) h goes few = sees_look old new call view h
+    by (Found row) h goes few = sees_row old new call row shown h goes was
+    by (Counted status) h goes few = sees_count old new call status shown h goes was
+    by (Altered flags) h goes few = sees_flags old new call flags shown h goes was
+    by (Expunged view changes gone) h goes few = sees_expunge old new call view changes gone shown h goes was small few
+    by (Fed view changes) h goes few = sees_feed old new call view changes shown h goes was small few
+    by (Left gone) h goes few = (record { leads = tt; fits = tt }, tt)
+    by Discarded h goes few = sees_discard old new call shown h goes was
+    by (Refused fault) h goes few = unmoved old new call fault h
+    by (Starved n) h goes few = absurd (never old new call n h)
 
-pub hears_held : (old new : LockedStore) (events : List Event) (shown : List Change) → Met Holds old events new → WasShown old shown → HasSmallCursor old → Small new.history → HearsAll (counted_by old) events (counted_by new)
+pub hears_held : (old new : LockedStore) (events : List Event) (shown : List Change) → Met ByHistory old events new → WasShown old shown → HasSmallCursor old → Small new.history → HearsAll (counted_by old) events (counted_by new)
 hears_held old new [] shown met was at small = ap counted_by met
 hears_held old new (event ∷ events) shown (mid, one, more) was at small =
-    let b = by_call old mid event.call event.answer shown one was in
-    let s = since_select mid new events (shown_then shown event.answer) more b.2 in
+    let b = by_history old mid event.call event.answer shown one was in
+    let s = shown_by_history mid new events (shown_then shown event.answer) more b.1 in
     let sees = sees_call old mid event.call event.answer shown one was at (small_before mid.history new.history s.0 small) in
-    (counted_by mid, sees.0, sees.1, hears_held mid new events (shown_then shown event.answer) more b.2 (small_call old mid event.call event.answer one at) small)
+    (counted_by mid, sees.0, sees.1, hears_held mid new events (shown_then shown event.answer) more b.1 (small_call old mid event.call event.answer one at) small)
 
 -- ---- turns
 
-turn_held : (old new : LockedStore) (shown : List Change) (now : Standing) (happening : Happening) (turn : Turn) (client : Option Client) → WasShown old shown → HasSmallCursor old → Stands now
-    → VerdictsArePrinted happening → Small new.history → leads_to now happening ≡ Some turn → Met Holds old turn.events new
+pub turn_held : (old new : LockedStore) (shown : List Change) (now : Standing) (happening : Happening) (turn : Turn) (client : Option Client) → WasShown old shown → HasSmallCursor old → Stands now
+    → VerdictsArePrinted happening → Small new.history → leads_to now happening ≡ Some turn → Met ByHistory old turn.events new
     → IsRightAbout (counted_by old) client → IsRightAbout (counted_by new) (hears client (told_of now happening turn.bytes))
 turn_held old new shown now happening turn client was at stands printed small e met right =
-    let s = since_select old new turn.events shown met was in
+    let s = shown_by_history old new turn.events shown met was in
     turn_heard now (counted_by old) happening turn (counted_by new) client stands (numbered old (small_before old.history new.history s.0 small) at) printed e (hears_held old new turn.events shown met was at small) right
 
 pub served_turn_is_known : ServedTurnIsKnown
@@ -364,27 +319,27 @@ pub record StandsIn (now : Standing) (selection : LockedStore) : Type 0 where
   pub at : HasSmallCursor selection
 
 pub stands_in : (first : Standing) (began : LockedStore) {sent : List ℕ} {told : List Told} {now : Standing} {selection : LockedStore} → began.entered ≡ None → Stands first
-    → ServedLives first began sent told now selection → StandsIn now selection
+    → Lived ByHistory first began sent told now selection → StandsIn now selection
 stands_in first began none stands comes = record {
   stands = stands;
   shown = [];
   was = subst (λ (e : Option Entry). WasShownIn began.history e []) (sym none) refl;
   at = subst (λ (e : Option Entry). IfSome e (λ (here : Entry). here.handle.at ≤ 2 ^ 62)) (sym none) tt;
 }
-stands_in first began none stands (turns {now = now} {selection = selection} lives happening bytes turn next sent printed e met) =
+stands_in first began none stands (turns {now = now} {s = selection} lives happening bytes turn next timely sent printed e met) =
     let K = stands_in first began none stands lives in record {
       stands = stands_still now happening turn K.stands e;
       shown = shown_since K.shown turn.events;
-      was = (since_select selection next turn.events K.shown met K.was).1;
+      was = (shown_by_history selection next turn.events K.shown met K.was).1;
       at = cursors_stay_small selection next turn.events met K.at;
     }
 
-served_lives : (first : Standing) (began : LockedStore) {sent : List ℕ} {told : List Told} {now : Standing} {selection : LockedStore} → began.entered ≡ None → Stands first → Small selection.history
-    → ServedLives first began sent told now selection → IsRightAbout (counted_by selection) (hears_all None told)
+pub served_lives : (first : Standing) (began : LockedStore) {sent : List ℕ} {told : List Told} {now : Standing} {selection : LockedStore} → began.entered ≡ None → Stands first → Small selection.history
+    → Lived ByHistory first began sent told now selection → IsRightAbout (counted_by selection) (hears_all None told)
 served_lives first began none stands small comes = tt
-served_lives first began none stands small (turns {told = told} {now = now} {selection = selection} lives happening bytes turn next sent printed e met) =
+served_lives first began none stands small (turns {told = told} {now = now} {s = selection} lives happening bytes turn next timely sent printed e met) =
     let K = stands_in first began none stands lives in
-    let s = since_select selection next turn.events K.shown met K.was in
+    let s = shown_by_history selection next turn.events K.shown met K.was in
     let right = served_lives first began none stands (small_before selection.history next.history s.0 small) lives in
     subst (λ (c : Option Client). IsRightAbout (counted_by next) c) (sym (hears_last None told (told_of now happening turn.bytes)))
     (turn_held selection next K.shown now happening turn (hears_all None told) K.was K.at K.stands printed small e met right)
@@ -394,34 +349,17 @@ served_lives_are_known first began sent told now selection none stands legal liv
 
 -- ---- a Feed that shows all
 
-number_of : (b : Bool) (o : Option Open) (x : Open) → (if b then o else None) ≡ Some x → b ≡ true
-number_of true o x e = refl
-number_of false o x e = cc
-
--- the handle is of the mailbox that was found
-pub of_number : (found : Mailbox) (handle : CursorHandle) (view : List ℕ) → IsKept found → HasCursor found handle view → found.number ≡ handle.number
-of_number found handle view kept known =
-    sym kept.handles ∙ same_number (found.cursors.number) handle.number
-    (number_of (found.cursors.number == handle.number) (if_of handle (in_slot found.cursors handle.slot)) (record { serial = handle.serial; at = handle.at; view = view }) known.cursor)
-
 -- as many were shown as were pending
 all_were : (limit pending shown : ℕ) → shown ≡ min limit pending → pending ≤ 2 ^ 62 → (shown < limit) ⊎ (limit ≡ unlimited) → shown ≡ pending
 all_were limit pending shown is few (inl less) = omega (arith, is, less)
 all_were limit pending shown is few (inr all) = omega (arith, is, few, all)
 
 pub feeds_reach_the_end : FeedsReachTheEnd
-feeds_reach_the_end old new limit view changes shown was (here, there, (next, (found, left, (feeds, shows), k), is)) most =
-    let before = shown_to old.history old.entered here shown there was in
-    let n : found.mailbox.number ≡ here.mailbox = of_number found.mailbox here.handle view feeds.event.found_kept feeds.known ∙ before.handle in
-    let few = feeds.event.found_kept.few in
-    let known = feeds.known.within in
-    let all = all_were limit (total found.mailbox.window - here.handle.at) (length changes) feeds.count (omega (arith, few)) most in
-    let at = ap (λ (h : CursorHandle). h.at) feeds.goes_on in
-    let log : changes_in found.mailbox.number new.history ≡ changes_in found.mailbox.number found.events =
-    k.all ∙ ap (changes_in found.mailbox.number) (k.events ∙ append-nil found.events) in
-    let long : length (changes_in here.mailbox new.history) ≡ total found.mailbox.window =
-    subst (λ (m : ℕ). length (changes_in m new.history) ≡ total found.mailbox.window) n (ap length log ∙ k.found_log.window.long) in
-    to_entry (IsAtEnd new) new.entered (record { mailbox = here.mailbox; start = here.start; handle = next }) (ap (λ (p : LockedStore). p.entered) is) (omega (arith, known, all, at, long))
+feeds_reach_the_end old new limit view changes shown was (here, there, (logs, shows, count, moves)) most =
+    let few = logs.few in
+    let within = moves.within in
+    let all = all_were limit (length (changes_in here.mailbox new.history) - here.handle.at) (length changes) count (omega (arith, few)) most in
+    to_entry (IsAtEnd new) new.entered (record here { handle = record here.handle { at = here.handle.at + length changes } }) moves.there (omega (arith, all, within))
 
 -- ---- texts
 

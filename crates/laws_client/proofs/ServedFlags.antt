@@ -1,107 +1,82 @@
 -- What the calls of a session over mailboxes behind locks tell of flags, and what its client believes of them.
-use Rattle.std.proofs.Common.{◌≡◌, ℕ, ◌+◌, ◌≤◌, Bool, true, false, ◌==◌, List, [], ◌∷◌, ◌++◌, length, take, drop, map, refl, sym, subst, ap, ◌∙◌, arith, append-nil, append_assoc, length-append, Option, Some, None}
+use Rattle.std.proofs.Common.{◌≡◌, ℕ, ◌+◌, ◌≤◌, Bool, ◌==◌, List, [], ◌∷◌, ◌++◌, length, take, drop, refl, sym, subst, ap, ◌∙◌, arith, append-nil, append_assoc, length-append, Option, Some, None}
 use Rattle.std.specs.Prelude.{if◌then◌else◌, option_map}
+use Rattle.std.specs.List.{find}
 use Rattle.std.proofs.lemmas.List.{drop-append-le, length-drop, take-append-drop, take-append-le}
 use mathlib.Core.List.{IsPrefix}
 use Rattle.change_ring.specs.declared.change.Change.{Change}
 use Rattle.change_ring.specs.declared.change.Flags.{Flags}
 use Rattle.change_ring.specs.Log as change
 use Rattle.change_ring.specs.Log.{IsLegalLog, rows_of, view_at}
-use Rattle.cursor_set.specs.Cursors.{CursorHandle}
 use Rattle.change_ring.specs.Words.{flag_words}
 use Rattle.delivery_core.specs.Clients.{row_with}
 use Rattle.mailbox.specs.declared.clients.Row.{Row}
-use Rattle.mailbox.specs.Mailbox.{Message, message_with, row_of}
 use Rattle.house_history.specs.declared.event.Event as house
 use Rattle.house_history.specs.Events.{changes_in}
 use Rattle.house_history.specs.Legal.{Legal}
 use Rattle.house_history.proofs.Follow.{changes_grow}
 use Rattle.house_history.proofs.Logs.{legal_empty_log}
-use Rattle.locked_mailbox.specs.Locking.{Knows, LockedMailbox}
 use Rattle.imap_session.specs.Exchange.{Call, Answer, Look, Read, Count, Alter, Expunge, Feed, Entered, Looked, Found, Counted, Altered, Expunged, Fed, Left, Refused, Starved, Event, Standing, Turn, Discard, Discarded}
 use Rattle.imap_session.specs.Store.{Met}
 use Rattle.session_thread.specs.declared.locked_store.Entry.{Entry}
-use Rattle.session_thread.specs.Locks.{Holds, LockedStore, entered_at}
-use Rattle.session_thread.specs.SinceSelect.{Shows, Tells, WasShown, WasShownIn, shown_since, shown_then}
-use Rattle.session_thread.proofs.SinceSelect.{by_call, since_select}
+use Rattle.session_thread.specs.ByHistory.{ByHistory, Moves, flags_in}
+use Rattle.session_thread.specs.Locks.{LockedStore}
+use Rattle.session_thread.specs.SinceSelect.{Shows, WasShown, WasShownIn, shown_since, shown_then}
+use Rattle.session_thread.proofs.ByHistory.{by_history, shown_by_history}
 use Rattle.laws_client.specs.Beliefs.{Each}
 use Rattle.laws_client.specs.Client.{Client}
-use Rattle.laws_client.specs.Clients.{Told, hears, hears_all}
+use Rattle.laws_client.specs.Clients.{hears, hears_all}
 use Rattle.laws_client.specs.Fetches.{IsNumbered}
 use Rattle.laws_client.specs.Flags.{Believes, BelievesNow, FlagsOf, HasNow, Point, counted, flags_at}
 use Rattle.laws_client.specs.FlagTurns.{IfInside, shown_in}
 use Rattle.laws_client.specs.ListTurns.{Sees}
-use Rattle.laws_client.specs.RecordTurns.{Stands, VerdictsArePrinted, told_of}
-use Rattle.laws_client.specs.Served.{HasSmallCursor, ServedLives, comes, turns, counted_by, counted_in}
+use Rattle.laws_client.specs.RecordTurns.{Stands}
+use Rattle.laws_client.specs.Served.{HasSmallCursor, counted_by, counted_in}
 use Rattle.laws_client.specs.ServedFlags.{OfToldFlags, ServedFlagsAreCurrent, ServedFlagsAreFound, ServedFlagsHaveMoments, ServedLivesTellFlags, ServedTurnTellsFlags, place_in, place_of}
-use Rattle.laws_client.specs.Talks.{Happening, leads_to}
+use Rattle.imap_session.specs.Happenings.{Happening, Lived, Told, VerdictsArePrinted, comes, leads_to, told_of, turns}
 use Rattle.laws_client.specs.Worlds.{IsRightOnFlags}
 use Rattle.laws_client.proofs.Each.{each_weaker}
 use Rattle.laws_client.proofs.FlagKnown.{turn_moments}
 use Rattle.laws_client.proofs.FlagMoments.{SeesAllMoments, SeesMoments, TellsMoments}
 use Rattle.laws_client.proofs.Living.{hears_last}
 use Rattle.laws_client.proofs.Moments.{flags_are_current, flags_outlast, now_is_moment}
-use Rattle.laws_client.proofs.Served.{Small, all_there, counted_grows, entered_of, hears_held, never, numbered, of_entry, of_number, sees_call, shown_to, small_before, small_call, small_uids, stands_in, still}
+use Rattle.laws_client.proofs.Served.{Small, all_there, counted_grows, hears_held, never, numbered, sees_call, small_before, small_call, small_uids, stands_in}
 use Rattle.laws_client.proofs.ToldAll.{HearsAll}
-
--- ---- the flags of a message that is there
-
-row_flags : (uid : ℕ) (messages : List Message) → option_map (λ (row : change.Row). row.flags) (row_with uid (map row_of messages)) ≡ option_map (λ (m : Message). m.flags) (message_with uid messages)
-row_flags uid [] = refl
-row_flags uid (m ∷ messages) = by (m.uid == uid) (row_flags uid messages)
-  where
-    by : (b : Bool) → option_map (λ (row : change.Row). row.flags) (row_with uid (map row_of messages)) ≡ option_map (λ (m : Message). m.flags) (message_with uid messages)
-        → option_map (λ (row : change.Row). row.flags) (if b then Some (row_of m) else row_with uid (map row_of messages)) ≡ option_map (λ (m : Message). m.flags) (if b then Some m else message_with uid messages)
-    by true more = refl
-    by false more = more
-
--- by a log that leaves these messages
-flags_there : (uid : ℕ) (messages : List Message) (log : List Change) → map row_of messages ≡ rows_of log → flags_at uid log ≡ option_map (λ (m : Message). m.flags) (message_with uid messages)
-flags_there uid messages log is = ap (λ (rows : List change.Row). option_map (λ (row : change.Row). row.flags) (row_with uid rows)) (sym is) ∙ row_flags uid messages
-
-of_found : (f : Message → Row) (o : Option Message) (row : Row) → ((m : Message) → (f m).flags ≡ m.flags) → option_map f o ≡ Some row → option_map (λ (m : Message). m.flags) o ≡ Some row.flags
-of_found f None row same e = cc
-of_found f (Some m) row same e = ap (λ (x : Flags). Some x) (sym (same m) ∙ ap (λ (o : Option Row). (some_row row o).flags) e)
-  where
-    some_row : Row → Option Row → Row
-    some_row d None = d
-    some_row d (Some r) = r
 
 -- ---- a call
 
--- the log that the history has when the lock is let go is the one that the mailbox was left with
-left_rows : (found left : LockedMailbox) (said before after : List house.Event) (m : ℕ) → Knows found left said before after → found.mailbox.number ≡ m → map row_of left.mailbox.messages ≡ rows_of (changes_in m after)
-left_rows found left said before after m k n =
-    subst (λ (x : ℕ). map row_of left.mailbox.messages ≡ rows_of (changes_in x after)) n (k.left_log.messages ∙ ap rows_of (sym k.all))
+row_found : (uid : ℕ) (rows : List change.Row) → row_with uid rows ≡ find (λ (row : change.Row). row.uid == uid) rows
+row_found uid [] = refl
+row_found uid (row ∷ rows) = ap (λ (rest : Option change.Row). if row.uid == uid then Some row else rest) (row_found uid rows)
+
+-- by the rows that a log leaves
+flags_found : (uid : ℕ) (log : List Change) → flags_at uid log ≡ flags_in uid log
+flags_found uid log = ap (λ (o : Option change.Row). option_map (λ (row : change.Row). row.flags) o) (row_found uid (rows_of log))
 
 place_at : (new : LockedStore) (here : Entry) → new.entered ≡ Some here → (place_of new).log ≡ changes_in here.mailbox new.history
 place_at new here is = ap (λ (e : Option Entry). (place_in new.history e).log) is
 
-found_row : (old new : LockedStore) (uid : ℕ) (mark : Bool) (row : Option Row) (shown : List Change) → WasShown old shown → Holds old (Read uid mark) (Found row) new → OfToldFlags (HasNow (place_of new).log) (Read uid mark) (Found row)
-found_row old new uid mark None shown was h = tt
-found_row old new uid mark (Some row) shown was (is, (here, there, (found, left, (reads, text), k)), fits) =
-    let was_here = shown_to old.history old.entered here shown there was in
-    let n : found.mailbox.number ≡ here.mailbox = of_number found.mailbox here.handle reads.known.0 reads.event.found_kept reads.known.1 ∙ was_here.handle in
-    let has : flags_at uid (changes_in here.mailbox new.history) ≡ Some row.flags =
-    flags_there uid left.mailbox.messages (changes_in here.mailbox new.history) (left_rows found left _ old.history new.history here.mailbox k n)
-    ∙ of_found _ (message_with uid left.mailbox.messages) row (λ m. refl) (sym reads.answers) in
-    record { flags = row.flags; has = ap (λ (log : List Change). flags_at uid log) (place_at new here (entered_of old new is ∙ there)) ∙ has; named = refl }
+has_now : (new : LockedStore) (here : Entry) (uid : ℕ) (flags : Flags) → new.entered ≡ Some here → Some flags ≡ flags_in uid (changes_in here.mailbox new.history) → HasNow (place_of new).log uid (flag_words flags)
+has_now new here uid flags there is = record {
+  flags = flags;
+  has = ap (λ (log : List Change). flags_at uid log) (place_at new here there) ∙ flags_found uid (changes_in here.mailbox new.history) ∙ sym is;
+  named = refl;
+}
 
-found_flags : (old new : LockedStore) (uid : ℕ) (op : _) (flags : Option Flags) (shown : List Change) → WasShown old shown → Holds old (Alter uid op) (Altered flags) new → OfToldFlags (HasNow (place_of new).log) (Alter uid op) (Altered flags)
-found_flags old new uid op None shown was h = tt
-found_flags old new uid op (Some flags) shown was (is, (here, there, (found, left, alters, k))) =
-    let was_here = shown_to old.history old.entered here shown there was in
-    let n : found.mailbox.number ≡ here.mailbox = of_number found.mailbox here.handle alters.known.0 alters.event.found_kept alters.known.1 ∙ was_here.handle in
-    let has : flags_at uid (changes_in here.mailbox new.history) ≡ Some flags =
-    flags_there uid left.mailbox.messages (changes_in here.mailbox new.history) (left_rows found left _ old.history new.history here.mailbox k n) ∙ sym alters.answers in
-    record { flags = flags; has = ap (λ (log : List Change). flags_at uid log) (place_at new here (entered_of old new is ∙ there)) ∙ has; named = refl }
+found_row : (old new : LockedStore) (uid : ℕ) (mark : Bool) (row : Option Row) → ByHistory old (Read uid mark) (Found row) new → OfToldFlags (HasNow (place_of new).log) (Read uid mark) (Found row)
+found_row old new uid mark None h = tt
+found_row old new uid mark (Some row) (is, (here, there, (logs, read, seen))) = has_now new here uid row.flags (is ∙ there) read.flags
 
-read_found : (old new : LockedStore) (uid : ℕ) (mark : Bool) (answer : Answer) (shown : List Change) → WasShown old shown → Holds old (Read uid mark) answer new → OfToldFlags (HasNow (place_of new).log) (Read uid mark) answer
-read_found old new uid mark (Found row) shown was h = found_row old new uid mark row shown was h
+found_flags : (old new : LockedStore) (uid : ℕ) (op : _) (flags : Option Flags) → ByHistory old (Alter uid op) (Altered flags) new → OfToldFlags (HasNow (place_of new).log) (Alter uid op) (Altered flags)
+found_flags old new uid op None h = tt
+found_flags old new uid op (Some flags) (is, (here, there, (logs, told))) = has_now new here uid flags (is ∙ there) told
+
+read_found : (old new : LockedStore) (uid : ℕ) (mark : Bool) (answer : Answer) (shown : List Change) → WasShown old shown → ByHistory old (Read uid mark) answer new → OfToldFlags (HasNow (place_of new).log) (Read uid mark) answer
+read_found old new uid mark (Found row) shown was h = found_row old new uid mark row h
 read_found old new uid mark _ shown was h = tt
 
-alter_found : (old new : LockedStore) (uid : ℕ) (op : _) (answer : Answer) (shown : List Change) → WasShown old shown → Holds old (Alter uid op) answer new → OfToldFlags (HasNow (place_of new).log) (Alter uid op) answer
-alter_found old new uid op (Altered flags) shown was h = found_flags old new uid op flags shown was h
+alter_found : (old new : LockedStore) (uid : ℕ) (op : _) (answer : Answer) (shown : List Change) → WasShown old shown → ByHistory old (Alter uid op) answer new → OfToldFlags (HasNow (place_of new).log) (Alter uid op) answer
+alter_found old new uid op (Altered flags) shown was h = found_flags old new uid op flags h
 alter_found old new uid op _ shown was h = tt
 
 pub served_flags_are_found : ServedFlagsAreFound
@@ -147,9 +122,9 @@ outlasts before after (Some here) goes uid names f =
 
 pub served_flags_have_moments : ServedFlagsHaveMoments
 served_flags_have_moments old new call answer shown later was h goes =
-    let b = by_call old new call answer shown h was in
+    let b = by_history old new call answer shown h was in
     told_weaker (HasNow (place_of new).log) (FlagsOf (place_in later new.entered).log (place_in later new.entered).cursor) call answer
-    (λ uid names has. outlasts new.history later new.entered goes uid names (now_to_moment (place_of new).log (place_of new).cursor (within_log new (shown_then shown answer) b.2) uid names has))
+    (λ uid names has. outlasts new.history later new.entered goes uid names (now_to_moment (place_of new).log (place_of new).cursor (within_log new (shown_then shown answer) b.1) uid names has))
     (served_flags_are_found old new call answer shown was h)
 
 -- ---- where nothing is pending
@@ -239,100 +214,92 @@ shows_next before later here next call answer view changes goes same at within s
     }
 
 -- where the handle is then
-shown_at : (old mid : LockedStore) (here : Entry) (next : CursorHandle) (call : Call) (answer : Answer) (view : List ℕ) (changes shown : List Change) (later : List house.Event) → old.entered ≡ Some here
-    → mid ≡ entered_at old here next mid.history → shown_in answer ≡ changes → Shows mid.history here view changes → WasShown old shown → WasShown mid (shown ++ changes) → IsPrefix mid.history later
+shown_at : (old mid : LockedStore) (here : Entry) (call : Call) (answer : Answer) (view : List ℕ) (changes : List Change) (later : List house.Event) → old.entered ≡ Some here
+    → Moves old mid here (length changes) → shown_in answer ≡ changes → Shows mid.history here view changes → IsPrefix mid.history later
     → IsSoundAt (place_in later old.entered) → Sees (counted (place_in later old.entered)) (record { call = call; answer = answer }) (counted (place_in later mid.entered)) → TellsMoments (place_in later mid.entered) call answer
     → SeesMoments (place_in later old.entered) (record { call = call; answer = answer }) (place_in later mid.entered)
-shown_at old mid here next call answer view changes shown later there is told shows was now goes ok sees tells =
-    let at : Entry = record { mailbox = here.mailbox; start = here.start; handle = next } in
+shown_at old mid here call answer view changes later there moves told shows goes ok sees tells =
+    let at : Entry = record here { handle = record here.handle { at = here.handle.at + length changes } } in
     let event : Event = record { call = call; answer = answer } in
-    let there_now : mid.entered ≡ Some at = ap (λ (p : LockedStore). p.entered) is in
-    let before = shown_to old.history old.entered here shown there was in
-    let after = shown_to mid.history mid.entered at (shown ++ changes) there_now now in
-    let l = length-append shown changes in
-    let c = before.cursor in
-    let d = after.cursor in
-    let within = after.within in
-    let on : next.at ≡ here.handle.at + length changes = omega (arith, l, c, d) in
     subst (λ (o : Option Entry). SeesMoments (place_in later o) event (place_in later mid.entered)) (sym there)
-    (subst (λ (o : Option Entry). SeesMoments (place_in later (Some here)) event (place_in later o)) (sym there_now)
-    (shows_next mid.history later here at call answer view changes goes refl on (omega (arith, on, within)) shows told (subst (λ (o : Option Entry). IsSoundAt (place_in later o)) there ok)
-    (subst (λ (o : Option Entry). Sees (counted (place_in later (Some here))) event (counted (place_in later o))) there_now
+    (subst (λ (o : Option Entry). SeesMoments (place_in later (Some here)) event (place_in later o)) (sym moves.there)
+    (shows_next mid.history later here at call answer view changes goes refl refl moves.within shows told (subst (λ (o : Option Entry). IsSoundAt (place_in later o)) there ok)
+    (subst (λ (o : Option Entry). Sees (counted (place_in later (Some here))) event (counted (place_in later o))) moves.there
     (subst (λ (o : Option Entry). Sees (counted (place_in later o)) event (counted (place_in later mid.entered))) there sees))
-    (subst (λ (o : Option Entry). TellsMoments (place_in later o) call answer) there_now tells)))
+    (subst (λ (o : Option Entry). TellsMoments (place_in later o) call answer) moves.there tells)))
 
-looked_still : (old new : LockedStore) (call : Call) (view : List ℕ) → Holds old call (Looked view) new → new.entered ≡ old.entered
+looked_still : (old new : LockedStore) (call : Call) (view : List ℕ) → ByHistory old call (Looked view) new → new.entered ≡ old.entered
 looked_still old new (Look by_uid set) view h = ap (λ (p : LockedStore). p.entered) h.0
 looked_still old new _ view h = absurd h
 
-found_still : (old new : LockedStore) (call : Call) (row : Option Row) → Holds old call (Found row) new → new.entered ≡ old.entered
-found_still old new (Read uid mark) row h = entered_of old new h.0
+found_still : (old new : LockedStore) (call : Call) (row : Option Row) → ByHistory old call (Found row) new → new.entered ≡ old.entered
+found_still old new (Read uid mark) row h = h.0
 found_still old new _ row h = absurd h
 
-counted_still : (old new : LockedStore) (call : Call) (status : _) → Holds old call (Counted status) new → new.entered ≡ old.entered
-counted_still old new (Count m) status h = entered_of old new h.0
+counted_still : (old new : LockedStore) (call : Call) (status : _) → ByHistory old call (Counted status) new → new.entered ≡ old.entered
+counted_still old new (Count m) status h = h.0
 counted_still old new _ status h = absurd h
 
-discarded_still : (old new : LockedStore) (call : Call) → Holds old call Discarded new → new.entered ≡ old.entered
-discarded_still old new (Discard m uids) h = entered_of old new h.0
+discarded_still : (old new : LockedStore) (call : Call) → ByHistory old call Discarded new → new.entered ≡ old.entered
+discarded_still old new (Discard m uids) h = h.0
 discarded_still old new _ h = absurd h
 
-altered_still : (old new : LockedStore) (call : Call) (flags : Option Flags) → Holds old call (Altered flags) new → new.entered ≡ old.entered
-altered_still old new (Alter uid op) flags h = entered_of old new h.0
+altered_still : (old new : LockedStore) (call : Call) (flags : Option Flags) → ByHistory old call (Altered flags) new → new.entered ≡ old.entered
+altered_still old new (Alter uid op) flags h = h.0
 altered_still old new _ flags h = absurd h
 
 abbrev MomentsAt : List house.Event → LockedStore → Call → Answer → LockedStore → Type 0
 MomentsAt later old call answer new = SeesMoments (place_in later old.entered) (record { call = call; answer = answer }) (place_in later new.entered)
 
-expunged_moments : (old new : LockedStore) (call : Call) (view : List ℕ) (changes : List Change) (gone : ℕ) (shown : List Change) (later : List house.Event) → Holds old call (Expunged view changes gone) new → Tells old (Expunged view changes gone) new
-    → WasShown old shown → WasShown new (shown ++ changes) → IsPrefix new.history later → IsSoundAt (place_in later old.entered)
+expunged_moments : (old new : LockedStore) (call : Call) (view : List ℕ) (changes : List Change) (gone : ℕ) (later : List house.Event) → ByHistory old call (Expunged view changes gone) new
+    → IsPrefix new.history later → IsSoundAt (place_in later old.entered)
     → Sees (counted (place_in later old.entered)) (record { call = call; answer = Expunged view changes gone }) (counted (place_in later new.entered)) → MomentsAt later old call (Expunged view changes gone) new
-expunged_moments old new (Expunge uids) view changes gone shown later (here, there, (next, (found, left, does, k), is)) tells was now goes ok sees =
-    shown_at old new here next (Expunge uids) (Expunged view changes gone) view changes shown later there is refl (of_entry (λ (e : Entry). Shows new.history e view changes) old.entered here there tells) was now goes ok sees tt
-expunged_moments old new _ view changes gone shown later h tells was now goes ok sees = absurd h
+expunged_moments old new (Expunge uids) view changes gone later h goes ok sees =
+    shown_at old new h.0 (Expunge uids) (Expunged view changes gone) view changes later h.1 h.2.4 refl h.2.1 goes ok sees tt
+expunged_moments old new _ view changes gone later h goes ok sees = absurd h
 
-fed_moments : (old new : LockedStore) (call : Call) (view : List ℕ) (changes : List Change) (shown : List Change) (later : List house.Event) → Holds old call (Fed view changes) new → Tells old (Fed view changes) new
-    → WasShown old shown → WasShown new (shown ++ changes) → IsPrefix new.history later → IsSoundAt (place_in later old.entered)
+fed_moments : (old new : LockedStore) (call : Call) (view : List ℕ) (changes : List Change) (later : List house.Event) → ByHistory old call (Fed view changes) new
+    → IsPrefix new.history later → IsSoundAt (place_in later old.entered)
     → Sees (counted (place_in later old.entered)) (record { call = call; answer = Fed view changes }) (counted (place_in later new.entered)) → MomentsAt later old call (Fed view changes) new
-fed_moments old new (Feed limit) view changes shown later (here, there, (next, (found, left, does, k), is)) tells was now goes ok sees =
-    shown_at old new here next (Feed limit) (Fed view changes) view changes shown later there is refl (of_entry (λ (e : Entry). Shows new.history e view changes) old.entered here there tells) was now goes ok sees tt
-fed_moments old new _ view changes shown later h tells was now goes ok sees = absurd h
+fed_moments old new (Feed limit) view changes later h goes ok sees =
+    shown_at old new h.0 (Feed limit) (Fed view changes) view changes later h.1 h.2.3 refl h.2.1 goes ok sees tt
+fed_moments old new _ view changes later h goes ok sees = absurd h
 
-call_moments : (old new : LockedStore) (call : Call) (answer : Answer) (shown : List Change) (later : List house.Event) → Holds old call answer new → WasShown old shown → HasSmallCursor old
+call_moments : (old new : LockedStore) (call : Call) (answer : Answer) (shown : List Change) (later : List house.Event) → ByHistory old call answer new → WasShown old shown → HasSmallCursor old
     → Legal later → Small later → IsPrefix new.history later → IfInside answer (MomentsAt later old call answer new)
 call_moments old new call answer shown later h was at legal small goes =
-    let b = by_call old new call answer shown h was in
+    let b = by_history old new call answer shown h was in
     let before : IsPrefix old.history later = trans old.history new.history later b.0 goes in
     let sees = (sees_call old new call answer shown h was at (small_before new.history later goes small)).0 in
-    by answer h b.1 b.2 (sound_in old.history later old.entered shown legal before was)
+    by answer h (sound_in old.history later old.entered shown legal before was)
     (subst (λ (view : List ℕ). Sees view (record { call = call; answer = answer }) (counted (place_in later new.entered))) (counted_later old shown later before was)
-    (subst (λ (view : List ℕ). Sees (counted_by old) (record { call = call; answer = answer }) view) (counted_later new (shown_then shown answer) later goes b.2) sees))
+    (subst (λ (view : List ℕ). Sees (counted_by old) (record { call = call; answer = answer }) view) (counted_later new (shown_then shown answer) later goes b.1) sees))
     (served_flags_have_moments old new call answer shown later was h goes)
   where
-    by : (answer : Answer) → Holds old call answer new → Tells old answer new → WasShown new (shown_then shown answer) → IsSoundAt (place_in later old.entered)
+    by : (answer : Answer) → ByHistory old call answer new → IsSoundAt (place_in later old.entered)
         → Sees (counted (place_in later old.entered)) (record { call = call; answer = answer }) (counted (place_in later new.entered)) → TellsMoments (place_in later new.entered) call answer
         → IfInside answer (MomentsAt later old call answer new)
-    by (Entered opening) h told now ok sees tells = tt
-    by (Left gone) h told now ok sees tells = tt
-    by (Looked view) h told now ok sees tells = shows_none later old.entered new.entered call (Looked view) (looked_still old new call view h) refl ok sees tells
-    by (Found row) h told now ok sees tells = shows_none later old.entered new.entered call (Found row) (found_still old new call row h) refl ok sees tells
-    by (Counted status) h told now ok sees tells = shows_none later old.entered new.entered call (Counted status) (counted_still old new call status h) refl ok sees tells
-    by (Altered flags) h told now ok sees tells = shows_none later old.entered new.entered call (Altered flags) (altered_still old new call flags h) refl ok sees tells
-    by (Expunged view changes gone) h told now ok sees tells = expunged_moments old new call view changes gone shown later h told was now goes ok sees
-    by (Fed view changes) h told now ok sees tells = fed_moments old new call view changes shown later h told was now goes ok sees
-    by Discarded h told now ok sees tells = shows_none later old.entered new.entered call Discarded (discarded_still old new call h) refl ok sees tells
-    by (Refused fault) h told now ok sees tells = shows_none later old.entered new.entered call (Refused fault) (ap (λ (p : LockedStore). p.entered) (still old new call fault h)) refl ok sees tells
-    by (Starved n) h told now ok sees tells = absurd (never old new call n h)
+    by (Entered opening) h ok sees tells = tt
+    by (Left gone) h ok sees tells = tt
+    by (Looked view) h ok sees tells = shows_none later old.entered new.entered call (Looked view) (looked_still old new call view h) refl ok sees tells
+    by (Found row) h ok sees tells = shows_none later old.entered new.entered call (Found row) (found_still old new call row h) refl ok sees tells
+    by (Counted status) h ok sees tells = shows_none later old.entered new.entered call (Counted status) (counted_still old new call status h) refl ok sees tells
+    by (Altered flags) h ok sees tells = shows_none later old.entered new.entered call (Altered flags) (altered_still old new call flags h) refl ok sees tells
+    by (Expunged view changes gone) h ok sees tells = expunged_moments old new call view changes gone later h goes ok sees
+    by (Fed view changes) h ok sees tells = fed_moments old new call view changes later h goes ok sees
+    by Discarded h ok sees tells = shows_none later old.entered new.entered call Discarded (discarded_still old new call h) refl ok sees tells
+    by (Refused fault) h ok sees tells = shows_none later old.entered new.entered call (Refused fault) (ap (λ (p : LockedStore). p.entered) h) refl ok sees tells
+    by (Starved n) h ok sees tells = absurd (never old new call n h)
 
-held_moments : (old new : LockedStore) (events : List Event) (shown : List Change) (later : List house.Event) → Met Holds old events new → WasShown old shown → HasSmallCursor old
+held_moments : (old new : LockedStore) (events : List Event) (shown : List Change) (later : List house.Event) → Met ByHistory old events new → WasShown old shown → HasSmallCursor old
     → Legal later → Small later → IsPrefix new.history later → SeesAllMoments (place_in later old.entered) events (place_in later new.entered)
 held_moments old new [] shown later met was at legal small goes = ap (λ (p : LockedStore). place_in later p.entered) met
 held_moments old new (event ∷ events) shown later (mid, one, more) was at legal small goes =
-    let b = by_call old mid event.call event.answer shown one was in
-    let s = since_select mid new events (shown_then shown event.answer) more b.2 in (
+    let b = by_history old mid event.call event.answer shown one was in
+    let s = shown_by_history mid new events (shown_then shown event.answer) more b.1 in (
       place_in later mid.entered,
       call_moments old mid event.call event.answer shown later one was at legal small (trans mid.history new.history later s.0 goes),
-      held_moments mid new events (shown_then shown event.answer) later more b.2 (small_call old mid event.call event.answer one at) legal small goes,
+      held_moments mid new events (shown_then shown event.answer) later more b.1 (small_call old mid event.call event.answer one at) legal small goes,
     )
 
 -- a client that was right about flags is right about them by a longer history
@@ -349,10 +316,10 @@ right_later before later (Some here) shown (Some client) goes was (list, is, rig
 
 -- by any history that goes on from the one behind the turn
 turn_flags_in : (old new : LockedStore) (shown : List Change) (now : Standing) (happening : Happening) (turn : Turn) (client : Option Client) (later : List house.Event) → WasShown old shown → HasSmallCursor old → Stands now
-    → VerdictsArePrinted happening → Small later → Legal later → IsPrefix new.history later → leads_to now happening ≡ Some turn → Met Holds old turn.events new
+    → VerdictsArePrinted happening → Small later → Legal later → IsPrefix new.history later → leads_to now happening ≡ Some turn → Met ByHistory old turn.events new
     → IsRightOnFlags (place_in later old.entered) client → IsRightOnFlags (place_in later new.entered) (hears client (told_of now happening turn.bytes))
 turn_flags_in old new shown now happening turn client later was at stands printed small legal goes e met right =
-    let s = since_select old new turn.events shown met was in
+    let s = shown_by_history old new turn.events shown met was in
     let before = trans old.history new.history later s.0 goes in
     let view = counted_later old shown later before was in
     turn_moments now (place_in later old.entered) happening turn (place_in later new.entered) client stands
@@ -364,18 +331,18 @@ turn_flags_in old new shown now happening turn client later was at stands printe
 
 pub served_turn_tells_flags : ServedTurnTellsFlags
 served_turn_tells_flags old new shown now happening turn client was at stands printed legal e met right =
-    let s = since_select old new turn.events shown met was in
+    let s = shown_by_history old new turn.events shown met was in
     turn_flags_in old new shown now happening turn client new.history was at stands printed (small_uids new.history legal) legal ([], append-nil new.history) e met
     (right_later old.history new.history old.entered shown client s.0 was right)
 
 -- ---- a life
 
 lives_flags_in : (first : Standing) (began : LockedStore) (later : List house.Event) {sent : List ℕ} {told : List Told} {now : Standing} {selection : LockedStore} → began.entered ≡ None → Stands first → Small later → Legal later
-    → ServedLives first began sent told now selection → IsPrefix selection.history later → IsRightOnFlags (place_in later selection.entered) (hears_all None told)
+    → Lived ByHistory first began sent told now selection → IsPrefix selection.history later → IsRightOnFlags (place_in later selection.entered) (hears_all None told)
 lives_flags_in first began later none stands small legal comes goes = tt
-lives_flags_in first began later none stands small legal (turns {told = told} {now = now} {selection = selection} lives happening bytes turn next sent printed e met) goes =
+lives_flags_in first began later none stands small legal (turns {told = told} {now = now} {s = selection} lives happening bytes turn next timely sent printed e met) goes =
     let K = stands_in first began none stands lives in
-    let s = since_select selection next turn.events K.shown met K.was in
+    let s = shown_by_history selection next turn.events K.shown met K.was in
     subst (λ (c : Option Client). IsRightOnFlags (place_in later next.entered) c) (sym (hears_last None told (told_of now happening turn.bytes)))
     (turn_flags_in selection next K.shown now happening turn (hears_all None told) later K.was K.at K.stands printed small legal goes e met
     (lives_flags_in first began later none stands small legal lives (trans selection.history next.history later s.0 goes)))

@@ -1,16 +1,15 @@
 -- A session's handle, hold by hold.
-use Rattle.std.proofs.Common.{◌≡◌, ◌+◌, ◌-◌, ◌++◌, ◌∙◌, ◌&&◌, ℕ, Bool, true, false, append-nil, append_assoc, List, [], ◌∷◌, length, length-append, length-drop, arith, refl, sym, ap, subst, Option, Some}
+use Rattle.std.proofs.Common.{◌≡◌, ◌+◌, ◌++◌, ◌∙◌, ◌&&◌, ℕ, Bool, true, false, append-nil, append_assoc, List, [], ◌∷◌, length, length-append, arith, refl, sym, ap, subst, Some}
 use Rattle.std.specs.List.{list_all}
 use Rattle.change_ring.specs.declared.change.Change.{Change}
 use Rattle.cursor_set.specs.Cursors.{CursorHandle}
-use Rattle.mailbox.specs.Mailbox.{Mailbox}
-use Rattle.workers_sync.specs.Holds.{Expunges}
-use Rattle.house_history.specs.declared.event.Event as house
-use Rattle.imap_session.specs.Exchange.{Call, Answer, Enter, Look, Read, Count, Alter, Expunge, Feed, Leave, Entered, Looked, Found, Counted, Altered, Expunged, Fed, Left, Refused, Starved, Event, Discard, Discarded}
+use Rattle.imap_session.specs.Exchange.{Call, Answer, Look, Read, Count, Alter, Expunge, Feed, Entered, Looked, Found, Counted, Altered, Expunged, Fed, Left, Refused, Starved, Event, Discard, Discarded}
 use Rattle.session_thread.specs.declared.locked_store.Entry.{Entry}
-use Rattle.session_thread.specs.Locks.{Holds, In, LockedStore, entered_at, seeing}
+use Rattle.session_thread.specs.ByHistory.{ByHistory, Moves}
+use Rattle.session_thread.specs.Locks.{In, LockedStore}
 use Rattle.session_thread.specs.SinceSelect.{shown_since, shown_then}
 use Rattle.laws_client.specs.FlagTurns.{shown_in}
+use Rattle.laws_client.proofs.Served.{never}
 use Rattle.laws_client.specs.ServedStays.{ServedSessionsStay, stays_by}
 
 abbrev moved_by : CursorHandle → ℕ → CursorHandle
@@ -29,54 +28,26 @@ same_entry e = cc
 rests : (here : Entry) (old new : LockedStore) → old.entered ≡ Some here → new.entered ≡ old.entered → On here 0 new
 rests here old new there same = (here, same ∙ there, (refl, refl, same_handle here.handle))
 
-sees : (here : Entry) (old new : LockedStore) → old.entered ≡ Some here → new ≡ seeing old new.history → On here 0 new
-sees here old new there same = rests here old new there (ap (λ (p : LockedStore). p.entered) same)
-
 is_still : (here : Entry) (old new : LockedStore) → old.entered ≡ Some here → new ≡ old → On here 0 new
 is_still here old new there same = rests here old new there (ap (λ (p : LockedStore). p.entered) same)
 
-moves : (here was : Entry) (old new : LockedStore) (history : List house.Event) (next : CursorHandle) (n : ℕ) → old.entered ≡ Some here → old.entered ≡ Some was → next ≡ record was.handle { at = was.handle.at + n }
-    → new ≡ entered_at old was next history → On here n new
-moves here was old new history next n there also goes is =
+moves : (here was : Entry) (old new : LockedStore) (n : ℕ) → old.entered ≡ Some here → old.entered ≡ Some was → Moves old new was n → On here n new
+moves here was old new n there also moved =
     let same : was ≡ here = same_entry (sym also ∙ there) in
-    subst (λ (e : Entry). On e n new) same (record { mailbox = was.mailbox; start = was.start; handle = next }, ap (λ (p : LockedStore). p.entered) is, (refl, refl, goes))
+    subst (λ (e : Entry). On e n new) same (record was { handle = record was.handle { at = was.handle.at + n } }, moved.there, (refl, refl, refl))
 
-all_shown : (found left : Mailbox) (handle next : CursorHandle) (uids : Option (List ℕ)) (view : List ℕ) (changes : List Change) (gone : ℕ) → Expunges found handle uids view changes gone left next
-    → next ≡ record handle { at = handle.at + length changes }
-all_shown found left handle next uids view changes gone e =
-    e.goes_on ∙ ap (moved_by handle) (omega (arith, length-drop (handle.at - found.window.base) found.window.changes, ap (length {A = Change}) e.shown, e.current, e.known.within))
-
-by_call : (here : Entry) (old new : LockedStore) (call : Call) (answer : Answer) → old.entered ≡ Some here → stays_by answer ≡ true → Holds old call answer new → On here (length (shown_in answer)) new
-by_call here old new (Enter m) (Entered opening) there s h = cc
-by_call here old new (Enter m) (Refused fault) there s h = is_still here old new there h.0
+by_call : (here : Entry) (old new : LockedStore) (call : Call) (answer : Answer) → old.entered ≡ Some here → stays_by answer ≡ true → ByHistory old call answer new → On here (length (shown_in answer)) new
+by_call here old new call (Refused fault) there s h = is_still here old new there h
+by_call here old new call (Entered opening) there s h = cc
+by_call here old new call (Left gone) there s h = cc
 by_call here old new (Look by_uid set) (Looked view) there s h = is_still here old new there h.0
-by_call here old new (Look by_uid set) (Refused fault) there s h = is_still here old new there h.0
-by_call here old new (Read uid mark) (Found row) there s h = sees here old new there h.0
-by_call here old new (Read uid mark) (Refused fault) there s h = is_still here old new there h.0
-by_call here old new (Count m) (Counted status) there s h = sees here old new there h.0
-by_call here old new (Count m) (Refused fault) there s h = is_still here old new there h.0
-by_call here old new (Alter uid op) (Altered flags) there s h = sees here old new there h.0
-by_call here old new (Alter uid op) (Refused fault) there s h = is_still here old new there h.0
-by_call here old new (Expunge uids) (Expunged view changes gone) there s (was, also, (next, (found, left, (does, shows), k), is)) =
-    moves here was old new new.history next (length changes) there also (all_shown found.mailbox left.mailbox was.handle next uids view changes gone does) is
-by_call here old new (Expunge uids) (Refused fault) there s h = is_still here old new there h.0
-by_call here old new (Feed limit) (Fed view changes) there s (was, also, (next, (found, left, (does, shows), k), is)) = moves here was old new new.history next (length changes) there also does.goes_on is
-by_call here old new (Feed limit) (Refused fault) there s h = is_still here old new there h.0
-by_call here old new (Leave remove) (Left gone) there s h = cc
-by_call here old new (Leave remove) (Refused fault) there s h = is_still here old new there h.0
-by_call here old new (Discard m uids) Discarded there s h = sees here old new there h.0
-by_call here old new (Discard m uids) (Refused fault) there s h = is_still here old new there h.0
-by_call here old new call (Starved n) there s h = never call h where
-  never : (call : Call) → Holds old call (Starved n) new → On here 0 new
-  never (Enter m) h = elim h [ ]
-  never (Look by_uid set) h = elim h [ ]
-  never (Read uid mark) h = elim h [ ]
-  never (Count m) h = elim h [ ]
-  never (Alter uid op) h = elim h [ ]
-  never (Expunge uids) h = elim h [ ]
-  never (Feed limit) h = elim h [ ]
-  never (Leave remove) h = elim h [ ]
-  never (Discard m uids) h = elim h [ ]
+by_call here old new (Read uid mark) (Found row) there s h = rests here old new there h.0
+by_call here old new (Count m) (Counted status) there s h = rests here old new there h.0
+by_call here old new (Alter uid op) (Altered flags) there s h = rests here old new there h.0
+by_call here old new (Expunge uids) (Expunged view changes gone) there s h = moves here h.0 old new (length changes) there h.1 h.2.4
+by_call here old new (Feed limit) (Fed view changes) there s h = moves here h.0 old new (length changes) there h.1 h.2.3
+by_call here old new (Discard m uids) Discarded there s h = rests here old new there h.0
+by_call here old new call (Starved n) there s h = absurd (never old new call n h)
 by_call here old new _ _ there s h = elim h [ ]
 
 -- ---- what was shown in all

@@ -15,10 +15,8 @@ use Rattle.imap_session.specs.Dialogue.{AnswersLine, AnswersOne, Converses, Send
 use Rattle.house_peers.specs.Visitor.{Visitor}
 use Rattle.house_peers.specs.SeatedVisitor as seated
 use Rattle.house_peers.specs.SeatedVisitor.{GoesOn, SeatedVisitor, Works}
-use Rattle.laws_client.specs.Talks.{Happening, Line, LongLine, Literal, Heard, leads_to}
-use Rattle.laws_client.specs.Clients.{Told, bytes_in}
-use Rattle.laws_client.specs.Lives.{IsSentFor, Lives, turns}
-use Rattle.laws_client.specs.RecordTurns.{VerdictsArePrinted, told_of}
+use Rattle.imap_session.specs.Happenings.{Happening, Heard, IsSentFor, Line, Literal, LongLine, Told, VerdictsArePrinted, bytes_in, leads_to, told_of}
+use Rattle.laws_client.specs.Lives.{Lives, turns}
 use Rattle.laws_client.proofs.Moved.{Calls}
 use Rattle.laws_client.proofs.Answered.{Came, HappensSo, so_printed, told_bytes}
 use Rattle.laws_client.proofs.Talked.{Heeds, Talked, turn_notes, verdict_so}

@@ -19,17 +19,15 @@ use Rattle.imap_session.specs.Exchange.{Answer, is_idling, PendingLiteral, Asked
 use Rattle.imap_session.specs.Commands.{due_of, fault_text, kept_text, number_named, on_read, only_says, taking, turn_of, turn_with, with_bytes, without_begun, without_sent, logs_in_as, on_line, says, on_text_line, date_for, flags_for, mailbox_for, response_in, most_line}
 use Rattle.imap_session.specs.Store.{IdleTurns, Met}
 use Rattle.house_peers.proofs.Rising.{idles_keep}
-use Rattle.laws_client.specs.Talks.{Happening, Line, LongLine, Turned, Literal, Heard, leads_to}
+use Rattle.imap_session.specs.Happenings.{Happening, Heard, IsSentFor, Line, Literal, LongLine, Turned, if_kept, leads_to, whole_behind, whole_in, whole_line}
 use Rattle.laws_client.proofs.Folders.{heard_folders, idle_folders, line_folders}
 use Rattle.laws_client.proofs.Turns.{the_turn}
 use Rattle.laws_client.specs.Appends.{IsSentAs, IsSpelled, as_it_stands, with_literal, with_response, CameAs, CameBy, IsCopyOf}
-use Rattle.laws_client.specs.Lives.{IsSentFor}
 use Rattle.laws_client.proofs.Moved.{Calls}
 use Rattle.laws_client.proofs.Waiting.{ForItsArgument, ForItsLiteral, ForItsResponse, ForItsVerdict, IsMail, SubmitsNone, append_mail, argument_mail, given_mail, response_mail, idling_mail, other_mail, rest_mail, verdict_mail, ForItsCopy, copy_mail, ForTheNext, IsNext}
 use Rattle.change_ring.specs.declared.change.Flags.{Flags}
 use Rattle.imap_grammar.specs.declared.command.Authenticate.{Authenticate}
 use Rattle.imap_grammar.specs.Literals.{announced, quoted}
-use Rattle.laws_client.specs.Commands.{whole_line, whole_in, whole_behind, if_kept}
 use Rattle.laws_client.proofs.WholeLines.{turn_given, text_awaits}
 use Rattle.imap_grammar.specs.declared.command.CopyMessages.{CopyMessages}
 use Rattle.mailbox.specs.declared.clients.Row.{Row}

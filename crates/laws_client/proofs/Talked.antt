@@ -16,11 +16,8 @@ use Rattle.imap_session.specs.Dialogue.{AnswersLine, AnswersOne, Converses, Send
 use Rattle.house_peers.specs.Visitor.{Visitor}
 use Rattle.house_peers.specs.SeatedVisitor as seated
 use Rattle.house_peers.specs.SeatedVisitor.{GoesOn, IsAnswered, SeatedVisitor, Works, keys_of, sent_by}
-use Rattle.laws_client.specs.Commands.{IsPrinted}
-use Rattle.laws_client.specs.Talks.{Happening, Line, LongLine, Turned, Literal, Heard, leads_to}
-use Rattle.laws_client.specs.Clients.{Told, bytes_in}
-use Rattle.laws_client.specs.Lives.{IsSentFor, Lives, comes, turns, others}
-use Rattle.laws_client.specs.RecordTurns.{told_of}
+use Rattle.imap_session.specs.Happenings.{Happening, Heard, IsPrinted, IsSentFor, Line, Literal, LongLine, Told, Turned, bytes_in, leads_to, told_of}
+use Rattle.laws_client.specs.Lives.{Lives, comes, turns, others}
 use Rattle.laws_client.specs.Views.{IsOfOthers}
 use Rattle.laws_client.proofs.Out.{Fate, copy_of, fate_met, fate_step}
 use Rattle.laws_client.proofs.Answered.{Came, KnownAt, HappensSo, HasHeard, Notes, no_notes, notes_later, notes_turn, so_printed, told_bytes}

@@ -5,7 +5,8 @@ use Rattle.imap_session.specs.Exchange.{Standing, Turn, PendingLiteral, is_idlin
 use Rattle.imap_session.specs.Commands.{turn_of_long_line, with_bytes}
 use Rattle.laws_client.specs.Beliefs.{IsOf, Follows, Leads}
 use Rattle.laws_client.specs.ListLaws.{TalkIsFollowed}
-use Rattle.laws_client.specs.Talks.{Happening, Line, LongLine, Turned, Literal, Heard, MayHappen, leads_to}
+use Rattle.laws_client.specs.Talks.{MayHappen}
+use Rattle.imap_session.specs.Happenings.{Happening, Heard, Line, Literal, LongLine, Turned, leads_to}
 use Rattle.laws_client.specs.ListTurns.{AreTags, IsTag, SeesAll}
 use Rattle.laws_client.proofs.Commands.{answer_is_followed, long_line_tells_nothing, verdict_is_followed}
 use Rattle.laws_client.proofs.Ends.{leaves}

@@ -22,7 +22,7 @@ use Rattle.imap_session.specs.declared.standing.Profile.{Profile}
 use Rattle.imap_session.specs.declared.standing.Profile.TheVariants.{Standard, Compatible}
 use Rattle.laws_client.proofs.Tags.{TaggedOf}
 use Rattle.laws_client.specs.Clients.{Neither, asked, asked_by}
-use Rattle.laws_client.specs.Commands.{if_kept, whole_behind, whole_in, whole_line}
+use Rattle.imap_session.specs.Happenings.{if_kept, whole_behind, whole_in, whole_line}
 
 -- a session that waits for no rest of a line, and doesn't idle, stands as without those
 bare : (now : Standing) → now.mailing.begun ≡ None → now.idling ≡ None → without_begun now ≡ now

@@ -17,17 +17,17 @@ use Rattle.imap_session.specs.Commands.{appended_words, completed, on_idle_line,
 use Rattle.imap_session.specs.Store.{Met}
 use Rattle.laws_client.specs.Beliefs.{IsRight}
 use Rattle.laws_client.specs.Client.{Client, Known, knowing, reads}
-use Rattle.laws_client.specs.Talks.{Happening, Line, LongLine, Turned, Literal, Heard, leads_to}
+use Rattle.imap_session.specs.Happenings.{Answer as Answer_to, Happening, Heard, IsSentFor, Line, Literal, LongLine, Told, Turned, VerdictsArePrinted, Words, leads_to, told_line, told_of, whole_line}
 use Rattle.laws_client.proofs.IdleTags.{AreTagsOf}
 use Rattle.laws_client.proofs.Talking.{happening_keeps_so}
 use Rattle.laws_client.proofs.Turns.{the_turn}
 use Rattle.laws_client.specs.Appends.{EndsWith}
-use Rattle.laws_client.specs.Clients.{Answer as Answer_to, IsRightAbout, Told, Words, begins, hears, hears_all}
+use Rattle.laws_client.specs.Clients.{IsRightAbout, begins, hears, hears_all}
 use Rattle.laws_client.specs.Current.{IsCurrent}
-use Rattle.laws_client.specs.Lives.{IsSentFor, Lives, comes, others, turns}
+use Rattle.laws_client.specs.Lives.{Lives, comes, others, turns}
 use Rattle.laws_client.specs.Selecting.{Known_selected}
 use Rattle.laws_client.specs.Sizes.{HasShortTexts, HasSmallNumbers}
-use Rattle.laws_client.specs.RecordTurns.{Stands, VerdictsArePrinted, told_line, told_of}
+use Rattle.laws_client.specs.RecordTurns.{Stands}
 use Rattle.laws_client.specs.Views.{messages_of, view_of}
 use Rattle.laws_client.proofs.RecordCurrent.{fed_or_refused, LastFed, last_current}
 use Rattle.laws_client.proofs.RecordEntering.{mapped, only_done, only_refused}
@@ -42,7 +42,6 @@ use Rattle.laws_client.proofs.RecordWorlds.{sound_always}
 use Rattle.imap_session.specs.declared.texts.ResponseText.TheVariants as texts
 use Rattle.imap_session.specs.Texts.{response_text}
 use Rattle.imap_grammar.specs.declared.command.Verb.TheVariants as verbs
-use Rattle.laws_client.specs.Commands.{whole_line}
 use Rattle.laws_client.proofs.WholeLines.{turn_has}
 use Rattle.imap_grammar.specs.Verbs.{copy_verb}
 use Rattle.exactly_once.proofs.Whole.{IsWhole, ends, whole_append}

@@ -26,7 +26,7 @@ use Rattle.house_peers.specs.SeatedVisitor.{SeatedVisitor}
 use Rattle.house.specs.Scene.{Scene, empty_scene}
 use Rattle.house.specs.Setup.{Setup, session_seat}
 use Rattle.exactly_once.specs.Promise.{Entry, IsRecord}
-use Rattle.laws_client.specs.Clients.{Told, bytes_in}
+use Rattle.imap_session.specs.Happenings.{Told, bytes_in}
 use Rattle.laws_client.specs.ClientRecords.{IsPrintable, KeepsUp, KeptUp, sent_by_then, serial_by_then, stays_by_then, user_by_then}
 use Rattle.imap_session.specs.Texts.{response_text}
 use Rattle.imap_grammar.specs.Sets.{named_in}
@@ -300,14 +300,9 @@ abbrev pub author_at : Setup → List Entry → (place serial : ℕ) → Author
 author_at k entries place serial =
     record { place = place; serial = serial; folders = folders_of k.directory (user_by_then place [] entries); sent = sent_by_then place [] entries }
 
--- What is known of all that a session told its client: of the messages that it appended or had copied.
-pub record TellsOfAppends (k : Setup) (w : World) (author : Author) (told : List Told) : Type 0 where
-  -- the verdicts that its answers were said to, answer by answer
-  pub verdicts : List (Option Noted)
-  pub each : AreAnswered k w author told verdicts
-  -- on messages in the order in which they were submitted, so none is told twice
-  pub in_order : AllPairs (λ a b. Below a.key b.key) (filter_map as_it_is verdicts)
-  -- So where an answer ends with `OK [APPENDUID ` behind any tag, that is for one copy of this session, which stands so;
+-- What a client knows of the messages that it appended or had copied, by the last lines of what it was told.
+pub record KeptAsTold (k : Setup) (w : World) (author : Author) (told : List Told) : Type 0 where
+  -- Where an answer ends with `OK [APPENDUID ` behind any tag, that is for one copy of this session, which stands so;
   pub kept : (before after : List Told) (one : Told) (tag words : List ℕ) → told ≡ before ++ one ∷ after
       → EndsWith tag words (bytes_in one) → tells_uid words ≡ true
       → (noted : Noted) × TellsKept k w author tag words noted
@@ -320,13 +315,34 @@ pub record TellsOfAppends (k : Setup) (w : World) (author : Author) (told : List
       → EndsWith other_tag other_words (bytes_in two) → tells_uid other_words ≡ true
       → (a : Noted) × (b : Noted) × TellsKept k w author tag words a × TellsKept k w author other_tag other_words b × Below a.key b.key
 
--- Over whatever record of a house that was new, of whoever is there: it keeps up, and this is known of what it was told.
+-- What is known besides of all that a session told its client: beside each answer the verdict that it was said to, or none.
+pub record TellsOfAppends (k : Setup) (w : World) (author : Author) (told : List Told) : Type 0 where
+  pub verdicts : List (Option Noted)
+  pub each : AreAnswered k w author told verdicts
+  -- on messages in the order in which they were submitted, so none is told twice
+  pub in_order : AllPairs (λ a b. Below a.key b.key) (filter_map as_it_is verdicts)
+  -- so the client knows what became of its messages
+  pub known : KeptAsTold k w author told
+
+-- Over whatever record of a house that was new, of whoever is there: it keeps up, and knows that.
+abbrev pub AppendsAreKept : Type 0
+AppendsAreKept = (k : Setup) (entries : List Entry) (t : Scene) (place : ℕ) (v : SeatedVisitor) → IsPrintable k → IsRecord k entries (empty_scene k) t
+    → t.visitor place ≡ Some v → v.gone ≡ false → (keeps : KeepsUp k entries place v t)
+    × KeptAsTold k t.world (author_at k entries place v.serial) keeps.told
+
+-- And of a session that was let in there last, whose client isn't gone, and that has ended by itself, as by LOGOUT: behind all that happened since
+abbrev pub AppendsWereKept : Type 0
+AppendsWereKept = (k : Setup) (entries : List Entry) (t : Scene) (place : ℕ) → IsPrintable k → IsRecord k entries (empty_scene k) t
+    → stays_by_then place false entries ≡ true → t.visitor place ≡ None
+    → (kept : KeptUp k entries place t)
+    × KeptAsTold k t.world (author_at k entries place (serial_by_then place 0 (empty_scene k) entries)) kept.told
+
+-- The same with the verdict of each answer.
 abbrev pub AppendsAreTold : Type 0
 AppendsAreTold = (k : Setup) (entries : List Entry) (t : Scene) (place : ℕ) (v : SeatedVisitor) → IsPrintable k → IsRecord k entries (empty_scene k) t
     → t.visitor place ≡ Some v → v.gone ≡ false → (keeps : KeepsUp k entries place v t)
     × TellsOfAppends k t.world (author_at k entries place v.serial) keeps.told
 
--- And of a session that was let in there last, whose client isn't gone, and that has ended by itself, as by LOGOUT: behind all that happened since
 abbrev pub AppendsWereTold : Type 0
 AppendsWereTold = (k : Setup) (entries : List Entry) (t : Scene) (place : ℕ) → IsPrintable k → IsRecord k entries (empty_scene k) t
     → stays_by_then place false entries ≡ true → t.visitor place ≡ None

@@ -17,7 +17,8 @@ use Rattle.settings.specs.Settings.{IsInRange, config_fault}
 use Rattle.house.specs.declared.event.Event as house
 use Rattle.house.specs.declared.event.Event.TheVariants.{Enter, Leave, Say}
 use Rattle.exactly_once.specs.Promise.{Entry, ExactlyOnce, IsRecord, Lines, Piece}
-use Rattle.laws_client.specs.Clients.{IsRightAbout, Told, bytes_in, hears_all}
+use Rattle.laws_client.specs.Clients.{IsRightAbout, hears_all}
+use Rattle.imap_session.specs.Happenings.{Told, bytes_in}
 use Rattle.laws_client.specs.Lives.{Lives}
 use Rattle.laws_client.specs.Sizes.{HasShortTexts, HasSmallNumbers}
 use Rattle.laws_client.specs.Views.{messages_of, view_of}

@@ -6,6 +6,7 @@ use Rattle.imap_grammar.specs.declared.command.Command.{Command}
 use Rattle.imap_grammar.specs.declared.command.Command.TheVariants as commands
 use Rattle.imap_grammar.specs.declared.command.ImapFault.{ImapFault}
 use Rattle.laws_client.specs.Client.{Client, Known, fresh, knowing, reads}
+use Rattle.imap_session.specs.Happenings.{Answer, Told, Words}
 use Rattle.laws_client.specs.Beliefs.{IsRight}
 
 -- ---- what it asked
@@ -52,16 +53,6 @@ abbrev pub answered : Asked → List ℕ → Option Client → Option Client
 answered (Entering tag) bytes client = if has_ok true tag bytes then Some (reads fresh bytes) else None
 answered (Leaving tag) bytes client = if has_ok true tag bytes then None else reads_on bytes client
 answered Neither bytes client = reads_on bytes client
-
--- what it is told: the answer to a line that it sent as a command, with its literals
--- in it, or words that come without one, as in an IDLE or behind a message
-pub data Told : Type 0 where
-  Answer : (line : List ℕ) → (bytes : List ℕ) → Told
-  Words : (bytes : List ℕ) → Told
-
-abbrev pub bytes_in : Told → List ℕ
-bytes_in (Answer line bytes) = bytes
-bytes_in (Words bytes) = bytes
 
 abbrev pub hears : Option Client → Told → Option Client
 hears client (Answer line bytes) = answered (asked (read line)) bytes client

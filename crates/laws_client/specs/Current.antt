@@ -14,8 +14,8 @@ use Rattle.imap_session.specs.Store.{Met}
 use Rattle.house.specs.Meets.{Meets}
 use Rattle.laws_client.specs.Beliefs.{IsRight}
 use Rattle.laws_client.specs.Client.{Client, Known, knowing}
-use Rattle.laws_client.specs.Clients.{Answer as Answer_to, Told, has_ok, hears_all}
-use Rattle.laws_client.specs.Commands.{whole_line}
+use Rattle.laws_client.specs.Clients.{has_ok, hears_all}
+use Rattle.imap_session.specs.Happenings.{Answer as Answer_to, Told, whole_line}
 use Rattle.laws_client.specs.Lives.{Lives}
 use Rattle.laws_client.specs.Sizes.{HasShortTexts, HasSmallNumbers}
 use Rattle.laws_client.specs.RecordTurns.{Stands}

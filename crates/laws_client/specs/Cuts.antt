@@ -12,7 +12,8 @@ use Rattle.house.specs.Scene.{Scene, empty_scene}
 use Rattle.house.specs.Setup.{Setup}
 use Rattle.exactly_once.specs.Promise.{Entry, IsRecord}
 use Rattle.laws_client.specs.Client.{literal_of}
-use Rattle.laws_client.specs.Clients.{Answer, Told, begins, bytes_in}
+use Rattle.laws_client.specs.Clients.{begins}
+use Rattle.imap_session.specs.Happenings.{Answer, Told, bytes_in}
 use Rattle.laws_client.specs.ClientRecords.{IsPrintable, KeepsUp, KeptUp, first_standing, shown_by_then, stays_by_then, user_by_then}
 
 -- ---- a client that cuts

@@ -16,7 +16,8 @@ use Rattle.imap_session.specs.Exchange.{Answer, Standing, Turn}
 use Rattle.imap_session.specs.Commands.{idle_turn, turn_of, turn_of_verdict}
 use Rattle.laws_client.specs.Beliefs.{Follows, IsRight, MayShow}
 use Rattle.laws_client.specs.Client.{Known}
-use Rattle.laws_client.specs.Commands.{IsFollowed, IsPrinted}
+use Rattle.laws_client.specs.Commands.{IsFollowed}
+use Rattle.imap_session.specs.Happenings.{IsPrinted}
 use Rattle.laws_client.specs.Fetches.{AreToldParts, IsNumbered}
 use Rattle.laws_client.specs.ListTurns.{IsRowOf, IsTag}
 use Rattle.laws_client.specs.Flags.{FlagsOf, HasNow, KnowsFlags, Point, counted, flags_at}

@@ -5,7 +5,8 @@ use Rattle.change_ring.specs.declared.change.Change.TheVariants.{Add, Flags as S
 use Rattle.world.specs.First.{one_house}
 use Rattle.world.specs.World.{World, empty_world}
 use Rattle.laws_client.specs.Client.{knowing}
-use Rattle.laws_client.specs.Clients.{Answer, Told, hears_all}
+use Rattle.laws_client.specs.Clients.{hears_all}
+use Rattle.imap_session.specs.Happenings.{Answer, Told}
 use Rattle.laws_client.specs.Lives.{Lives}
 use Rattle.laws_client.specs.RecordLife.{one_first, one_last, selects_empty}
 use Rattle.laws_client.specs.Worlds.{point_of}

@@ -20,9 +20,10 @@ use Rattle.imap_session.specs.Commands.{greeting, idle_turn, turn_of, turn_of_lo
 use Rattle.delivery_token.specs.declared.Verdict.{Verdict}
 use Rattle.laws_client.specs.Client.{Client, Known, Messages, reads, within}
 use Rattle.laws_client.specs.Beliefs.{Each, Follows, HearsUid, IsKnownTo, IsOf, IsRight, KeepsUids, Leads, Leaves, MayShow, TellsNothing}
-use Rattle.laws_client.specs.Commands.{IsFollowed, IsPrinted}
+use Rattle.laws_client.specs.Commands.{IsFollowed}
 use Rattle.laws_client.specs.Fetches.{AreToldParts, IsNumbered}
-use Rattle.laws_client.specs.Talks.{Happening, Talks}
+use Rattle.laws_client.specs.Talks.{Talks}
+use Rattle.imap_session.specs.Happenings.{Happening, IsPrinted}
 use Rattle.laws_client.specs.ListTurns.{AreTags, IsPlain, IsRowOf, IsTag, Says, SeesAll}
 
 -- ---- bytes

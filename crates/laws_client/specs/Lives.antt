@@ -1,24 +1,14 @@
 -- A session's life in a house, as its client hears it: turns of its own, and between them whatever others do.
-use Rattle.std.specs.Prelude.{◌≡◌, ℕ, ◌+◌, ◌<◌, List, [], ◌∷◌, ◌++◌, length, Some, None}
-use Rattle.line_io.specs.Wire.{crlf}
+use Rattle.std.specs.Prelude.{◌≡◌, ℕ, List, [], ◌∷◌, ◌++◌, Some, None}
 use Rattle.world.specs.World.{Config, Event, IsWorld, Step, World}
 use Rattle.imap_session.specs.Exchange.{Call, Answer as StoreAnswer, Standing, Turn}
 use Rattle.imap_session.specs.Store.{Met}
-use Rattle.imap_session.specs.Dialogue.{most_bytes}
 use Rattle.house.specs.Meets.{Meets}
-use Rattle.laws_client.specs.Talks.{Happening, Line, LongLine, Turned, Literal, Heard, leads_to}
-use Rattle.laws_client.specs.Clients.{IsRightAbout, Told, hears_all}
+use Rattle.imap_session.specs.Happenings.{Happening, IsSentFor, Told, VerdictsArePrinted, leads_to, told_of}
+use Rattle.laws_client.specs.Clients.{IsRightAbout, hears_all}
 use Rattle.laws_client.specs.Sizes.{HasShortTexts, HasSmallNumbers}
-use Rattle.laws_client.specs.RecordTurns.{Stands, VerdictsArePrinted, told_of}
+use Rattle.laws_client.specs.RecordTurns.{Stands}
 use Rattle.laws_client.specs.Views.{IsOfOthers, view_of}
-
--- the bytes of the client that are answered so
-abbrev pub IsSentFor : Happening → List ℕ → Type 0
-IsSentFor (Line line answers) bytes = bytes ≡ line ++ crlf
-IsSentFor LongLine bytes = (line : List ℕ) × (most_bytes < length line + 2) × (bytes ≡ line ++ crlf)
-IsSentFor (Literal kept literal) bytes = bytes ≡ literal
-IsSentFor (Turned answers) bytes = bytes ≡ []
-IsSentFor (Heard verdict answers) bytes = bytes ≡ []
 
 -- Session n stood so when it came into this world. Since then these bytes of its client were
 -- answered, and it was told all this, piece by piece; and now it stands so in that world.

@@ -5,7 +5,8 @@ use Rattle.imap_session.specs.Exchange.{Standing, begun_with}
 use Rattle.world.specs.First.{one_house}
 use Rattle.world.specs.World.{World, empty_world}
 use Rattle.laws_client.specs.Client.{knowing, unknown}
-use Rattle.laws_client.specs.Clients.{Answer, Told, hears_all}
+use Rattle.laws_client.specs.Clients.{hears_all}
+use Rattle.imap_session.specs.Happenings.{Answer, Told}
 use Rattle.laws_client.specs.Lives.{Lives}
 use Rattle.laws_client.specs.Views.{view_of}
 

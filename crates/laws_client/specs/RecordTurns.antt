@@ -1,30 +1,16 @@
 -- A turn of a session in a world, as its client hears it.
-use Rattle.std.specs.Prelude.{◌≡◌, ℕ, List, Option, Some, None}
+use Rattle.std.specs.Prelude.{◌≡◌, ℕ, List, Option, Some}
 use Rattle.world.specs.World.{Config, Event, IsWorld, World}
 use Rattle.imap_session.specs.Exchange.{Call, Answer as StoreAnswer, Standing, Turn}
 use Rattle.imap_session.specs.Store.{Met}
 use Rattle.house.specs.Meets.{Meets}
 use Rattle.laws_client.specs.Client.{Client}
-use Rattle.laws_client.specs.Commands.{AreNames, IsPrinted, whole_line}
-use Rattle.laws_client.specs.Talks.{Happening, Line, Heard, leads_to}
+use Rattle.laws_client.specs.Commands.{AreNames}
+use Rattle.imap_session.specs.Happenings.{Happening, VerdictsArePrinted, leads_to, told_of}
 use Rattle.laws_client.specs.ListTurns.{AreTags}
-use Rattle.laws_client.specs.Clients.{Answer, IsRightAbout, Told, Words, hears}
+use Rattle.laws_client.specs.Clients.{IsRightAbout, hears}
 use Rattle.laws_client.specs.Sizes.{HasShortTexts, HasSmallNumbers}
 use Rattle.laws_client.specs.Views.{view_of}
-
--- the answer to what was sent as a command, or words
-abbrev pub told_line : (whole : Option (List ℕ)) → (bytes : List ℕ) → Told
-told_line None bytes = Words bytes
-told_line (Some whole) bytes = Answer whole bytes
-
-abbrev pub told_of : Standing → Happening → List ℕ → Told
-told_of now (Line line answers) bytes = told_line (whole_line now line) bytes
-told_of now happening bytes = Words bytes
-
--- the UID in a verdict can be printed
-abbrev pub VerdictsArePrinted : Happening → Type 0
-VerdictsArePrinted (Heard verdict answers) = IsPrinted verdict
-VerdictsArePrinted happening = Unit {0}
 
 -- What a session knows that a client's list rests on: its tags are tags, and the names of its mailboxes stand in lines.
 pub record Stands (now : Standing) : Type 0 where

@@ -9,8 +9,8 @@ use Rattle.imap_session.specs.Commands.{turn_of}
 use Rattle.imap_session.specs.Store.{Met}
 use Rattle.house.specs.Meets.{Meets}
 use Rattle.laws_client.specs.Client.{Client}
-use Rattle.laws_client.specs.Clients.{Entering, Told, asked, has_ok, hears_all}
-use Rattle.laws_client.specs.Commands.{whole_line}
+use Rattle.laws_client.specs.Clients.{Entering, asked, has_ok, hears_all}
+use Rattle.imap_session.specs.Happenings.{Told, whole_line}
 use Rattle.laws_client.specs.Lives.{Lives}
 
 abbrev pub Known_selected : Option Client → Standing → Type 0

@@ -1,4 +1,5 @@
--- A client of a session over mailboxes behind locks, as a server's: what its session counts, and when the client is right about that.
+-- A client of a session over mailboxes that threads share, as a server's: what its session counts by the history, and when the client is right
+-- about that.
 use Rattle.std.specs.Prelude.{◌≡◌, ◌⊎◌, ℕ, ◌<◌, ◌≤◌, ◌^◌, true, List, [], ◌∷◌, ◌++◌, length, map, Option, Some, None, IfSome, Ok}
 use mathlib.Core.List.{IsPrefix}
 use Rattle.change_ring.specs.declared.change.Change.{Change}
@@ -18,16 +19,15 @@ use Rattle.imap_session.specs.Commands.{turn_of, unlimited}
 use Rattle.imap_session.specs.Texts.{response_text}
 use Rattle.imap_session.specs.Store.{Met}
 use Rattle.session_thread.specs.declared.locked_store.Entry.{Entry}
-use Rattle.session_thread.specs.Locks.{HasItsText, Holds, LockedStore}
+use Rattle.session_thread.specs.ByHistory.{ByHistory}
+use Rattle.session_thread.specs.Locks.{HasItsText, LockedStore}
 use Rattle.session_thread.specs.SinceSelect.{WasShown}
 use Rattle.laws_client.specs.Beliefs.{IsRight}
 use Rattle.laws_client.specs.Client.{Client, Known, knowing}
-use Rattle.laws_client.specs.Clients.{Answer as Answer_to, IsRightAbout, Told, has_ok, hears, hears_all}
+use Rattle.laws_client.specs.Clients.{IsRightAbout, has_ok, hears, hears_all}
 use Rattle.laws_client.specs.Current.{shows_all}
-use Rattle.laws_client.specs.Lives.{IsSentFor}
-use Rattle.laws_client.specs.Commands.{whole_line}
-use Rattle.laws_client.specs.RecordTurns.{Stands, VerdictsArePrinted, told_of}
-use Rattle.laws_client.specs.Talks.{Happening, leads_to}
+use Rattle.laws_client.specs.RecordTurns.{Stands}
+use Rattle.imap_session.specs.Happenings.{Answer as Answer_to, Happening, Lived, Told, VerdictsArePrinted, leads_to, told_of, whole_line}
 
 -- ---- what it counts
 
@@ -52,30 +52,20 @@ HasSmallCursor selection = IfSome selection.entered (λ here. here.handle.at ≤
 abbrev pub ServedTurnIsKnown : Type 0
 ServedTurnIsKnown = (old new : LockedStore) (shown : List Change) (now : Standing) (happening : Happening) (turn : Turn) (client : Option Client)
     → WasShown old shown → HasSmallCursor old → Stands now → VerdictsArePrinted happening → Legal new.history
-    → leads_to now happening ≡ Some turn → Met Holds old turn.events new
+    → leads_to now happening ≡ Some turn → Met ByHistory old turn.events new
     → IsRightAbout (counted_by old) client → IsRightAbout (counted_by new) (hears client (told_of now happening turn.bytes))
 
 -- and the cursor's number is such a one then, whatever was called
 abbrev pub CursorsStaySmall : Type 0
-CursorsStaySmall = (old new : LockedStore) (events : List Event) → Met Holds old events new → HasSmallCursor old → HasSmallCursor new
+CursorsStaySmall = (old new : LockedStore) (events : List Event) → Met ByHistory old events new → HasSmallCursor old → HasSmallCursor new
 
 -- ---- a life
-
--- A session stood so when it came. Since then these bytes of its client were answered, and it
--- was told all this, piece by piece; and now it stands so, in the mailbox that it has
--- entered. What others do needs no case of its own: each hold of a lock may find whatever they have done meanwhile.
-pub data ServedLives (first : Standing) (began : LockedStore) : List ℕ → List Told → Standing → LockedStore → Type 0 where
-  comes : ServedLives first began [] [] first began
-  turns : {sent : List ℕ} {told : List Told} {now : Standing} {selection : LockedStore} → ServedLives first began sent told now selection
-      → (happening : Happening) (bytes : List ℕ) (turn : Turn) (next : LockedStore) → IsSentFor happening bytes → VerdictsArePrinted happening
-      → leads_to now happening ≡ Some turn → Met Holds selection turn.events next
-      → ServedLives first began (sent ++ bytes) (told ++ told_of now happening turn.bytes ∷ []) turn.standing next
 
 -- Whatever its client sends and whatever others do, from where it was in no mailbox it is right about what the session counts at each moment.
 abbrev pub ServedLivesAreKnown : Type 0
 ServedLivesAreKnown = (first : Standing) (began : LockedStore) (sent : List ℕ) (told : List Told) (now : Standing) (selection : LockedStore)
     → began.entered ≡ None → Stands first → Legal selection.history
-    → ServedLives first began sent told now selection → IsRightAbout (counted_by selection) (hears_all None told)
+    → Lived ByHistory first began sent told now selection → IsRightAbout (counted_by selection) (hears_all None told)
 
 -- ---- when its list is the mailbox
 
@@ -96,7 +86,7 @@ ServedListsAreCurrent =
 -- And the cursor is there where fewer changes were shown than were asked for, or all that are pending were, as at the end of NOOP (RFC 9051, 6.1.2).
 abbrev pub FeedsReachTheEnd : Type 0
 FeedsReachTheEnd = (old new : LockedStore) (limit : ℕ) (view : List ℕ) (changes shown : List Change)
-    → WasShown old shown → Holds old (Feed limit) (Fed view changes) new → (length changes < limit) ⊎ (limit ≡ unlimited)
+    → WasShown old shown → ByHistory old (Feed limit) (Fed view changes) new → (length changes < limit) ⊎ (limit ≡ unlimited)
     → IfSome new.entered (IsAtEnd new)
 
 -- So it is behind a command that `shows_all` names whose answer's last line says that it is done.
@@ -104,7 +94,7 @@ abbrev pub ServedCommandsReachTheEnd : Type 0
 ServedCommandsReachTheEnd =
     (old new : LockedStore) (shown : List Change) (now : Standing) (line whole tag : List ℕ) (command : Command) (selected : Selected)
     (answers : List Answer) (turn : Turn) (front : List ℕ)
-    → WasShown old shown → now.selected ≡ Some selected → turn_of now line answers ≡ Some turn → Met Holds old turn.events new
+    → WasShown old shown → now.selected ≡ Some selected → turn_of now line answers ≡ Some turn → Met ByHistory old turn.events new
     → whole_line now line ≡ Some whole → read whole ≡ Ok (tag, command) → shows_all command ≡ true
     → turn.bytes ≡ front ++ tagged tag (response_text (texts.Completed (verb_of command)))
     → IfSome new.entered (IsAtEnd new)
@@ -113,7 +103,7 @@ ServedCommandsReachTheEnd =
 abbrev pub ServedDoneReachesTheEnd : Type 0
 ServedDoneReachesTheEnd =
     (old new : LockedStore) (shown : List Change) (now : Standing) (line tag : List ℕ) (selected : Selected) (answers : List Answer) (turn : Turn)
-    → WasShown old shown → Stands now → now.selected ≡ Some selected → turn_of now line answers ≡ Some turn → Met Holds old turn.events new
+    → WasShown old shown → Stands now → now.selected ≡ Some selected → turn_of now line answers ≡ Some turn → Met ByHistory old turn.events new
     → now.mailing.begun ≡ None → now.idling ≡ Some tag → is_done line ≡ true → has_ok true tag turn.bytes ≡ true
     → IfSome new.entered (IsAtEnd new)
 
@@ -123,8 +113,9 @@ abbrev pub ServedCommandsMakeCurrent : Type 0
 ServedCommandsMakeCurrent =
     (first : Standing) (began : LockedStore) (sent : List ℕ) (told : List Told) (now : Standing) (selection : LockedStore) (client : Client)
     (line whole tag : List ℕ) (command : Command) (answers : List Answer) (turn : Turn) (next : LockedStore) (front : List ℕ) (here : Entry)
-    → began.entered ≡ None → Stands first → Legal next.history → ServedLives first began sent told now selection → hears_all None told ≡ Some client
-    → turn_of now line answers ≡ Some turn → Met Holds selection turn.events next
+    → began.entered ≡ None → Stands first → Legal next.history
+    → Lived ByHistory first began sent told now selection → hears_all None told ≡ Some client
+    → turn_of now line answers ≡ Some turn → Met ByHistory selection turn.events next
     → whole_line now line ≡ Some whole → read whole ≡ Ok (tag, command) → shows_all command ≡ true
     → turn.bytes ≡ front ++ tagged tag (response_text (texts.Completed (verb_of command)))
     → next.entered ≡ Some here

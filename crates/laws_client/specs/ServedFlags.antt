@@ -9,15 +9,16 @@ use Rattle.house_history.specs.Legal.{Legal}
 use Rattle.imap_session.specs.Exchange.{Alter, Altered, Answer, Call, Found, Read, Standing, Turn}
 use Rattle.imap_session.specs.Store.{Met}
 use Rattle.session_thread.specs.declared.locked_store.Entry.{Entry}
-use Rattle.session_thread.specs.Locks.{Holds, LockedStore}
+use Rattle.session_thread.specs.ByHistory.{ByHistory}
+use Rattle.session_thread.specs.Locks.{LockedStore}
 use Rattle.session_thread.specs.SinceSelect.{WasShown}
 use Rattle.laws_client.specs.Beliefs.{Each}
 use Rattle.laws_client.specs.Client.{Client, Known, knowing}
-use Rattle.laws_client.specs.Clients.{Told, hears, hears_all}
+use Rattle.laws_client.specs.Clients.{hears, hears_all}
 use Rattle.laws_client.specs.Flags.{BelievesNow, FlagsOf, HasNow, Point}
-use Rattle.laws_client.specs.RecordTurns.{Stands, VerdictsArePrinted, told_of}
-use Rattle.laws_client.specs.Served.{HasSmallCursor, IsAtEnd, ServedLives, messages_in}
-use Rattle.laws_client.specs.Talks.{Happening, leads_to}
+use Rattle.laws_client.specs.RecordTurns.{Stands}
+use Rattle.laws_client.specs.Served.{HasSmallCursor, IsAtEnd, messages_in}
+use Rattle.imap_session.specs.Happenings.{Happening, Lived, Told, VerdictsArePrinted, leads_to, told_of}
 use Rattle.laws_client.specs.Worlds.{IsRightOnFlags}
 
 -- where a session is in the mailbox that it has entered, by a history; nowhere in an empty one, where it has entered none
@@ -40,12 +41,12 @@ OfToldFlags P call answer = Unit {0}
 -- They are those that the message has when the lock is let go.
 abbrev pub ServedFlagsAreFound : Type 0
 ServedFlagsAreFound = (old new : LockedStore) (call : Call) (answer : Answer) (shown : List Change)
-    → WasShown old shown → Holds old call answer new → OfToldFlags (HasNow (place_of new).log) call answer
+    → WasShown old shown → ByHistory old call answer new → OfToldFlags (HasNow (place_of new).log) call answer
 
 -- So by any later history, whatever others have done since, the message had them at a moment that isn't before the cursor.
 abbrev pub ServedFlagsHaveMoments : Type 0
 ServedFlagsHaveMoments = (old new : LockedStore) (call : Call) (answer : Answer) (shown : List Change) (later : List house.Event)
-    → WasShown old shown → Holds old call answer new → IsPrefix new.history later
+    → WasShown old shown → ByHistory old call answer new → IsPrefix new.history later
     → OfToldFlags (FlagsOf (place_in later new.entered).log (place_in later new.entered).cursor) call answer
 
 -- ---- turns and lives
@@ -55,14 +56,14 @@ ServedFlagsHaveMoments = (old new : LockedStore) (call : Call) (answer : Answer)
 abbrev pub ServedTurnTellsFlags : Type 0
 ServedTurnTellsFlags = (old new : LockedStore) (shown : List Change) (now : Standing) (happening : Happening) (turn : Turn) (client : Option Client)
     → WasShown old shown → HasSmallCursor old → Stands now → VerdictsArePrinted happening → Legal new.history
-    → leads_to now happening ≡ Some turn → Met Holds old turn.events new
+    → leads_to now happening ≡ Some turn → Met ByHistory old turn.events new
     → IsRightOnFlags (place_of old) client → IsRightOnFlags (place_of new) (hears client (told_of now happening turn.bytes))
 
 -- From where its session was in no mailbox it is right about flags at each moment of the session's life.
 abbrev pub ServedLivesTellFlags : Type 0
 ServedLivesTellFlags = (first : Standing) (began : LockedStore) (sent : List ℕ) (told : List Told) (now : Standing) (selection : LockedStore)
     → began.entered ≡ None → Stands first → Legal selection.history
-    → ServedLives first began sent told now selection → IsRightOnFlags (place_of selection) (hears_all None told)
+    → Lived ByHistory first began sent told now selection → IsRightOnFlags (place_of selection) (hears_all None told)
 
 -- ---- flags as they are
 

@@ -4,7 +4,8 @@ use Rattle.std.specs.List.{list_all}
 use Rattle.imap_session.specs.Exchange.{Answer, Entered, Event, Left}
 use Rattle.imap_session.specs.Store.{Met}
 use Rattle.session_thread.specs.declared.locked_store.Entry.{Entry}
-use Rattle.session_thread.specs.Locks.{Holds, In, LockedStore}
+use Rattle.session_thread.specs.ByHistory.{ByHistory}
+use Rattle.session_thread.specs.Locks.{In, LockedStore}
 use Rattle.session_thread.specs.SinceSelect.{shown_since}
 
 -- the session neither entered a mailbox by it nor left one
@@ -15,7 +16,7 @@ stays_by answer = true
 
 -- Then it is in the same mailbox, since the same SELECT, with the handle that it had, gone on by as many changes as were shown.
 abbrev pub ServedSessionsStay : Type 0
-ServedSessionsStay = (old new : LockedStore) (events : List Event) (here : Entry) → Met Holds old events new
+ServedSessionsStay = (old new : LockedStore) (events : List Event) (here : Entry) → Met ByHistory old events new
     → list_all (λ (e : Event). stays_by e.answer) events ≡ true → old.entered ≡ Some here
     → In new (λ there. (there.mailbox ≡ here.mailbox) × (there.start ≡ here.start)
     × (there.handle ≡ record here.handle { at = here.handle.at + length (shown_since [] events) }))

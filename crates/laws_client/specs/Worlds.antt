@@ -8,13 +8,12 @@ use Rattle.imap_session.specs.Store.{Met}
 use Rattle.house.specs.Meets.{Meets}
 use Rattle.laws_client.specs.Beliefs.{Each}
 use Rattle.laws_client.specs.Client.{Client, Known, knowing}
-use Rattle.laws_client.specs.Talks.{Happening, leads_to}
-use Rattle.laws_client.specs.Clients.{Answer, Told, Words, has_ok, hears, hears_all}
+use Rattle.imap_session.specs.Happenings.{Answer, Happening, Told, VerdictsArePrinted, Words, leads_to, told_of, whole_line}
+use Rattle.laws_client.specs.Clients.{has_ok, hears, hears_all}
 use Rattle.laws_client.specs.Current.{IsAnswered}
 use Rattle.laws_client.specs.Lives.{Lives}
 use Rattle.laws_client.specs.Sizes.{HasShortTexts, HasSmallNumbers}
-use Rattle.laws_client.specs.Commands.{whole_line}
-use Rattle.laws_client.specs.RecordTurns.{Stands, VerdictsArePrinted, told_of}
+use Rattle.laws_client.specs.RecordTurns.{Stands}
 use Rattle.laws_client.specs.Views.{IsOfOthers, messages_of}
 use Rattle.laws_client.specs.Flags.{BelievesNow, KnowsFlags, Point}
 use Rattle.laws_client.specs.FlagTurns.{IfInside, SeesFlags}

@@ -6,3 +6,4 @@ pub mod AnswerRows
 pub mod FlagRows
 pub mod ServedRows
 pub mod RunRows
+pub mod HistoryRows

@@ -22,5 +22,5 @@ pub use record_laws::{
 };
 pub use served_laws::{
     served_clients_keep_up, served_clients_know_flags, served_lists_are_current,
-    served_sessions_stay, served_texts_stay, served_visits_are_lives,
+    served_sessions_stay, served_texts_stay, served_visitors_keep_up, served_visits_are_lives,
 };

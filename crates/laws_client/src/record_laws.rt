@@ -2,7 +2,7 @@
 //! come to, its turns, and its whole life. Laws of what a client reads ask that the numbers can be printed (`HasSmallNumbers` of
 //! the settings) and that texts are short (`HasShortTexts` of the world): settings without a fault see to both (`houses_can_be_printed`, `clients_keep_up`).
 
-ghost use Rattle.laws_client.specs.Appends.{AppendsAreTold, AppendsWereTold};
+ghost use Rattle.laws_client.specs.Appends.{AppendsAreKept, AppendsAreTold, AppendsWereKept, AppendsWereTold};
 ghost use Rattle.laws_client.specs.AtEntries.{AnswersMakeCurrent, VerdictsMakeCurrent};
 ghost use Rattle.laws_client.specs.Clients.{KnowsWhereItIs};
 ghost use Rattle.laws_client.specs.Current.{DoneCommandsMakeCurrent, DoneMakesCurrent, FeedsMakeCurrent, ListsAreCurrent, NoopMakesCurrent};
@@ -152,6 +152,10 @@ pub fn appends_are_told()
 
     // So it is of one that has ended by itself, as by LOGOUT, behind all that happened since.
     ensures ended { AppendsWereTold }
+
+    // So its client knows what became of its messages, by the last lines of its answers alone.
+    ensures kept { AppendsAreKept }
+    ensures were_kept { AppendsWereKept }
 {}
 
 /// The answers into which a record cuts what was printed to a client are those that the bytes allow: each has one tagged line at

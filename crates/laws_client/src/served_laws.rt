@@ -1,10 +1,10 @@
 //! Laws of what a client reads of a session over mailboxes behind locks, as a server's or one of a running house: between two of
 //! its calls other threads may do anything. They are functions that do nothing. They stand on what `session_thread` proves of
-//! every such session, that what it was shown since SELECT is its mailbox's changes up to its cursor (`shown_since_select`).
+//! every such session, that each of its calls is what the one history says (`shown_since_select`, clause `history`).
 
 ghost use Rattle.laws_client.specs.ServedFlags.{ServedFlagsAreCurrent, ServedFlagsAreFound, ServedFlagsHaveMoments, ServedLivesTellFlags, ServedTurnTellsFlags};
 ghost use Rattle.laws_client.specs.ServedStays.{ServedSessionsStay};
-ghost use Rattle.laws_client.specs.ServedVisits.{AttendedClientsLive, CallsGoOn, VisitorsKeepUp, VisitorsStand, VisitsBegin, VisitsGoOn};
+ghost use Rattle.laws_client.specs.ServedVisits.{AttendedClientsLive, CallsGoOn, VisitorsKeepUp, VisitorsStand, VisitsAreByHistory, VisitsBegin, VisitsGoOn};
 ghost use Rattle.laws_client.specs.Served.{CursorsStaySmall, FeedsReachTheEnd, ServedCommandsMakeCurrent, ServedCommandsReachTheEnd, ServedDoneReachesTheEnd, ServedListsAreCurrent, ServedLivesAreKnown, ServedTextsStay, ServedTurnIsKnown};
 
 /// Between a SELECT and what ends it such a session stays in that mailbox, with the handle that it was given there: of that only the cursor's
@@ -72,8 +72,7 @@ pub fn served_clients_know_flags()
 
 /// So it is of each visit of a server's clients (`Visit` of `imap_stream`): what its calls do is such a life. Whoever makes the next call, `hear` or
 /// `look`, and whatever others did since the last, the client was told the greeting and then a life of a session over the one history; the
-/// output took all of that, or the first bytes of it where it failed. So the client is right about what its session counts, and about flags,
-/// at each moment. Of a client that is dismissed nothing is said behind its `BYE`.
+/// output took all of that, or the first bytes of it where it failed. Of a client that is dismissed nothing is said behind its `BYE`.
 pub fn served_visits_are_lives()
     // A visit whose client was greeted begins such a life, and each call of a visit that isn't over goes on with it.
     ensures begin { VisitsBegin }
@@ -83,6 +82,13 @@ pub fn served_visits_are_lives()
     ensures calls { CallsGoOn }
     ensures attended { AttendedClientsLive }
 
+    // Each hold of a lock in it is what the history says of it.
+    ensures by_history { VisitsAreByHistory }
+{}
+
+/// So the client of such a visit is right about what its session counts, and about flags, at each moment (`HasLived` of `imap_stream`; a client
+/// slot's `attend` gives that of each client that it attends).
+pub fn served_visitors_keep_up()
     // What it asks of the session's mailboxes is so where nothing is wrong with the settings.
     ensures stand { VisitorsStand }
 

@@ -68,7 +68,7 @@ longer_next at n log all goes within few = let d = length-drop at log in
 same_end : {A : Type 0} (xs : List A) → IsPrefix xs xs
 same_end xs = ([], append-nil xs)
 
-trans : {A : Type 0} (a b c : List A) → IsPrefix a b → IsPrefix b c → IsPrefix a c
+pub trans : {A : Type 0} (a b c : List A) → IsPrefix a b → IsPrefix b c → IsPrefix a c
 trans a b c f g = (f.0 ++ g.0, sym (append_assoc a f.0 g.0) ∙ ap (λ xs. xs ++ g.0) f.1 ∙ g.1)
 
 up_to : (before after : List house.Event) (here : Entry) (shown : List Change) → IsPrefix before after → IsUpToCursor before here shown → IsUpToCursor after here shown
@@ -83,7 +83,7 @@ up_to before after here shown goes was =
       changes = was.changes ∙ sym (longer_next here.start (length shown) (changes_in here.mailbox before) (changes_in here.mailbox after) g (omega (arith, cursor, within)) (omega (arith, cursor, within)));
     }
 
-grows : (before after : List house.Event) (entered : Option Entry) (shown : List Change) → IsPrefix before after → WasShownIn before entered shown → WasShownIn after entered shown
+pub grows : (before after : List house.Event) (entered : Option Entry) (shown : List Change) → IsPrefix before after → WasShownIn before entered shown → WasShownIn after entered shown
 grows before after None shown goes was = was
 grows before after (Some here) shown goes was = up_to before after here shown goes was
 
@@ -99,13 +99,13 @@ found_log_grows found left said before after k =
 same_entry : {a b : Entry} → Some a ≡ Some b → a ≡ b
 same_entry e = cc
 
-at_entry : (h : List house.Event) (entered : Option Entry) (here : Entry) (shown : List Change) → entered ≡ Some here → WasShownIn h entered shown → IsUpToCursor h here shown
+pub at_entry : (h : List house.Event) (entered : Option Entry) (here : Entry) (shown : List Change) → entered ≡ Some here → WasShownIn h entered shown → IsUpToCursor h here shown
 at_entry h entered here shown is was = subst (λ (e : Option Entry). WasShownIn h e shown) is was
 
-told_at : (P : Entry → Type 0) (entered : Option Entry) (here : Entry) → entered ≡ Some here → P here → IfSome entered P
+pub told_at : (P : Entry → Type 0) (entered : Option Entry) (here : Entry) → entered ≡ Some here → P here → IfSome entered P
 told_at P entered here is h = subst (λ (e : Option Entry). IfSome e P) (sym is) h
 
-shown_at : (selection : LockedStore) (here : Entry) (shown : List Change) (history : List house.Event) → selection.entered ≡ Some here → selection.history ≡ history → IsUpToCursor history here shown → WasShown selection shown
+pub shown_at : (selection : LockedStore) (here : Entry) (shown : List Change) (history : List house.Event) → selection.entered ≡ Some here → selection.history ≡ history → IsUpToCursor history here shown → WasShown selection shown
 shown_at selection here shown history is seen was =
     subst (λ (e : Option Entry). WasShownIn selection.history e shown) (sym is) (subst (λ (h : List house.Event). IsUpToCursor h here shown) (sym seen) was)
 
@@ -114,7 +114,7 @@ number_of true o x e = refl
 number_of false o x e = cc
 
 -- the handle is of the mailbox that was found
-of_number : (found : Mailbox) (handle : CursorHandle) (view : List ℕ) → IsKept found → HasCursor found handle view → found.number ≡ handle.number
+pub of_number : (found : Mailbox) (handle : CursorHandle) (view : List ℕ) → IsKept found → HasCursor found handle view → found.number ≡ handle.number
 of_number found handle view kept known =
     sym kept.handles ∙ same (found.cursors.number) handle.number
     (number_of (found.cursors.number == handle.number) (if_of handle (in_slot found.cursors handle.slot)) (record { serial = handle.serial; at = handle.at; view = view }) known.cursor)
@@ -122,7 +122,7 @@ of_number found handle view kept known =
 abbrev Step : LockedStore → List Change → Answer → LockedStore → Type 0
 Step old shown answer new = IsPrefix old.history new.history × Tells old answer new × WasShown new (shown_then shown answer)
 
-rests : (old new : LockedStore) (shown : List Change) → new ≡ old → WasShown old shown → IsPrefix old.history new.history × Unit {0} × WasShown new shown
+pub rests : (old new : LockedStore) (shown : List Change) → new ≡ old → WasShown old shown → IsPrefix old.history new.history × Unit {0} × WasShown new shown
 rests old new shown is was = (
   subst (λ (p : LockedStore). IsPrefix old.history p.history) (sym is) (same_end old.history),
   tt,
@@ -188,7 +188,7 @@ entered old new m opening shown (nowhere, acceptor, (handle, (found, left, (numb
     )
 
 -- what was shown up to the cursor, and then the next changes
-further_on : (before after : List house.Event) (here : Entry) (next : CursorHandle) (shown changes : List Change) → IsPrefix before after → IsUpToCursor before here shown → next.number ≡ here.handle.number
+pub further_on : (before after : List house.Event) (here : Entry) (next : CursorHandle) (shown changes : List Change) → IsPrefix before after → IsUpToCursor before here shown → next.number ≡ here.handle.number
     → next.at ≡ here.handle.at + length changes → next.at ≤ length (changes_in here.mailbox after) → changes ≡ next_of (changes_in here.mailbox after) here.handle.at (length changes)
     → IsUpToCursor after (record { mailbox = here.mailbox; start = here.start; handle = next }) (shown ++ changes)
 further_on before after here next shown changes longer was number at within is =

@@ -1,4 +1,5 @@
 pub mod Locks
 pub mod Life
 pub mod SinceSelect
+pub mod ByHistory
 pub mod inner

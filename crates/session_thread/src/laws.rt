@@ -1,6 +1,7 @@
 //! What holds of every session over locks, as the contract of a function that anybody may call. No
 //! code of a session stands here.
 
+ghost use Rattle.session_thread.specs.ByHistory.{HoldsAreByHistory, ShownByHistory};
 ghost use Rattle.session_thread.specs.SinceSelect.{ShownByCall, ShownSinceSelect};
 
 /// What a session was shown since its SELECT is exactly its mailbox's changes in the house's history, up to its cursor, in order,
@@ -12,4 +13,8 @@ pub fn shown_since_select()
 
     // So behind any calls, one after another, what was shown is up to the cursor.
     ensures since { ShownSinceSelect }
+
+    // Each call is what the history says of it, whatever a mailbox keeps and whoever has its lock. That is enough for what was shown.
+    ensures history { HoldsAreByHistory }
+    ensures by_history { ShownByHistory }
 {}

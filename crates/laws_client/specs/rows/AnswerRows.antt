@@ -8,7 +8,7 @@ use Rattle.std.proofs.Common.{refl, inl, sym}
 use Rattle.imap_session.specs.Commands.{appended_words, copied_words, with_copy}
 use Rattle.imap_session.specs.Telling.{tells_uid}
 use Rattle.laws_client.specs.Appends.{EndsWith, copy_under, IsSentAs, IsSpelled, as_it_stands, last_line, with_literal, with_response, IsCopyOf, SaysMoved, SaysVerdict, awaits_next}
-use Rattle.laws_client.specs.Clients.{Answer, Words}
+use Rattle.imap_session.specs.Happenings.{Answer, Words}
 use Rattle.laws_client.specs.Cuts.{amid, between, cut_between, cuts, is_ended}
 use Rattle.imap_grammar.specs.declared.set.SeqNumber.TheVariants.{Number}
 use Rattle.exactly_once.specs.Found.{none_named, one_found, one_gone}

@@ -1,5 +1,5 @@
 -- Talks, as they go: a copy has come, and a NOOP shows it; a client appends a message to the mailbox that it selected.
-use Rattle.std.specs.Prelude.{◌≡◌, ℕ, List, Option, codes, true, false, [], ◌∷◌, None, Some}
+use Rattle.std.specs.Prelude.{◌≡◌, codes, true, false, [], ◌∷◌, None, Some}
 use Rattle.std.proofs.Common.{refl, arith}
 use Rattle.change_ring.specs.declared.change.Change.TheVariants.{Add}
 use Rattle.std.specs.Fmt.{digits}
@@ -12,11 +12,9 @@ use Rattle.imap_session.specs.declared.standing.After.TheVariants.{Go, Submit}
 use Rattle.imap_session.specs.declared.standing.After.TheVariants as afters
 use Rattle.imap_session.specs.Commands.{unlimited, with_bytes, without_begun, without_sent}
 use Rattle.imap_session.specs.declared.standing.Profile.TheVariants.{Standard}
-use Rattle.imap_session.specs.Exchange.{Count, Counted, Fed, Feed, Argument, ForLiteral, ForVerdict, Message, Purpose, Response, Standing, begun_with, waiting, Unasked, Client}
-use Rattle.laws_client.specs.Clients.{Answer, Words}
-use Rattle.laws_client.specs.Commands.{whole_line}
-use Rattle.laws_client.specs.RecordTurns.{told_of}
-use Rattle.laws_client.specs.Talks.{Heard, Line, Literal, Talks}
+use Rattle.imap_session.specs.Exchange.{Count, Counted, Fed, Feed, ForLiteral, ForVerdict, Message, Standing, begun_with, waiting, Unasked, Client}
+use Rattle.laws_client.specs.Talks.{Talks}
+use Rattle.imap_session.specs.Happenings.{Heard, Line, Literal}
 
 abbrev pub selected : Standing
 selected = record (begun_with (record { most = Some 10; profile = Standard; login = None }) []) { selected = Some (record { mailbox = 0; read_only = false }) }
@@ -46,22 +44,6 @@ come = with_bytes true (codes "x") due
 
 abbrev pub submitted : Standing
 submitted = waiting (codes "a1") (ForVerdict Client 0 no_flags (undated (codes "x"))) (without_begun come)
-
--- what came as a command with a line: where an argument goes before it, a response is asked for, or a message; and where memory was refused to the argument
-abbrev pub goes_on : Purpose → (text : Option (List ℕ)) → Standing
-goes_on purpose text = record with_inbox { mailing = record with_inbox.mailing { begun = Some (record { tag = codes "a1"; purpose = purpose; size = 5; due = 0; text = text }) } }
-
-joined : told_of (goes_on (Argument (codes "a1 SELECT ")) (Some (codes "INBOX"))) (Line [] []) (codes "a1 BAD Wrong state\r\n") ≡ Answer (codes "a1 SELECT \"INBOX\"") (codes "a1 BAD Wrong state\r\n")
-joined = refl
-
-responded : whole_line (goes_on (Response (codes "a1 AUTHENTICATE PLAIN")) (Some [])) [] ≡ Some (codes "a1 AUTHENTICATE PLAIN =")
-responded = refl
-
-behind_a_message : told_of (goes_on (Message None no_flags None) (Some (codes "x"))) (Line [] []) (codes "a1 NO Message too big\r\n") ≡ Words (codes "a1 NO Message too big\r\n")
-behind_a_message = refl
-
-without_memory : whole_line (goes_on (Argument (codes "a1 SELECT ")) None) [] ≡ None
-without_memory = refl
 
 abbrev pub counted : Status
 counted = record { messages = 1; uidnext = 2; uidvalidity = 7; unseen = 1; deleted = 0; size = 1 }

@@ -1,4 +1,4 @@
-use Rattle.laws_client.proofs.ServedVisits.{attended_clients_live, calls_go_on, visitors_keep_up, visitors_stand, visits_begin, visits_go_on}
+use Rattle.laws_client.proofs.ServedVisits.{attended_clients_live, calls_go_on, visits_are_by_history, visits_begin, visits_go_on}
 use Rattle.laws_client.proofs.served_laws.served_visits_are_lives.Goals as goal
 
 pub returns-clause-begin : goal.returns-clause-begin
@@ -13,8 +13,5 @@ returns-clause-calls c = calls_go_on
 pub returns-clause-attended : goal.returns-clause-attended
 returns-clause-attended c = attended_clients_live
 
-pub returns-clause-stand : goal.returns-clause-stand
-returns-clause-stand c = visitors_stand
-
-pub returns-clause-right : goal.returns-clause-right
-returns-clause-right c = visitors_keep_up
+pub returns-clause-by_history : goal.returns-clause-by_history
+returns-clause-by_history c = visits_are_by_history
