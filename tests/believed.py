@@ -28,7 +28,7 @@ ROOTS = ["exactly_once::exactly_once_delivery", "script::run_script.once"]
 
 # README's two sentences, of a house on one thread: what a relay may conclude, and what a client may.
 TO_A_RELAY = ["laws_relay::relays_may_conclude_over_any"]
-TO_A_CLIENT = ["laws_client::clients_keep_up", "laws_client::clients_know_flags", "laws_client::uids_stay"]
+TO_A_CLIENT = ["laws_client::clients_keep_up.record+ended", "laws_client::clients_know_flags.record", "laws_client::uids_stay.same+gone+records"]
 
 # The parts of the page, each with how the heads of its sections begin and the functions whose clauses cite it. The last one has all other sections. Where
 # clauses are named behind a function (`crate::function.clause+clause`), what it ensures besides is no part of the promise.
@@ -38,25 +38,35 @@ PARTS = [
     ("IMAP", ["exactly_once::sessions_may_speak_imap"]),
     ("To a relay", TO_A_RELAY),
     ("To a client", TO_A_CLIENT),
-    ("Besides, to a client", ["laws_client::lists_are_current", "laws_client::appends_are_told"]),
+    ("Besides, to a client", ["laws_client::lists_are_current.entries+verdicts", "laws_client::appends_are_told.kept+were_kept"]),
     (
         "Of a server",
         [
-            "lane_work::books_stand.stand",
-            "lane_work::converse.played+backed",
             "laws_relay::served_relays_conclude",
             "laws_relay::servers_conclude",
             "laws_relay::lines_conclude",
             "laws_relay::client_slots_conclude",
-            "session_thread::shown_since_select",
-            "laws_client::served_visits_are_lives",
-            "laws_client::served_lists_are_current",
+            "session_thread::shown_since_select.by_history",
+            "imap_stream::attend.lived",
+            "laws_client::served_visitors_keep_up.right",
+            "laws_client::served_lists_are_current.all+done+list",
             "laws_client::served_texts_stay",
-            "serving::serve_house.left",
+            "serving::serve_house.kept",
         ],
     ),
-    ("", ROOTS),
+    ("Of a script", ROOTS),
+    (
+        "While a server runs",
+        [
+            "lane_work::books_stand.stand",
+            "lane_work::converse.played+backed",
+            "laws_client::served_visits_are_lives",
+        ],
+    ),
 ]
+
+# What is spoken is a promise of its own, and so is what single calls say while a server runs: the rest is what all sentences of README rest on.
+APART = ["LMTP", "IMAP", "While a server runs"]
 
 # The parts that README's two sentences rest on, whatever the dialogues are.
 SENTENCES = ["The headline", "To a relay", "To a client"]
@@ -217,7 +227,7 @@ class Closure:
         for file in sorted(os.listdir(folder)):
             with open(os.path.join(folder, file), encoding="utf-8") as code:
                 text = code.read()
-            found = re.search(rf"pub fn {function}\b.*?\n\{{", text, re.S)
+            found = re.search(rf"^( *)pub fn {function}\b.*?\n\1\{{", text, re.S | re.M)
             if found:
                 source = Source(file)
                 for line in text.split("\n"):
@@ -305,7 +315,7 @@ def apart():
 
 def with_these(contract, names):
     """A function's head and contract, of which among the clauses that it ensures only those of these names stay."""
-    head, *clauses = re.split(r"^    (?=(?:requires|ensures)\b)", contract, flags=re.M)
+    head, *clauses = re.split(r"^ +(?=(?:requires|ensures)\b)", contract, flags=re.M)
     return head + "".join(clause for clause in clauses if clause.startswith("requires") or clause.split()[1] in names)
 
 
@@ -378,10 +388,15 @@ def parts():
             before.setdefault(path, set()).update(names)
 
 
-def of_sentences(found):
-    """The files that README's two sentences rest on, and their lines, by what came of the parts."""
-    files = [sizes for head, sizes in found if head in SENTENCES]
+def of_parts(found, heads):
+    """The files that these parts rest on, and their lines, by what came of all parts."""
+    files = [sizes for head, sizes in found if head in heads]
     return len({path for sizes in files for path in sizes}), sum(sum(sizes.values()) for sizes in files)
+
+
+def of_all(found):
+    """The same of all sentences, whatever is spoken."""
+    return of_parts(found, [head for head, _ in PARTS if head not in APART])
 
 
 def named_in(page, head):
@@ -423,10 +438,11 @@ def wrong_on(page):
     first = f"{sum(found[0][1].values()):,}", str(len(found[0][1]))
     if not told or told.groups() != first:
         yield f"doesn't tell that the headline is {first[0]} lines in {first[1]} files"
-    files, lines = of_sentences(found)
     with open(page, encoding="utf-8") as text:
-        if f"rest on {lines:,} lines in {files} files" not in text.read():
-            yield f"doesn't tell that README's two sentences rest on {lines:,} lines in {files} files"
+        told = text.read()
+    for whose, (files, lines) in (("README's two sentences rest", of_parts(found, SENTENCES)), ("all sentences rest", of_all(found))):
+        if f"rest on {lines:,} lines in {files} files" not in told:
+            yield f"doesn't tell that {whose} on {lines:,} lines in {files} files"
     roots = {root.partition(".")[0] for _, them in PARTS for root in them} | OF_A_PROGRAM
     yield from (f"has no part for {name}, which README names" for name in named_in(os.path.join(TOP, "README.md"), "What is promised") if name not in roots)
     for (head, sizes), files in zip(found, listed):
@@ -450,8 +466,8 @@ def tell_parts():
         for path in sorted(sizes):
             print(f"{path}: {sizes[path]} lines")
         print(f"{head or 'The others'}: {len(sizes)} files, {sum(sizes.values())} lines")
-    files, lines = of_sentences(found)
-    print(f"README's two sentences, whatever is spoken: {files} files, {lines} lines")
+    for whose, (files, lines) in (("README's two sentences", of_parts(found, SENTENCES)), ("All sentences", of_all(found))):
+        print(f"{whose}, whatever is spoken: {files} files, {lines} lines")
     return 0
 
 
