@@ -1,5 +1,5 @@
 -- Talks, as they go: a copy has come, and a NOOP shows it; a client appends a message to the mailbox that it selected.
-use Rattle.std.specs.Prelude.{◌≡◌, codes, true, false, [], ◌∷◌, None, Some}
+use Rattle.std.specs.Prelude.{codes, true, false, [], ◌∷◌, None, Some}
 use Rattle.std.proofs.Common.{refl, arith}
 use Rattle.change_ring.specs.declared.change.Change.TheVariants.{Add}
 use Rattle.std.specs.Fmt.{digits}
