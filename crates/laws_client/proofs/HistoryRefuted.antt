@@ -28,7 +28,7 @@ use Rattle.session_thread.specs.declared.locked_store.Entry.{Entry}
 use Rattle.session_thread.specs.Locks.{In, LockedStore, says}
 use Rattle.session_thread.specs.SinceSelect.{Shows}
 use Rattle.session_thread.specs.ByHistory.{ByHistory, Comes, IsRead, Logs, Moves, flags_in}
-use Rattle.laws_client.specs.rows.HistoryRows.{both, came, deleted, emptied, entry, first, flagged, marked, opening, outside, row, seen, status, was_left, was_read, within}
+use Rattle.laws_client.specs.rows.HistoryRows.{both, came, deleted, emptied, entry, first, flagged, marked, message_read, opening, outside, seen, status, was_left, was_read, within}
 
 -- ---- words
 
@@ -261,15 +261,15 @@ stands_as copy (ticket, (suc (suc (suc (suc (suc (suc (suc (suc zero))))))), l, 
 stands_as copy (ticket, (suc (suc (suc (suc (suc (suc (suc (suc (suc k)))))))), l, e)) text = omega (arith, l)
 
 -- It asked for the first message, and is told the text of the second.
-another_text : ByHistory (within came 3) (Read 7 true) (Found (Some (row 7 seen (codes "two\r\n")))) (within was_read 3) → ⊥
+another_text : ByHistory (within came 3) (Read 7 true) (Found (Some (message_read 7 seen (codes "two\r\n")))) (within was_read 3) → ⊥
 another_text h = let t = (read_at came 3 7 true _ (within was_read 3) h).1.text in stands_as t.0 t.3 (ap (λ (x : Text). x.bytes) t.2)
 
 -- It asked for the first message, and is told the second.
-another_message : ByHistory (within came 3) (Read 7 true) (Found (Some (row 8 flagged (codes "two\r\n")))) (within was_read 3) → ⊥
+another_message : ByHistory (within came 3) (Read 7 true) (Found (Some (message_read 8 flagged (codes "two\r\n")))) (within was_read 3) → ⊥
 another_message h = let uid : 8 ≡ 7 = (read_at came 3 7 true _ (within was_read 3) h).1.uid_of in omega (arith, uid)
 
 -- It is told flags that the message never had.
-another_messages_flags : ByHistory (within came 3) (Read 7 true) (Found (Some (row 7 flagged (codes "one\r\n")))) (within was_read 3) → ⊥
+another_messages_flags : ByHistory (within came 3) (Read 7 true) (Found (Some (message_read 7 flagged (codes "one\r\n")))) (within was_read 3) → ⊥
 another_messages_flags h = false≢true (ap is_seen (read_at came 3 7 true _ (within was_read 3) h).1.flags)
 
 -- It is told that the message is gone, and that is there.
@@ -277,20 +277,20 @@ hides_a_message : ByHistory (within came 3) (Read 7 true) (Found None) (within w
 hides_a_message h = none-some seen (read_at came 3 7 true None (within was_read 3) h).1.flags
 
 -- It is told a message that is gone.
-tells_of_the_gone : ByHistory (within emptied 5) (Read 8 true) (Found (Some (row 8 both (codes "two\r\n")))) (within emptied 5) → ⊥
+tells_of_the_gone : ByHistory (within emptied 5) (Read 8 true) (Found (Some (message_read 8 both (codes "two\r\n")))) (within emptied 5) → ⊥
 tells_of_the_gone h = none-some both (sym (read_at emptied 5 8 true _ (within emptied 5) h).1.flags)
 
 -- It read the message, and \Seen isn't set.
-sets_nothing : ByHistory (within came 3) (Read 7 true) (Found (Some (row 7 no_flags (codes "one\r\n")))) (within came 3) → ⊥
+sets_nothing : ByHistory (within came 3) (Read 7 true) (Found (Some (message_read 7 no_flags (codes "one\r\n")))) (within came 3) → ⊥
 sets_nothing h =
     let call = says_last (within came 3) (within came 3) 0 (steps.Read 7 true) (read_at came 3 7 true _ (within came 3) h).0 in cc
 
 -- It read the message without setting \Seen, and is told that this was newly set.
-newly_seen : ByHistory (within was_read 3) (Read 7 false) (Found (Some (row 7 seen (codes "one\r\n")))) (within (was_read ++ Changed 0 (steps.Read 7 false) ∷ []) 3) → ⊥
+newly_seen : ByHistory (within was_read 3) (Read 7 false) (Found (Some (message_read 7 seen (codes "one\r\n")))) (within (was_read ++ Changed 0 (steps.Read 7 false) ∷ []) 3) → ⊥
 newly_seen h = false≢true (sym (read_at was_read 3 7 false _ (within (was_read ++ Changed 0 (steps.Read 7 false) ∷ []) 3) h).2)
 
 -- \Seen was newly set, and it isn't told that.
-not_newly_seen : ByHistory (within came 3) (Read 7 true) (Found (Some (record (row 7 seen (codes "one\r\n")) { newly_seen = false }))) (within was_read 3) → ⊥
+not_newly_seen : ByHistory (within came 3) (Read 7 true) (Found (Some (record (message_read 7 seen (codes "one\r\n")) { newly_seen = false }))) (within was_read 3) → ⊥
 not_newly_seen h =
     let r = read_at came 3 7 true _ (within was_read 3) h in
     let found = found_before (within came 3) (within was_read 3) 0 (steps.Read 7 true) r.0 in

@@ -156,8 +156,8 @@ within history cursor = record { mailboxes = 2; entered = Some (entry cursor); h
 abbrev pub opening : (count : ℕ) → Opening
 opening count = record { count = count; uidnext = 9; uidvalidity = 5 }
 
-abbrev pub row : (uid : ℕ) → Flags → (bytes : List ℕ) → Row
-row uid flags bytes = record { uid = uid; flags = flags; newly_seen = true; text = undated bytes }
+abbrev pub message_read : (uid : ℕ) → Flags → (bytes : List ℕ) → Row
+message_read uid flags bytes = record { uid = uid; flags = flags; newly_seen = true; text = undated bytes }
 
 abbrev pub status : (messages : ℕ) → Status
 status messages = record { messages = messages; uidnext = 10; uidvalidity = 5; unseen = 1; deleted = 0; size = 6 }
@@ -190,7 +190,7 @@ looks_late : ByHistory (within emptied 5) (Look false []) (Looked (7 ∷ 8 ∷ [
 looks_late = (refl, (entry 5, refl, refl))
 
 -- It reads the first message, which sets \Seen. Its cursor stays.
-reads : ByHistory (within came 3) (Read 7 true) (Found (Some (row 7 seen (codes "one\r\n")))) (within was_read 3)
+reads : ByHistory (within came 3) (Read 7 true) (Found (Some (message_read 7 seen (codes "one\r\n")))) (within was_read 3)
 reads = (
   refl,
   (
@@ -205,7 +205,7 @@ reads = (
 )
 
 -- It reads the first message once more, and that wasn't newly seen.
-reads_again : ByHistory (within was_read 4) (Read 7 true) (Found (Some (record (row 7 seen (codes "one\r\n")) { newly_seen = false }))) (within (was_read ++ Changed 0 (steps.Read 7 true) ∷ []) 4)
+reads_again : ByHistory (within was_read 4) (Read 7 true) (Found (Some (record (message_read 7 seen (codes "one\r\n")) { newly_seen = false }))) (within (was_read ++ Changed 0 (steps.Read 7 true) ∷ []) 4)
 reads_again = (
   refl,
   (
