@@ -1,8 +1,8 @@
 //! What a client does to a message's flags, and what comes of it. Which changes that logs is said
-//! in `specs/Logged.antt`; no log is written here.
+//! in `specs/Log.antt`; no log is written here.
 
 ghost use Rattle.std.specs.Prelude.{◌≡◌};
-ghost use Rattle.change_ring.specs.Logged.{flags_after, flags_differ};
+ghost use Rattle.change_ring.specs.Log.{flags_after, flags_differ};
 
 use crate::change::Flags;
 

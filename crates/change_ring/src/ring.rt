@@ -6,7 +6,7 @@
 
 ghost use Rattle.std.specs.Prelude.{◌≡◌, ◌+◌, ◌*◌, ◌^◌, ◌<◌, ◌≤◌, ◌↔◌, [], ◌∷◌, ◌++◌, length, IfOk, OnOk, OnErr, IsSome, is_some, IsErr, option_to_list, min, ◌==◌, ◌⊎◌};
 ghost use Rattle.change_ring.specs.inner.Filled.{around};
-ghost use Rattle.change_ring.specs.Window.{total, changes_from, capacity_after};
+ghost use Rattle.change_ring.specs.Log.{total, changes_from, capacity_after};
 
 use crate::block::Block;
 use crate::change::Change;
@@ -36,7 +36,7 @@ pub struct ChangeRing {
 impl Model for ChangeRing {
     ghost use Rattle.std.specs.Prelude.{◌≡◌, ◌+◌, ◌<◌, ◌≤◌, ◌^◌, length};
     ghost use Rattle.change_ring.specs.inner.Filled.{around};
-    ghost use Rattle.change_ring.specs.Window.{Window};
+    ghost use Rattle.change_ring.specs.Log.{Window};
 
     ghost Value = { Window };
 

@@ -2,8 +2,7 @@
 use Rattle.std.specs.Prelude.{◌≡◌, ◌≢◌, ℕ, ◌+◌, ◌≤◌, ◌==◌, ◌&&◌, List, Option, Some, None, All, Contains, take, length, option_map, slice_index_or, if◌then◌else◌}
 use Rattle.std.specs.List.{filter_map}
 use Rattle.change_ring.specs.declared.change.Change.{Change}
-use Rattle.change_ring.specs.Log.{replay}
-use Rattle.change_ring.specs.Window.{Window, changes_from}
+use Rattle.change_ring.specs.Log.{replay, Window, changes_from}
 
 -- an open cursor: the serial it was opened under, the number of the next change to show, and the UIDs that its client counts
 pub record Open : Type 0 where

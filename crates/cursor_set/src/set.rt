@@ -3,7 +3,7 @@
 
 ghost use Rattle.std.specs.Prelude.{◌≡◌, ◌≢◌, ℕ, ◌+◌, ◌-◌, ◌^◌, ◌<◌, ◌≤◌, ◌↔◌, [], ◌++◌, length, Some, None, OnOk, OnErr, IfOk, IfErr, IfSome, IfNone, IsTrue, IsSome, IsErr, IsOk, All, map, min, option_map, option_copied, Err, vec_len, vec_capacity, ◌*◌};
 ghost use Rattle.std.specs.Option.{option_map_or};
-ghost use Rattle.change_ring.specs.Window.{total, changes_from};
+ghost use Rattle.change_ring.specs.Log.{total, changes_from};
 ghost use Rattle.slab.specs.Slab.{get, values};
 ghost use Rattle.cursor_set.specs.Legal.{IsLegalOn};
 ghost use Rattle.cursor_set.specs.Lines.{lines};

@@ -1,7 +1,7 @@
 -- How far a session is behind its mailbox's log.
 use Rattle.std.proofs.Common.{◌≡◌, ℕ, zero, suc, ◌∷◌, ◌+◌, ◌-◌, ◌<◌, ◌≤◌, List, [], length, drop, get_or, set, length-set, get_or-set_same, refl, sym, ap, ◌∙◌, arith, subst, Result, Ok, Err, Option, Some, None}
 use Rattle.std.specs.Prelude.{min, IfOk}
-use Rattle.change_ring.specs.Window.{Window, total}
+use Rattle.change_ring.specs.Log.{Window, total}
 use Rattle.cursor_set.specs.Cursors.{CursorHandle}
 use Rattle.cursor_set.specs.declared.set.FeedFault.{FeedFault}
 use Rattle.cursor_set.specs.declared.set.FeedFault.TheVariants as lapse

@@ -11,9 +11,7 @@ use Rattle.delivery_token.specs.declared.Refusal.{Refusal}
 use Rattle.delivery_token.specs.declared.Refusal.TheVariants.{Full, MailboxFull, NoMemory, Shut, UidSpent}
 use Rattle.change_ring.specs.declared.change.Change.{Change}
 use Rattle.change_ring.specs.declared.change.Flags.{Flags}
-use Rattle.change_ring.specs.Log.{rows_of}
-use Rattle.change_ring.specs.Logged.{arrival}
-use Rattle.change_ring.specs.Window.{Window, total, BaseAfter}
+use Rattle.change_ring.specs.Log.{rows_of, arrival, Window, total, BaseAfter}
 use Rattle.change_ring.proofs.WindowLaws.{BaseAfter-less}
 use Rattle.cursor_set.specs.Cursors.{CursorSet, CursorHandle}
 use Rattle.mailbox.specs.Mailbox.{Mailbox, Message, SameMailbox, next_uid as mail_uid, is_spent, is_full as mail_full, row_of}

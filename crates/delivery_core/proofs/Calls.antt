@@ -4,8 +4,7 @@ use Rattle.std.specs.Prelude.{◌↔◌, option_map, OnOk, OnErr, IfOk}
 use Rattle.change_ring.specs.declared.change.Change.{Change}
 use Rattle.change_ring.specs.declared.change.Flags.{Flags}
 use Rattle.change_ring.specs.declared.flag_op.FlagOp.{FlagOp}
-use Rattle.change_ring.specs.Log.{Row, rows_of}
-use Rattle.change_ring.specs.Logged.{flags_logged, seen_logged}
+use Rattle.change_ring.specs.Log.{Row, rows_of, flags_logged, seen_logged}
 use Rattle.mailbox.specs.declared.clients.MailFault.{MailFault}
 use Rattle.mailbox.specs.declared.clients.MailFault.TheVariants.{Stranger, Lapped, Spent, NoMemory}
 use Rattle.mailbox.specs.declared.clients.Row as read

@@ -3,15 +3,13 @@ use Rattle.std.proofs.Common.{◌≡◌, ℕ, ◌<◌, ◌≤◌, ◌⊎◌, inl
 use Rattle.std.specs.Prelude.{◌↔◌, ◌+◌, IfErr, OnOk, OnErr}
 use Rattle.std.proofs.lemmas.Bool.{cases_lt}
 use Rattle.change_ring.specs.declared.change.Change.{Change}
-use Rattle.change_ring.specs.Log.{rows_of}
-use Rattle.change_ring.specs.Logged.{discards}
-use Rattle.change_ring.specs.Window.{total}
+use Rattle.change_ring.specs.Log.{rows_of, discards, total}
 use Rattle.cursor_set.specs.Cursors.{CursorSet}
 use Rattle.mailbox.specs.declared.clients.MailFault.{MailFault}
 use Rattle.mailbox.specs.declared.clients.MailFault.TheVariants.{Stranger, Spent}
 use Rattle.mailbox.specs.Events.{Logs as MailLogs, Moves, IsTooMany}
 use Rattle.mailbox.specs.Mailbox.{Mailbox, Message, SameMailbox, rows, without}
-use Rattle.shard_queue.specs.At.{set_at}
+use Rattle.shard_queue.specs.Lane.{set_at}
 use Rattle.world.specs.World.{Config, World, Discard, DiscardStep, discards_them, discard_spent, Logs, Step, most_changes}
 use Rattle.world.specs.Law.{IsPart}
 use Rattle.world.proofs.Base.{part_filter, part_map}

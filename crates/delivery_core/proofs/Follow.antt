@@ -1,7 +1,7 @@
 -- What is changed at one position, the world changes at the same position.
 use Rattle.std.proofs.Common.{◌≡◌, ◌≢◌, ◌⊎◌, inl, inr, true, false, ℕ, zero, suc, ◌<◌, List, [], ◌∷◌, ◌++◌, length, get_or, set, refl, ap, arith, eqb, get_or-set_same, get_or-set_other, length-set}
 use Rattle.std.proofs.lemmas.Bool.Decides.{eqb_tells}
-use Rattle.shard_queue.specs.At.{set_at}
+use Rattle.shard_queue.specs.Lane.{set_at}
 use Rattle.shard_queue.proofs.AtLaws.{at_cases}
 use Rattle.world.specs.World.{Config, World, Event, Step, empty_world}
 use Rattle.world.proofs.Always.{steps_join}

@@ -3,16 +3,14 @@ use Rattle.std.proofs.Common.{◌≡◌, ℕ, ◌+◌, ◌<◌, ◌≤◌, ◌�
 use Rattle.std.specs.Prelude.{◌↔◌, if◌then◌else◌}
 use Rattle.std.proofs.lemmas.Bool.{cases_lt}
 use Rattle.change_ring.specs.declared.change.Change.{Change}
-use Rattle.change_ring.specs.Log.{Row, rows_of}
-use Rattle.change_ring.specs.Logged.{removals_if}
-use Rattle.change_ring.specs.Window.{total}
+use Rattle.change_ring.specs.Log.{Row, rows_of, removals_if, total}
 use Rattle.cursor_set.specs.Cursors.{CursorSet, Open, CursorHandle, Updates, held, in_slot}
 use Rattle.mailbox.specs.declared.clients.MailFault.{MailFault}
 use Rattle.mailbox.specs.declared.clients.MailFault.TheVariants.{Stranger, Lapped, Spent, NoMemory}
 use Rattle.mailbox.specs.declared.clients.Opening.{Opening}
 use Rattle.mailbox.specs.Events.{KeepsLog, Logs as MailLogs, Moves, IsStranger, IsTooMany}
 use Rattle.mailbox.specs.Mailbox.{Mailbox, Message, next_uid as mail_uid, remaining, rows}
-use Rattle.shard_queue.specs.At.{set_at}
+use Rattle.shard_queue.specs.Lane.{set_at}
 use Rattle.world.specs.World.{Config, World, Session, Enter, EnterStep, enters, enter_spent, enter_no_memory, Leave, leaves, leave_spent, Selected, Step, most_changes, most_entries}
 use Rattle.world.specs.Law.{IsPart}
 use Rattle.world.proofs.Base.{part_self}

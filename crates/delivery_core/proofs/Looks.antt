@@ -7,8 +7,7 @@ use Rattle.std.proofs.lemmas.List.Sums.{sum_by-cons}
 use Rattle.delivery_token.specs.Text.{Text}
 use Rattle.delivery_token.specs.declared.Job.{Job}
 use Rattle.change_ring.specs.declared.change.Change.{Change}
-use Rattle.change_ring.specs.Log.{Row, replay, view_at}
-use Rattle.change_ring.specs.Window.{changes_from}
+use Rattle.change_ring.specs.Log.{Row, replay, view_at, changes_from}
 use Rattle.change_ring.proofs.WindowLaws.{changes_from-log}
 use Rattle.cursor_set.specs.Cursors.{CursorSet, Open, CursorHandle, Updates, after_showing, held}
 use Rattle.cursor_set.specs.Lines.{lines}

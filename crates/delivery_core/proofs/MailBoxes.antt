@@ -7,9 +7,7 @@ use Rattle.delivery_token.specs.Text.{Text}
 use Rattle.delivery_token.specs.declared.Job.{Job}
 use Rattle.change_ring.specs.declared.change.Change.{Change}
 use Rattle.change_ring.specs.declared.flag_op.FlagOp.{FlagOp}
-use Rattle.change_ring.specs.Log.{Row, rows_of}
-use Rattle.change_ring.specs.Logged.{flags_after}
-use Rattle.change_ring.specs.Window.{Window, total, BaseAfter}
+use Rattle.change_ring.specs.Log.{Row, rows_of, flags_after, Window, total, BaseAfter}
 use Rattle.change_ring.proofs.WindowLaws.{BaseAfter-less}
 use Rattle.cursor_set.specs.Cursors.{CursorSet, Open, CursorHandle, held}
 use Rattle.mailbox.specs.declared.clients.MailFault.{MailFault}

@@ -4,7 +4,7 @@ use Rattle.std.specs.Prelude.{option_map}
 use Rattle.change_ring.specs.declared.change.Change.{Change}
 use Rattle.cursor_set.specs.Cursors.{CursorSet, Open, CursorHandle, Updates, after_showing, held, in_slot}
 use Rattle.mailbox.specs.Mailbox.{Mailbox}
-use Rattle.shard_queue.specs.At.{set_at}
+use Rattle.shard_queue.specs.Lane.{set_at}
 use Rattle.world.specs.World.{Config, World, Box, Session, Event, Step, Logs, MailStep, mails, mail_lapped, mail_spent, mail_no_memory, Selected, shows, most_changes}
 use Rattle.world.specs.Law.{IsShown}
 use Rattle.world.proofs.Kept.{BoxOk, Kept, SessionOk}

@@ -3,9 +3,7 @@ use Rattle.std.proofs.Common.{◌≡◌, ◌<◌, ◌⊎◌, ℕ, zero, suc, ◌
 use Rattle.std.specs.Prelude.{◌↔◌, min, option_map, OnOk, OnErr, IfOk, IfSome}
 use Rattle.std.proofs.lemmas.Bool.{cases_lt}
 use Rattle.change_ring.specs.declared.change.Change.{Change}
-use Rattle.change_ring.specs.Log.{Row, rows_of, view_at}
-use Rattle.change_ring.specs.Logged.{removals}
-use Rattle.change_ring.specs.Window.{Window, changes_from, total}
+use Rattle.change_ring.specs.Log.{Row, rows_of, view_at, removals, Window, changes_from, total}
 use Rattle.cursor_set.specs.Cursors.{CursorSet, Open, CursorHandle, Updates, after_showing, held, next_changes}
 use Rattle.cursor_set.specs.Lines.{lines}
 use Rattle.cursor_set.specs.declared.set.FeedFault.{FeedFault}
@@ -13,8 +11,7 @@ use Rattle.cursor_set.specs.declared.set.FeedFault.TheVariants as lapse
 use Rattle.mailbox.specs.declared.clients.MailFault.{MailFault}
 use Rattle.mailbox.specs.declared.clients.MailFault.TheVariants.{Stranger, Lapped, Spent, NoMemory}
 use Rattle.mailbox.specs.Events.{KeepsLog, Logs as MailLogs, Moves, IsTooMany, IsStranger, IsLapped, IsCurrent}
-use Rattle.mailbox.specs.Mailbox.{Mailbox, rows, remaining}
-use Rattle.mailbox.specs.Stands.{Stands, next_of}
+use Rattle.mailbox.specs.Mailbox.{Mailbox, rows, remaining, Stands, next_of}
 use Rattle.world.specs.World.{Config, World, Box, Session, Expunge, Feed, Selected, Step, most_changes, pending}
 use Rattle.world.specs.Law.{IsPart, IsShown}
 use Rattle.world.proofs.Base.{part_self}

@@ -2,8 +2,7 @@
 use Rattle.std.proofs.Common.{◌≡◌, inl, inr, Bool, true, false, not, ℕ, ◌<◌, List, [], ◌∷◌, ◌++◌, length, get_or, set, filter_map, refl, sym, ap, subst, ◌∙◌, arith, length-set, Some, None, All}
 use Rattle.std.specs.Prelude.{option_map}
 use Rattle.std.proofs.lemmas.List.Elements.{All-head, All-tail, All-push}
-use Rattle.shard_queue.specs.Lane.{took, put, has_end}
-use Rattle.shard_queue.specs.At.{set_at}
+use Rattle.shard_queue.specs.Lane.{took, put, has_end, set_at}
 use Rattle.delivery_token.specs.Keys.{Below}
 use Rattle.shard_queue.proofs.AtLaws.{at_cases}
 use Rattle.delivery_token.specs.declared.CopyKey.{CopyKey}
@@ -11,7 +10,7 @@ use Rattle.delivery_token.specs.declared.Job.{Job}
 use Rattle.delivery_token.specs.declared.log.Noted.{Noted}
 use Rattle.delivery_token.specs.WorkerLog.{WorkerLog}
 use Rattle.shard_queue.specs.PlainLane.{PlainLane}
-use Rattle.shard_queue.specs.Plain.{before_taking, taken_entry}
+use Rattle.shard_queue.specs.Plain.{before_taking, taken_entry, StandsForLane}
 use Rattle.shard_queue.specs.declared.lane.Taken.{Taken}
 use Rattle.shard_queue.specs.declared.lane.Taken.TheVariants as took_one
 use Rattle.shard_queue.specs.declared.lane.Entry.{Entry}
@@ -25,7 +24,6 @@ use Rattle.world.proofs.Known.{HandKnown, ReplyKnown, known_always}
 use Rattle.world.proofs.Always.{kept_always}
 use Rattle.delivery_core.specs.DeliveryCore.{DeliveryCore}
 use Rattle.delivery_core.specs.Stands.{EachAt, StandsFor, IsNext}
-use Rattle.shard_queue.specs.Plain.{StandsForLane}
 use Rattle.shard_queue.proofs.PlainLaws.{lane_put}
 use Rattle.delivery_core.proofs.Follow.{each_set, next_same, reached_step}
 

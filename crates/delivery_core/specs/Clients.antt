@@ -5,8 +5,7 @@ use Rattle.delivery_token.specs.declared.Job.{Job}
 use Rattle.change_ring.specs.declared.change.Change.{Change}
 use Rattle.change_ring.specs.declared.change.Flags.{Flags}
 use Rattle.change_ring.specs.declared.flag_op.FlagOp.{FlagOp}
-use Rattle.change_ring.specs.Log.{Row, replay, rows_of, view_at}
-use Rattle.change_ring.specs.Logged.{discards, flags_logged, removals, removals_if, seen_logged}
+use Rattle.change_ring.specs.Log.{Row, replay, rows_of, view_at, discards, flags_logged, removals, removals_if, seen_logged}
 use Rattle.cursor_set.specs.Lines.{lines}
 use Rattle.mailbox.specs.Events.{was_logged}
 use Rattle.mailbox.specs.declared.clients.MailFault.{MailFault}
@@ -14,7 +13,7 @@ use Rattle.mailbox.specs.declared.clients.MailFault.TheVariants.{Stranger, Lappe
 use Rattle.mailbox.specs.declared.clients.Opening.{Opening}
 use Rattle.mailbox.specs.declared.clients.Row as read
 use Rattle.mailbox.specs.declared.mailbox.Status.{Status}
-use Rattle.shard_queue.specs.At.{set_at}
+use Rattle.shard_queue.specs.Lane.{set_at}
 use Rattle.world.specs.World.{Config, World, Box, Session, Event, Enter, Discard, Logs, Step, Selected, most_changes, most_entries, next_uid, pending, shows}
 use Rattle.delivery_core.specs.DeliveryCore.{DeliveryCore, view_of}
 use Rattle.delivery_core.specs.Stands.{StandsFor}

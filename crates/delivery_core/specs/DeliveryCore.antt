@@ -10,7 +10,7 @@ use Rattle.shard_queue.specs.PlainLane.{PlainLane}
 use Rattle.mailbox.specs.Mailbox.{Mailbox}
 use Rattle.world.specs.declared.hand.Hand.{Hand}
 use Rattle.change_ring.specs.declared.change.Change.{Change}
-use Rattle.change_ring.specs.Window.{Window, changes_from, total}
+use Rattle.change_ring.specs.Log.{Window, changes_from, total}
 use Rattle.cursor_set.specs.Cursors.{Open}
 use Rattle.delivery_core.specs.declared.client.Client.{Client}
 use Rattle.delivery_core.specs.Attached.{client_at, cursor_of, cursors_of}

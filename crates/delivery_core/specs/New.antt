@@ -7,8 +7,7 @@ use Rattle.world.specs.declared.hand.Hand.TheVariants.{Empty}
 use Rattle.delivery_core.specs.declared.group.Seat.{Seat}
 use Rattle.delivery_core.specs.declared.group.Shard.{Shard}
 use Rattle.mailbox.specs.declared.history.History.TheVariants.{Kept}
-use Rattle.mailbox.specs.Mailbox.{Mailbox}
-use Rattle.mailbox.specs.Stands.{Stands}
+use Rattle.mailbox.specs.Mailbox.{Mailbox, Stands}
 
 -- nothing waits, and each producer may put
 abbrev pub new_lane : {T : Type 0} → ℕ → ℕ → PlainLane T

@@ -6,8 +6,7 @@ use Rattle.delivery_token.specs.declared.CopyKey.{CopyKey}
 use Rattle.delivery_token.specs.Text.{Text}
 use Rattle.delivery_token.specs.declared.Job.{Job}
 use Rattle.shard_queue.specs.Plain.{StandsForLane}
-use Rattle.mailbox.specs.Mailbox.{Mailbox, Message}
-use Rattle.mailbox.specs.Stands.{Stands}
+use Rattle.mailbox.specs.Mailbox.{Mailbox, Message, Stands}
 use Rattle.world.specs.World.{Config, World, Box, Session, Event, Step, Steps, IsWorld, EntryBelow, reply_room}
 use Rattle.world.specs.Law.{IsPart, pairs}
 use Rattle.delivery_core.specs.declared.client.Client.{Client}

@@ -3,9 +3,7 @@
 
 ghost use Rattle.std.specs.Prelude.{◌≡◌, ◌≢◌, ℕ, ◌+◌, ◌-◌, ◌^◌, ◌<◌, ◌≤◌, ◌⊎◌, ◌↔◌, [], length, Err, Some, None, IfErr, IfOk, IfSome, OnErr, OnOk, IsErr, IsSome, min, option_map, slice_index_or, take, true, vec_capacity, vec_len};
 ghost use Rattle.std.specs.List.Sorted.{IsStrictlyIncreasing};
-ghost use Rattle.change_ring.specs.Log.{rows_of, view_at};
-ghost use Rattle.change_ring.specs.Window.{total};
-ghost use Rattle.change_ring.specs.Logged.{flags_logged, removals, seen_logged};
+ghost use Rattle.change_ring.specs.Log.{rows_of, view_at, total, flags_logged, removals, seen_logged};
 ghost use Rattle.mailbox.specs.Events.{in_set};
 ghost use Rattle.mailbox.specs.Mailbox.{Mailbox, SameMailbox};
 ghost use Rattle.world.specs.World.{Config, World, Expunge, Feed, Leave, Read, Selected, Store, pending};

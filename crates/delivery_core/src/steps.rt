@@ -5,7 +5,7 @@ ghost use Rattle.std.specs.Prelude.{max, replicate, Some, None, true, ◌≡◌,
 ghost use Rattle.world.specs.World.{Answer, Box, Config, Deliver, Hear, Put, PutEnd, Take, empty_world, in_hand};
 ghost use Rattle.shard_queue.specs.Plain.{taken_entry};
 ghost use Rattle.delivery_core.specs.Changes.{CannotEnd, Ends, Hears, SameCounts};
-ghost use Rattle.delivery_token.specs.Log.{heard_at_once};
+ghost use Rattle.delivery_token.specs.Copies.{heard_at_once};
 ghost use Rattle.delivery_core.specs.DeliveryCore.{has_ended, is_ended, lane_of};
 ghost use Rattle.delivery_core.specs.Load.{load};
 ghost use Rattle.delivery_core.specs.Attached.{cursors_of};

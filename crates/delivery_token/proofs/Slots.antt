@@ -9,7 +9,7 @@ use Rattle.std.proofs.Math.Seq.{get_or-append_seam}
 use Rattle.delivery_token.specs.declared.CopyKey.{CopyKey}
 use Rattle.delivery_token.specs.declared.Verdict.{Verdict}
 use Rattle.delivery_token.specs.declared.log.Noted.{Noted}
-use Rattle.delivery_token.specs.Heard.{HeardFor, SlotFor, SlotsFor}
+use Rattle.delivery_token.specs.Copies.{HeardFor, SlotFor, SlotsFor}
 use Rattle.delivery_token.specs.Laws.{StillHold, TellPositions}
 use Rattle.delivery_token.specs.Verdicts.{Hears, IsAwaited, notes_it, passes_it}
 

@@ -3,7 +3,7 @@ use Rattle.std.specs.Prelude.{◌≡◌, ℕ, ◌<◌, ◌++◌, slice_index_or,
 use Rattle.delivery_token.specs.declared.CopyKey.{CopyKey}
 use Rattle.delivery_token.specs.declared.Verdict.{Verdict}
 use Rattle.delivery_token.specs.declared.log.Noted.{Noted}
-use Rattle.delivery_token.specs.Heard.{SlotsFor}
+use Rattle.delivery_token.specs.Copies.{SlotsFor}
 use Rattle.delivery_token.specs.Verdicts.{Hears}
 
 -- Keys that tell their own positions: the i-th is that of the i-th recipient, and no two are equal.

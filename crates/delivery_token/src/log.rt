@@ -2,7 +2,7 @@
 //! verdict comes about does not belong here.
 
 ghost use Rattle.std.specs.Prelude.{◌≡◌, ◌+◌, ◌≤◌, ◌++◌, ◌∷◌, [], IfOk, IsOk, OnOk, OnErr};
-ghost use Rattle.delivery_token.specs.Log.{stored_for, stored_in};
+ghost use Rattle.delivery_token.specs.Copies.{stored_for, stored_in};
 
 use crate::{CopyKey, Verdict};
 use std::alloc::{AllocError, Global};

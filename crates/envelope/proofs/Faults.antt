@@ -4,8 +4,7 @@ use Rattle.std.specs.Prelude.{nat_lt, not, ◌&&◌, if◌then◌else◌, map, O
 use Rattle.std.specs.List.{list_all}
 use Rattle.std.specs.Result.{result_err}
 use Rattle.std.proofs.lemmas.List.{length-map}
-use Rattle.envelope.specs.Directory.{Home}
-use Rattle.envelope.specs.Names.{is_name, texts, home_of, words_read, first_fault, homes_unless}
+use Rattle.envelope.specs.Names.{Home, is_name, texts, home_of, words_read, first_fault, homes_unless}
 use Rattle.envelope.specs.declared.directory.DirectoryFault.{DirectoryFault}
 use Rattle.envelope.specs.declared.directory.DirectoryFault.TheVariants.{TooMany, BadName}
 

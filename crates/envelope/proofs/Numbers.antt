@@ -8,8 +8,7 @@ use Rattle.std.proofs.lemmas.Bool.{eqb-true}
 use Rattle.std.proofs.lemmas.Bool.Decides.{same_from_decides}
 use Rattle.std.proofs.lemmas.Slice.Eq.{bytes_eq-Decides}
 use Rattle.envelope.specs.Bytes.{is_slash}
-use Rattle.envelope.specs.Directory.{Directory, Home}
-use Rattle.envelope.specs.Names.{home_of, is_exact_folder, is_exactly, number_of}
+use Rattle.envelope.specs.Names.{Directory, Home, home_of, is_exact_folder, is_exactly, number_of}
 
 -- ---- the word of a mailbox
 

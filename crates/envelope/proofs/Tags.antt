@@ -8,7 +8,7 @@ use Rattle.std.proofs.lemmas.Bool.Decides.{Decides-eqb}
 use Rattle.std.proofs.lemmas.List.Folds.{fold-map}
 use Rattle.envelope.proofs.Case.{decides_false, is_same_decides}
 use Rattle.envelope.proofs.Words.{both_true}
-use Rattle.envelope.specs.Directory.{Home, is_home, is_plus, wanted}
+use Rattle.envelope.specs.Names.{Home, is_home, is_plus, wanted}
 use Rattle.envelope.specs.inner.Tag.{next_tag, tag_of, tag_from}
 
 -- what the tag is made of

@@ -4,7 +4,7 @@ use Rattle.std.specs.Prelude.{not, ◌||◌, ◌&&◌, if◌then◌else◌, Opti
 use Rattle.std.specs.List.{list_any, prefix_len}
 use Rattle.std.specs.Char.{eq_ignore_ascii_case}
 use Rattle.std.specs.Str.{str_eq_ignore_ascii_case as is_same}
-use Rattle.envelope.specs.Directory.{is_home, is_same_folder, wanted, folder_named, is_plus}
+use Rattle.envelope.specs.Names.{is_home, is_same_folder, wanted, folder_named, is_plus}
 use Rattle.envelope.specs.LocalPart.{past_user}
 use Rattle.envelope.specs.inner.LocalPart.{says_folder_after}
 

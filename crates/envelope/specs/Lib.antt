@@ -2,7 +2,6 @@ pub mod Values
 pub mod Bytes
 pub mod Grammar
 pub mod Reading
-pub mod Directory
 pub mod Names
 pub mod LocalPart
 pub mod Word

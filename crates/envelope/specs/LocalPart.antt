@@ -1,7 +1,7 @@
 -- How the value of a local part is read, byte by byte; nobody has to believe this file.
 use Rattle.std.specs.Prelude.{ℕ, false, List, [], ◌∷◌, Option, Some, None, ◌||◌, not, if◌then◌else◌}
 use Rattle.std.specs.Char.{eq_ignore_ascii_case}
-use Rattle.envelope.specs.Directory.{unquoted, is_plus}
+use Rattle.envelope.specs.Names.{unquoted, is_plus}
 use Rattle.envelope.specs.declared.local_part.LocalValue.{LocalValue}
 
 -- what is left of a value

@@ -7,8 +7,7 @@ ghost use Rattle.std.specs.List.{list_any, list_all};
 ghost use Rattle.std.specs.Result.{result_err};
 ghost use Rattle.std.specs.Str.{str_eq_ignore_ascii_case as is_same};
 ghost use Rattle.envelope.specs.Values.{forward_path};
-ghost use Rattle.envelope.specs.Directory.{is_home, is_shut, marked, none_shut, wanted, numbered, lookup, shard_of};
-ghost use Rattle.envelope.specs.Names.{is_name, texts, home_of, is_exactly, words_read, number_of};
+ghost use Rattle.envelope.specs.Names.{is_home, is_shut, marked, none_shut, wanted, numbered, lookup, shard_of, is_name, texts, home_of, is_exactly, words_read, number_of};
 ghost use Rattle.envelope.specs.LocalPart.{value_left};
 ghost use Rattle.envelope.specs.Word.{word_home};
 ghost use Rattle.envelope.specs.inner.Tag.{tag_of};
@@ -101,7 +100,7 @@ struct Sought<'a> {
 
 impl<'a> Model for Sought<'a> {
     ghost use Rattle.std.specs.Prelude.{◌≡◌};
-    ghost use Rattle.envelope.specs.Directory.{Home, wanted};
+    ghost use Rattle.envelope.specs.Names.{Home, wanted};
     ghost use Rattle.envelope.specs.LocalPart.{value_left};
     ghost use Rattle.envelope.specs.inner.Tag.{tag_of};
 
@@ -134,7 +133,7 @@ struct StoredHome {
 
 impl Model for StoredHome {
     ghost use Rattle.std.specs.Prelude.{◌≡◌};
-    ghost use Rattle.envelope.specs.Directory.{Home};
+    ghost use Rattle.envelope.specs.Names.{Home};
     ghost use Rattle.envelope.specs.inner.Tag.{tag_of};
 
     ghost Value = { Home };
@@ -299,7 +298,7 @@ pub struct Directory {
 
 impl Model for Directory {
     ghost use Rattle.std.specs.Prelude.{◌≡◌, ◌<◌, ◌≤◌, vec_len};
-    ghost use Rattle.envelope.specs.Directory.{Directory};
+    ghost use Rattle.envelope.specs.Names.{Directory};
 
     ghost Value = { Directory };
 

@@ -2,8 +2,7 @@
 
 ghost use Rattle.std.specs.Prelude.{◌≡◌, ℕ, List, map, position};
 ghost use Rattle.std.specs.Str.{bytes_eq};
-ghost use Rattle.envelope.specs.Directory.{Directory};
-ghost use Rattle.envelope.specs.Names.{home_of, number_of};
+ghost use Rattle.envelope.specs.Names.{Directory, home_of, number_of};
 
 /// A word's number, in a directory that was made of words, is its position among them.
 pub fn words_have_their_positions()

@@ -5,7 +5,7 @@ ghost use Rattle.std.specs.Prelude.{◌≡◌, ◌∷◌, [], MatchOption};
 ghost use Rattle.std.specs.Option.{option_map};
 ghost use Rattle.std.specs.List.{before_first};
 ghost use Rattle.std.specs.Str.{str_eq_ignore_ascii_case as is_same};
-ghost use Rattle.envelope.specs.Directory.{value_of, is_plus};
+ghost use Rattle.envelope.specs.Names.{value_of, is_plus};
 ghost use Rattle.envelope.specs.LocalPart.{value_left, past_user};
 ghost use Rattle.envelope.specs.inner.Tag.{tag_of};
 

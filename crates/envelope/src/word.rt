@@ -4,8 +4,7 @@
 ghost use Rattle.std.specs.Prelude.{◌≡◌, ◌+◌, map, [], nat_lt, if◌then◌else◌, Some, None, drop, length};
 ghost use Rattle.std.specs.Option.{option_copied};
 ghost use Rattle.std.specs.List.{list_any};
-ghost use Rattle.envelope.specs.Directory.{is_home};
-ghost use Rattle.envelope.specs.Names.{texts, home_of, is_right, word_fault, first_fault};
+ghost use Rattle.envelope.specs.Names.{is_home, texts, home_of, is_right, word_fault, first_fault};
 ghost use Rattle.envelope.specs.Word.{word_home};
 
 use crate::directory::DirectoryFault;

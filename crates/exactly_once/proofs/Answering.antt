@@ -2,14 +2,14 @@
 use Rattle.std.proofs.Common.{◌≡◌, ◌≢◌, ℕ, ◌+◌, ◌⊎◌, inl, inr, false, List, [], ◌∷◌, ◌++◌, length, refl, sym, ap, ◌∙◌, subst, arith, append-nil, append_assoc, Option, Some, None}
 use Rattle.std.specs.Prelude.{All, Contains}
 use Rattle.std.proofs.lemmas.List.Elements.{All-contains}
-use Rattle.shard_queue.specs.At.{set_at}
+use Rattle.shard_queue.specs.Lane.{set_at}
 use Rattle.shard_queue.proofs.AtLaws.{at_cases}
 use Rattle.delivery_token.specs.Keys.{Below}
 use Rattle.delivery_token.specs.declared.CopyKey.{CopyKey}
 use Rattle.delivery_token.specs.declared.Job.{Job}
 use Rattle.delivery_token.specs.declared.Verdict.{Verdict}
 use Rattle.delivery_token.specs.declared.log.Noted.{Noted}
-use Rattle.delivery_token.specs.Heard.{HeardFor}
+use Rattle.delivery_token.specs.Copies.{HeardFor}
 use Rattle.imap_session.specs.Exchange.{Mailing, Sent}
 use Rattle.house.specs.Meets.{Meets}
 use Rattle.world.specs.World as world
@@ -17,9 +17,8 @@ use Rattle.world.specs.World.{Config, MayPut, World, put_full, put_joins, put_no
 use Rattle.world.proofs.Always.{always}
 use Rattle.world.proofs.Base.{Every, Rising, all_of_every, every_append, every_weaker, rising_pair, rising_push}
 use Rattle.imap_session.specs.Folders.{folders_of}
-use Rattle.house_peers.specs.Visitor.{more_waits}
-use Rattle.house_peers.specs.SeatedVisitor as seated
-use Rattle.house_peers.specs.SeatedVisitor.{GoesOn, SeatedVisitor, Works, answers, copies_of, keys_of, rests, seated_greeted, sent_by, stalls, told, unread, works}
+use Rattle.house_peers.specs.Visitor.{more_waits, GoesOn, SeatedVisitor, Works, answers, copies_of, keys_of, rests, seated_greeted, sent_by, stalls, told, unread, works}
+use Rattle.house_peers.specs.Visitor as seated
 use Rattle.house_peers.proofs.Rising.{idles_keep}
 use Rattle.house.specs.Setup.{Setup, admitted_in, session_seat}
 use Rattle.house.specs.Printing.{still_unsaid, with_session}

@@ -7,7 +7,7 @@ use Rattle.std.proofs.lemmas.Grind.{flat_map-append}
 use Rattle.std.proofs.lemmas.List.Elements.{All-contains}
 use Rattle.std.specs.Borrow.{Bor}
 use Rattle.line_io.specs.Wire.{IsCut, joined}
-use Rattle.shard_queue.specs.At.{set_at}
+use Rattle.shard_queue.specs.Lane.{set_at}
 use Rattle.shard_queue.proofs.AtLaws.{at_cases, at_each, set_at-same}
 use Rattle.delivery_token.specs.Keys.{Below}
 use Rattle.delivery_token.specs.declared.CopyKey.{CopyKey}
@@ -19,14 +19,12 @@ use Rattle.world.proofs.Always.{always}
 use Rattle.world.proofs.Base.{all_of_every, every_weaker, rising_pair}
 use Rattle.house_peers.specs.Speech.{IsSpeech}
 use Rattle.house_peers.specs.AnyCaller.{Caller, more_waits, greeted}
-use Rattle.house.specs.Peers.{AreGuests, AreLines, Peers, Reached}
-use Rattle.house.specs.Setup.{Setup, session_seat, terms_of}
+use Rattle.house.specs.Setup.{AreGuests, AreLines, Peers, Reached, Setup, session_seat, terms_of}
 use Rattle.house.specs.declared.event.Event.{Event}
 use Rattle.house.specs.declared.event.Event.TheVariants.{Bytes, Vanish, Put, Take, Deliver, Answer, Hear, End, Close, Enter, Say, Idle, Leave}
-use Rattle.house.specs.AnyPrinting.{Prints, prints_all, prints_none, marked_session, of_session, with_session}
+use Rattle.house.specs.AnyScene.{Prints, prints_all, prints_none, marked_session, of_session, with_session, BytesPlay, ClosePlay, ConnectionHears, ConnectionPuts, EnterPlay, HearPlay, Happened, IdlePlay, LeavePlay, LeavesMailbox, Lingers, Moves, Parts, Plays, PutPlay, SayPlay, Scene, SessionGoes, SessionHears, SessionPuts, SessionTalks, VanishPlay, comes_in, connection_hears, connection_puts, empty_scene, fades, goes_on, opens, parts, place_of, remains, seat_of, session_hears, session_puts, waits}
 use Rattle.house_peers.specs.AnyVisitor.{SeatedVisitor, seated_greeted, session_more_waits as visitor_more_waits}
 use Rattle.house.specs.AnyScene as scene
-use Rattle.house.specs.AnyScene.{BytesPlay, ClosePlay, ConnectionHears, ConnectionPuts, EnterPlay, HearPlay, Happened, IdlePlay, LeavePlay, LeavesMailbox, Lingers, Moves, Parts, Plays, PutPlay, SayPlay, Scene, SessionGoes, SessionHears, SessionPuts, SessionTalks, VanishPlay, comes_in, connection_hears, connection_puts, empty_scene, fades, goes_on, opens, parts, place_of, remains, seat_of, session_hears, session_puts, waits}
 use Rattle.exactly_once.specs.AnyPromise.{HearsItsOwn, HearsLines, PutsLines, serial_of, Said, Piece, Replies, Lines, Silence, text_of, IsOwn, Entry, IsRecord, told_in, verdicts_of, TellsOnce, NoneTwice, ExactlyOnce}
 use Rattle.exactly_once.proofs.Grown.{heard_stays_heard, moves, stays, reached_then}
 use Rattle.exactly_once.proofs.Told.{AreTold, InOrder, IsTold, none_told, told_front}

@@ -3,12 +3,11 @@ use Rattle.std.proofs.Common.{◌≡◌, ℕ, Bool, false, List, ◌++◌, Optio
 use Rattle.delivery_token.specs.declared.log.Noted.{Noted}
 use Rattle.world.specs.World.{Config, World}
 use Rattle.world.specs.Law.{Headline}
-use Rattle.house_peers.specs.SeatedVisitor.{SeatedVisitor}
+use Rattle.house_peers.specs.Visitor.{SeatedVisitor}
 use Rattle.house.specs.LmtpAndImap.{lmtp_and_imap}
 use Rattle.house.specs.Meets.{Meets}
-use Rattle.house.specs.Peers.{Reached}
+use Rattle.house.specs.Setup.{Reached, Setup}
 use Rattle.house.specs.Printing.{Speaks}
-use Rattle.house.specs.Setup.{Setup}
 use Rattle.house.specs.Scene.{Parts, Plays, Scene, empty_scene}
 use Rattle.house.specs.Settling.{Happened}
 use Rattle.house.specs.declared.event.Event.{Event}

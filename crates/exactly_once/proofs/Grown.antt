@@ -7,7 +7,7 @@ use Rattle.world.specs.World as world
 use Rattle.world.specs.World.{Config, World, Event, Put, PutEnd, Take, Deliver, Answer, Hear, Enter, Status, Read, Store, Expunge, Feed, Leave, Discard, Step, Steps, put_joins, put_full, put_no_memory, put_shut, hears_one}
 use Rattle.world.proofs.Heard.{heard_stays}
 use Rattle.world.proofs.Always.{steps_join}
-pub use Rattle.house.specs.Peers.{Reached}
+pub use Rattle.house.specs.Setup.{Reached}
 
 -- ---- what was heard
 

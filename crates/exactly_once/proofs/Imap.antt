@@ -5,7 +5,7 @@ use Rattle.imap_session.specs.Exchange.{Call, Answer}
 use Rattle.imap_session.proofs.Carried.{Carries, converses_carried, turns_carried, verdict_carried}
 use Rattle.house.specs.LmtpAndImap.{lmtp_and_imap}
 use Rattle.house.specs.Meets.{Meets}
-use Rattle.house.specs.Peers.{AreGuests, Reached}
+use Rattle.house.specs.Setup.{AreGuests, Reached}
 use Rattle.exactly_once.proofs.Calls.{meets_reached}
 use Rattle.exactly_once.proofs.Grown.{stays, reached_then}
 use Rattle.exactly_once.proofs.Whole.{converses_whole, verdict_answered, idles_whole, greeting_whole}

@@ -1,8 +1,7 @@
 -- What a seat has put into each lane, and what a step of the world does to that.
 use Rattle.std.proofs.Common.{◌≡◌, ◌≢◌, ℕ, ◌⊎◌, inl, inr, List, [], ◌∷◌, ◌++◌, refl, ap, sym, subst}
 use Rattle.delivery_token.specs.declared.Job.{Job}
-use Rattle.shard_queue.specs.At.{set_at}
-use Rattle.shard_queue.specs.Lane.{Lane, put}
+use Rattle.shard_queue.specs.Lane.{set_at, Lane, put}
 use Rattle.shard_queue.specs.declared.lane.Entry.{Entry}
 use Rattle.shard_queue.specs.declared.lane.Entry.TheVariants.{Item, End}
 use Rattle.shard_queue.proofs.AtLaws.{at_cases, set_at-same}

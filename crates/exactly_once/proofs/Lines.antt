@@ -4,7 +4,7 @@ use Rattle.delivery_token.specs.declared.log.Noted.{Noted}
 use Rattle.line_io.specs.Wire.{IsCut, crlf, wire_lines, wire_rest}
 use Rattle.line_io.specs.inner.WireLaws.{cut_end, cut_more, cut_none, reading_cut}
 use Rattle.world.specs.World.{Config, World}
-use Rattle.house.specs.Peers.{AreGuests, AreLines, Peers, Reached}
+use Rattle.house.specs.Setup.{AreGuests, AreLines, Peers, Reached}
 use Rattle.house_peers.specs.AnyVisitor.{GoesOn, SeatedVisitor, answers, rests, stalls, waits, works}
 use Rattle.exactly_once.proofs.Grown.{stays, reached_then}
 

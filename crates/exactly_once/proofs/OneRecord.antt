@@ -18,10 +18,8 @@ use Rattle.lmtp_machine.specs.declared.connection.What.{What}
 use Rattle.lmtp_machine.specs.declared.connection.What.TheVariants.{More, Quit, Submit}
 use Rattle.lmtp_machine.specs.declared.reply.Reply.TheVariants.{Delivered, Extensions, Greeting, RecipientOk, SenderOk, StartInput}
 use Rattle.lmtp_machine.specs.Conversation.{Leads, line, none}
-use Rattle.lmtp_machine.specs.Dialogue.{Line, Ready, Submission, Turn, Waiting}
-use Rattle.lmtp_machine.specs.Replies.{wire}
-use Rattle.shard_queue.specs.At.{set_at}
-use Rattle.shard_queue.specs.Lane.{put, took}
+use Rattle.lmtp_machine.specs.Dialogue.{Line, Ready, Submission, Turn, Waiting, wire}
+use Rattle.shard_queue.specs.Lane.{set_at, put, took}
 use Rattle.shard_queue.specs.declared.lane.Entry.TheVariants.{Item}
 use Rattle.world.specs.declared.hand.Hand.TheVariants.{Empty, Taken}
 use Rattle.world.specs.World as world
@@ -29,8 +27,7 @@ use Rattle.world.specs.World.{Box, IsWorld, Step, World, answers, delivered, del
 use Rattle.world.specs.Law.{StandsOnce, pairs}
 use Rattle.world.proofs.Always.{always}
 use Rattle.world.proofs.Base.{rising_pair}
-use Rattle.house_peers.specs.Caller.{Caller, IsAnswered, greeted, setting_of, talks, works}
-use Rattle.house_peers.specs.Caller.{answers as tells_verdicts, waits as awaits_verdicts}
+use Rattle.house_peers.specs.Caller.{Caller, IsAnswered, greeted, setting_of, talks, works, answers as tells_verdicts, waits as awaits_verdicts}
 use Rattle.house.specs.Printing.{prints_all, stays}
 use Rattle.house.specs.Scene.{Scene, connection_hears, connection_puts, empty_scene, opens, with_caller, with_world}
 use Rattle.house.specs.Setup.{terms_of}

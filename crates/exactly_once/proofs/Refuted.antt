@@ -11,7 +11,7 @@ use Rattle.house.specs.Scene.{Scene, seat_of}
 use Rattle.exactly_once.specs.Promise.{Entry, IsOwn, Lines, Replies, Said, TellsOnce, verdicts_of}
 use Rattle.delivery_token.specs.declared.Verdict.{Verdict}
 use Rattle.imap_session.specs.Exchange.{Sent}
-use Rattle.house_peers.specs.SeatedVisitor.{keys_of}
+use Rattle.house_peers.specs.Visitor.{keys_of}
 use Rattle.exactly_once.specs.Appended.{AnswersOnce, noted_for}
 use Rattle.exactly_once.proofs.Going.{below_itself, none_twice}
 

@@ -7,12 +7,11 @@ use Rattle.delivery_token.specs.declared.Verdict.{Verdict}
 use Rattle.delivery_token.specs.declared.log.Noted.{Noted}
 use Rattle.lmtp_machine.specs.declared.connection.What.{What}
 use Rattle.lmtp_machine.specs.Dialogue.{Submission}
-use Rattle.envelope.specs.Directory.{marked}
+use Rattle.envelope.specs.Names.{marked}
 use Rattle.house_peers.specs.Speech.{Answered, Opened, AreNumbered, AreQuiet, IsSpeech, wire}
-use Rattle.house.specs.Peers.{Peers}
+use Rattle.house.specs.Setup.{Peers, Setup, terms_of}
 use Rattle.house_peers.specs.AnyCaller.{Caller, Terms, GoesOn, Proceeds, IsAnswered, Works, with_unsaid, works, waits, answers, stalls, talks, lingers, fades, greeted, keys_of, meets, setting_of, unread}
-use Rattle.house.specs.AnyPrinting.{ConnectionGoes, Leaves, Prints, goes, marked_connection, of_connection as mark_of_connection, prints_all, prints_none, stays}
-use Rattle.house.specs.Setup.{Setup, terms_of}
+use Rattle.house.specs.AnyScene.{ConnectionGoes, Leaves, Prints, goes, marked_connection, of_connection as mark_of_connection, prints_all, prints_none, stays}
 use Rattle.exactly_once.specs.AnyPromise as promise
 use Rattle.exactly_once.specs.AnyPromise.{Said, Other, reply_of, verdict_in}
 use Rattle.world.proofs.Base.{Every, every_append}

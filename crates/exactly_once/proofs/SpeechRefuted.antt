@@ -6,7 +6,7 @@ use Rattle.line_io.specs.Wire.{crlf}
 use Rattle.delivery_token.specs.declared.Verdict.{Verdict}
 use Rattle.delivery_token.specs.declared.Verdict.TheVariants.{Stored, Refused}
 use Rattle.delivery_token.specs.declared.Refusal.TheVariants as refusals
-use Rattle.envelope.specs.Directory.{Directory}
+use Rattle.envelope.specs.Names.{Directory}
 use Rattle.lmtp_machine.specs.declared.reply.Reply.{Reply}
 use Rattle.lmtp_machine.specs.declared.reply.Reply.TheVariants.{Delivered, OutOfMemory}
 use Rattle.lmtp_machine.specs.Conversation.{Conversation}
@@ -15,7 +15,7 @@ use Rattle.lmtp_machine.specs.Kept.{Kept}
 use Rattle.house_peers.specs.Speech.{IsSpeech, Speech}
 use Rattle.house_peers.specs.Lmtp.{lmtp}
 use Rattle.house.specs.LmtpAndImap.{lmtp_and_imap}
-use Rattle.house.specs.Peers.{AreGuests, AreLines, Peers}
+use Rattle.house.specs.Setup.{AreGuests, AreLines, Peers}
 
 -- a connection that has submitted one message, whose verdicts it awaits
 abbrev awaiting : (count : ℕ) → Conversation

@@ -7,7 +7,7 @@ use Rattle.delivery_token.specs.declared.log.Noted.{Noted}
 use Rattle.lmtp_machine.specs.Dialogue.{Setting, Submission, keys_from}
 use Rattle.house_peers.specs.Speech.{AreNumbered}
 use Rattle.house_peers.specs.AnyCaller.{keys_of}
-use Rattle.delivery_token.specs.Heard.{HeardFor}
+use Rattle.delivery_token.specs.Copies.{HeardFor}
 use Rattle.world.proofs.Base.{Every, Rising, every_append, every_weaker}
 use Rattle.world.proofs.Always.{every_front}
 

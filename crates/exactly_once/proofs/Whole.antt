@@ -41,8 +41,8 @@ use Rattle.imap_session.specs.Store.{AnswersVerdict, IdleTurns}
 use Rattle.delivery_token.specs.declared.Verdict.{Verdict}
 use Rattle.delivery_token.specs.declared.Verdict.TheVariants as verdicts
 use Rattle.delivery_token.specs.declared.log.Noted.{Noted}
-use Rattle.house_peers.specs.SeatedVisitor as seated
-use Rattle.house_peers.specs.SeatedVisitor.{GoesOn, SeatedVisitor}
+use Rattle.house_peers.specs.Visitor as seated
+use Rattle.house_peers.specs.Visitor.{GoesOn, SeatedVisitor}
 use Rattle.imap_session.specs.Dialogue as dialogue
 use Rattle.imap_session.specs.Dialogue.{AnswersLine, AnswersOne, Converses, Sends, goes_on, parts, reads, silent, too_long}
 use Rattle.imap_session.specs.declared.texts.ResponseText.TheVariants as texts
@@ -55,7 +55,7 @@ use Rattle.imap_session.proofs.Parts.{IsPart, asks_part, challenge_part, comes_p
 use Rattle.imap_answers.specs.declared.list.Listing.{Listing}
 use Rattle.imap_answers.specs.declared.list.Listing.TheVariants.{All, Subscribed}
 use Rattle.imap_grammar.specs.declared.command.CopyMessages.{CopyMessages}
-use Rattle.house.specs.Peers.{AreLines}
+use Rattle.house.specs.Setup.{AreLines}
 use Rattle.exactly_once.proofs.EachExchange.{Plays, exchange_if, idle_so}
 use Rattle.exactly_once.proofs.Copying.{TakesBack, back_so, copies_so, stored_so}
 pub use Rattle.exactly_once.proofs.Lines.{cut_of, whole_append}

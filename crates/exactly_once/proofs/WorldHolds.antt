@@ -6,7 +6,7 @@ use Rattle.std.proofs.lemmas.Bool.{false≢true, ne_eqb}
 use Rattle.std.proofs.lemmas.Option.{none-some}
 use Rattle.change_ring.specs.Log.{IsLegalLog, added}
 use Rattle.delivery_token.specs.Keys.{Below}
-use Rattle.delivery_token.specs.Log.{stored_in}
+use Rattle.delivery_token.specs.Copies.{stored_in}
 use Rattle.delivery_token.specs.declared.CopyKey.{CopyKey}
 use Rattle.delivery_token.specs.declared.Job.{Job}
 use Rattle.delivery_token.specs.declared.Refusal.{Refusal}

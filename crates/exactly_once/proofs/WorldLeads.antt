@@ -1,7 +1,6 @@
 -- The events lead to the small world, one step after another; and what three events may lead to.
 use Rattle.std.proofs.Common.{◌≡◌, ℕ, zero, suc, ◌≤◌, ◌⊎◌, inl, inr, true, List, [], ◌∷◌, length, refl, sym, ap, ◌∙◌, subst, arith, All}
-use Rattle.change_ring.specs.Log.{no_flags}
-use Rattle.change_ring.specs.Logged.{arrival}
+use Rattle.change_ring.specs.Log.{no_flags, arrival}
 use Rattle.change_ring.specs.declared.change.Change.TheVariants.{Add, Flags as SetFlags}
 use Rattle.delivery_token.specs.Keys.{Below}
 use Rattle.delivery_token.specs.declared.CopyKey.{CopyKey}

@@ -8,10 +8,8 @@ use Rattle.world.specs.World.{World, Event, IsWorld}
 use Rattle.world.specs.Law.{Headline, StandsOnce, pairs}
 use Rattle.house_peers.specs.Speech.{wire}
 use Rattle.house_peers.specs.AnyCaller.{Caller}
-use Rattle.house.specs.Peers.{Peers}
-use Rattle.house.specs.Setup.{Setup, session_seat}
-use Rattle.house.specs.AnyPrinting.{marked_connection, marked_session}
-use Rattle.house.specs.AnyScene.{EnterPlay, IdlePlay, Plays, SayPlay, Scene, SessionHears, SessionPuts, SessionTalks, comes_in, empty_scene, place_of, seat_of}
+use Rattle.house.specs.Setup.{Peers, Setup, session_seat}
+use Rattle.house.specs.AnyScene.{marked_connection, marked_session, EnterPlay, IdlePlay, Plays, SayPlay, Scene, SessionHears, SessionPuts, SessionTalks, comes_in, empty_scene, place_of, seat_of}
 use Rattle.house.specs.declared.event.Event as house
 use Rattle.house.specs.declared.event.Event.TheVariants.{Bytes, Put, Hear, Enter, Say, Idle}
 

@@ -5,14 +5,13 @@ use Rattle.delivery_token.specs.declared.CopyKey.{CopyKey}
 use Rattle.delivery_token.specs.declared.Verdict.{Verdict}
 use Rattle.delivery_token.specs.declared.Verdict.TheVariants.{Stored}
 use Rattle.delivery_token.specs.declared.log.Noted.{Noted}
-use Rattle.delivery_token.specs.Heard.{HeardFor}
+use Rattle.delivery_token.specs.Copies.{HeardFor}
 use Rattle.imap_session.specs.Exchange.{Call, Answer as StoreAnswer}
 use Rattle.house.specs.Meets.{Meets}
 use Rattle.world.specs.World.{Event as WorldEvent, IsWorld, World}
 use Rattle.world.specs.Law.{StandsOnce, pairs}
 use Rattle.imap_session.specs.Folders.{folders_of}
-use Rattle.house_peers.specs.Visitor.{more_waits}
-use Rattle.house_peers.specs.SeatedVisitor.{GoesOn, SeatedVisitor, answers, keys_of, rests, seated_greeted, sent_by, stalls, waits, works}
+use Rattle.house_peers.specs.Visitor.{more_waits, GoesOn, SeatedVisitor, answers, keys_of, rests, seated_greeted, sent_by, stalls, waits, works}
 use Rattle.house.specs.Setup.{Setup, admitted_in, session_seat}
 use Rattle.house.specs.Printing.{with_session}
 use Rattle.house.specs.Scene.{HearPlay, Plays, PutPlay, Scene, SessionGoes, SessionTalks, connection_hears, connection_puts, empty_scene, lingers, place_of, seat_of, session_hears, session_puts, talks}

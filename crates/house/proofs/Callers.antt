@@ -4,7 +4,7 @@ use Rattle.std.proofs.lemmas.Bool.Decides.{eqb_tells}
 use Rattle.delivery_token.specs.Keys.{Below, AtLeast}
 use Rattle.delivery_token.specs.declared.CopyKey.{CopyKey}
 use Rattle.delivery_token.specs.declared.log.Noted.{Noted}
-use Rattle.shard_queue.specs.At.{set_at}
+use Rattle.shard_queue.specs.Lane.{set_at}
 use Rattle.shard_queue.proofs.AtLaws.{at_cases, set_at-same}
 use Rattle.world.specs.World.{World}
 use Rattle.delivery_core.specs.DeliveryCore.{DeliveryCore, notes_of}
@@ -17,12 +17,11 @@ use Rattle.house.specs.House.{House}
 use Rattle.house_peers.specs.Caller.{Caller, GoesOn, Proceeds, Terms, Works, answers, fades, lingers, stalls, talks, waits, with_unsaid, works}
 use Rattle.house_peers.specs.inner.Meeting.{meets}
 use Rattle.house.specs.Printing.{ConnectionGoes, Leaves, goes, stays}
-use Rattle.house.specs.Setup.{Setup, terms_of}
+use Rattle.house.specs.Setup.{Setup, terms_of, session_seat}
 use Rattle.house.specs.Scene.{Scene}
 use Rattle.house_peers.specs.ConnectionStands.{StandsForConnection}
 use Rattle.house.specs.Stands.{StandsFor, StandsForOne, StandsForSeat}
 use Rattle.house.specs.inner.Steps.{CallerWentOn, StandsForMaybe}
-use Rattle.house.specs.Setup.{session_seat}
 use Rattle.house.proofs.Seats.{heard_is, place_kept, seat_behind, seat_kept, seat_within}
 
 pub at_there : {A : Type 0} (f : ℕ → A) (i : ℕ) (x : A) (j : ℕ) → j ≢ i → set_at f i x j ≡ f j

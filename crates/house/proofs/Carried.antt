@@ -3,8 +3,7 @@ use Rattle.std.proofs.Common.{Bool, ℕ, List, [], refl, sym, subst}
 use Rattle.delivery_token.specs.declared.log.Noted.{Noted}
 use Rattle.imap_session.specs.Exchange.{Call, Answer}
 use Rattle.imap_session.proofs.Carried.{Carries, converses_carried, turns_carried, verdict_carried}
-use Rattle.house_peers.specs.Visitor.{Visitor}
-use Rattle.house_peers.specs.SeatedVisitor.{GoesOn, SeatedVisitor, Works, answers, rests, stalls, told, waits, works}
+use Rattle.house_peers.specs.Visitor.{Visitor, GoesOn, SeatedVisitor, Works, answers, rests, stalls, told, waits, works}
 use Rattle.house.specs.Printing.{Idles, Speaks}
 
 works_carried : {S T : Type 0} (step : S → Call → Answer → S → Type 0) (other : T → Call → Answer → T → Type 0) (Stands : S → T → Type 0) → Carries step other Stands

@@ -13,7 +13,7 @@ use Rattle.house.specs.inner.Trying.{CameStints, DidStints, IsAmong, Wants, Want
 use Rattle.house.proofs.Settlement.{All-one, DidStint, did_as, first_made, first_numbers, one_stint, one_wants, shards_of, stints_then, stints_wants, wants_as, wants_of_all}
 use Rattle.delivery_token.specs.declared.CopyKey.{CopyKey}
 use Rattle.delivery_token.specs.declared.log.Noted.{Noted}
-use Rattle.envelope.specs.Directory.{Directory, is_shut, marked}
+use Rattle.envelope.specs.Names.{Directory, is_shut, marked}
 use Rattle.house_peers.specs.Caller.{Caller}
 use Rattle.house_peers.specs.HouseConnection.{HouseConnection}
 use Rattle.house_peers.proofs.Connections.{stands_marked}

@@ -13,7 +13,7 @@ use Rattle.house_peers.specs.HouseConnection.{HouseConnection}
 use Rattle.house.specs.House.{House}
 use Rattle.house_peers.specs.Caller.{Caller}
 use Rattle.house.specs.Setup.{Setup, session_seat, terms_of}
-use Rattle.house_peers.specs.SeatedVisitor.{SeatedVisitor}
+use Rattle.house_peers.specs.Visitor.{SeatedVisitor}
 use Rattle.house_peers.specs.SeatedSession.{SeatedSession}
 use Rattle.house.specs.Scene.{Moves, Scene, with_world}
 use Rattle.house.specs.Stands.{StandsFor, StandsForOne, StandsForVisit}

@@ -1,12 +1,12 @@
 -- What bytes, a put and a hearing come to, from who stands at the seat.
 use Rattle.std.proofs.Common.{◌≡◌, ℕ, ◌+◌, ◌<◌, Bool, true, false, List, ◌++◌, length, refl, ap, sym, ◌∙◌, subst, arith, Option, Some, None, get_or, set, IsSome, length-set, get_or-set_other, get_or-set_same}
 use Rattle.delivery_token.specs.Keys.{AtLeast}
-use Rattle.shard_queue.specs.At.{set_at}
+use Rattle.shard_queue.specs.Lane.{set_at}
 use Rattle.shard_queue.proofs.AtLaws.{set_at-same}
 use Rattle.std.specs.Option.{option_map}
 use Rattle.delivery_token.specs.declared.CopyKey.{CopyKey}
 use Rattle.delivery_token.specs.declared.log.Noted.{Noted}
-use Rattle.envelope.specs.Directory.{Directory}
+use Rattle.envelope.specs.Names.{Directory}
 use Rattle.delivery_core.specs.New.{first_key}
 use Rattle.house_peers.specs.HouseConnection.{HouseConnection}
 use Rattle.house.specs.House.{House}
@@ -15,10 +15,9 @@ use Rattle.house.specs.Setup.{Setup, terms_of}
 use Rattle.house.specs.Scene.{BytesPlay, Scene, VanishPlay, goes_on, most_serials, opens, with_caller}
 use Rattle.house_peers.specs.Taking.{with_more, with_nobody_there}
 use Rattle.house_peers.specs.ConnectionStands.{StandsForConnection}
-use Rattle.house.specs.inner.Steps.{IsOf}
+use Rattle.house.specs.inner.Steps.{IsOf, CallerWentOn, StandsForMaybe}
 use Rattle.house.specs.Stands.{StandsFor, StandsForOne}
 use Rattle.house.specs.Steps.{is_unread}
-use Rattle.house.specs.inner.Steps.{CallerWentOn, StandsForMaybe}
 use Rattle.house_peers.proofs.Arrivals.{more_stands}
 use Rattle.house_peers.proofs.Connections.{unread_stands}
 use Rattle.house.proofs.Callers.{after_going, at_there}

@@ -8,7 +8,7 @@ use Rattle.mailbox.specs.declared.clients.MailFault.TheVariants.{Stranger, Lappe
 use Rattle.delivery_core.specs.Changes.{SameDelivery}
 use Rattle.delivery_core.specs.DeliveryCore.{DeliveryCore, behind, client_of}
 use Rattle.delivery_core.specs.Stands as core
-use Rattle.house.specs.Setup.{Setup}
+use Rattle.house.specs.Setup.{Setup, session_seat}
 use Rattle.imap_session.specs.declared.standing.After.TheVariants as afters
 use Rattle.imap_session.specs.declared.standing.Selected.{Selected as Chosen}
 use Rattle.imap_session.specs.Exchange.{Answer, Entered, Looked, Found, Counted, Altered, Expunged, Fed, Left, Discarded, Refused, Starved, Event, Feed, Standing, Turn, having, is_idling, nothing_more, refused, saying}
@@ -24,11 +24,9 @@ use Rattle.delivery_token.specs.declared.CopyKey.{CopyKey}
 use Rattle.delivery_token.specs.declared.log.Noted.{Noted}
 use Rattle.delivery_core.specs.New.{first_key}
 use Rattle.house.specs.inner.Printing.{Idled, IdledInPart, Missed}
-use Rattle.house_peers.specs.Visitor.{Visitor}
-use Rattle.house_peers.specs.SeatedVisitor.{SeatedVisitor}
+use Rattle.house_peers.specs.Visitor.{Visitor, SeatedVisitor}
 use Rattle.house_peers.specs.SeatedSession.{SeatedSession, StandsForSeated}
-use Rattle.house.specs.Setup.{session_seat}
-use Rattle.shard_queue.specs.At.{set_at}
+use Rattle.shard_queue.specs.Lane.{set_at}
 use Rattle.shard_queue.proofs.AtLaws.{at_cases}
 use Rattle.house.proofs.Seats.{place_kept}
 use Rattle.house.specs.Printing.{Idles, with_session}

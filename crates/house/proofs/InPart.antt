@@ -14,8 +14,7 @@ use Rattle.imap_session.specs.Exchange.{Call, Answer as Told}
 use Rattle.house.specs.Meets.{Meets}
 use Rattle.imap_session.specs.Folders.{folders_of}
 use Rattle.world.specs.World.{World}
-use Rattle.house_peers.specs.Visitor.{more_waits as visitor_more_waits}
-use Rattle.house_peers.specs.SeatedVisitor.{SeatedVisitor, seated_greeted}
+use Rattle.house_peers.specs.Visitor.{more_waits as visitor_more_waits, SeatedVisitor, seated_greeted}
 
 leaves_part : (what : What) (after : Caller) (o : Option Caller) → Leaves true what after o → Leaves false what after o
 leaves_part what after o (goes q n e) = goes q n e

@@ -6,17 +6,15 @@ use Rattle.std.proofs.lemmas.List.{length-map, length-replicate, get_or-replicat
 use Rattle.delivery_token.specs.declared.CopyKey.{CopyKey}
 use Rattle.delivery_core.specs.New.{first_key}
 use Rattle.delivery_core.specs.Stands as core
-use Rattle.envelope.specs.Directory.{Directory, Home, none_shut}
-use Rattle.envelope.specs.Names.{is_name, home_of, words_read, first_fault, homes_unless}
+use Rattle.envelope.specs.Names.{Directory, Home, none_shut, is_name, home_of, words_read, first_fault, homes_unless}
 use Rattle.envelope.specs.declared.directory.DirectoryFault.{DirectoryFault}
 use Rattle.envelope.specs.declared.directory.DirectoryFault.TheVariants.{TooMany, BadName}
 use Rattle.settings.specs.declared.config.Config.{Config}
 use Rattle.house_peers.specs.HouseConnection.{HouseConnection}
 use Rattle.house.specs.House.{House}
 use Rattle.house.specs.Scene.{empty_scene}
-use Rattle.house.specs.Setup.{connection_seats, places as all_places, setup_of}
+use Rattle.house.specs.Setup.{connection_seats, places as all_places, setup_of, session_seat, terms_of}
 use Rattle.settings.specs.Settings.{words_of}
-use Rattle.house.specs.Setup.{session_seat, terms_of}
 use Rattle.house.specs.Stands.{StandsFor, StandsForOne, StandsForVisit}
 use Rattle.house_peers.specs.SeatedSession.{SeatedSession}
 

@@ -4,7 +4,7 @@ use Rattle.std.proofs.Math.Nat.{lt_of_not-le}
 use Rattle.std.proofs.lemmas.Bool.{cases_lt}
 use Rattle.change_ring.specs.declared.change.Change.{Change}
 use Rattle.shard_queue.proofs.AtLaws.{at_cases}
-use Rattle.shard_queue.specs.At.{set_at}
+use Rattle.shard_queue.specs.Lane.{set_at}
 use Rattle.world.specs.World as ev
 use Rattle.world.specs.World.{Config, World, Session, Event, Step, Steps, IsWorld, empty_world, MailStep, LeaveStep, put_joins, put_full, put_no_memory, put_shut, end_joins, end_full, takes, take_empty, delivers, deliver_spent, deliver_full, deliver_no_memory, answers, answer_full, hears_one, enters, enter_spent, enter_no_memory, mails, mail_lapped, mail_spent, mail_no_memory, leaves, leave_spent, discards_them, discard_spent}
 use Rattle.delivery_core.specs.DeliveryCore.{DeliveryCore, client_of}

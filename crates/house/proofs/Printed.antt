@@ -3,7 +3,7 @@ use Rattle.std.specs.declared.alloc.AllocError.{AllocError}
 use Rattle.std.proofs.Common.{Result, Ok, Err, OnOk, OnErr, ◌≡◌, ℕ, ◌+◌, Bool, true, false, List, [], ◌++◌, refl, sym, ap, ◌∙◌, subst, append-nil, Some, None}
 use Rattle.delivery_token.specs.declared.CopyKey.{CopyKey}
 use Rattle.delivery_token.specs.declared.log.Noted.{Noted}
-use Rattle.line_io.specs.Marks.{marked}
+use Rattle.line_io.specs.Wire.{marked}
 use Rattle.lmtp_machine.specs.declared.connection.What.{What}
 use Rattle.lmtp_machine.specs.declared.connection.What.TheVariants.{More, Submit, Quit}
 use Rattle.imap_session.specs.Exchange.{Call, Answer}
@@ -14,8 +14,8 @@ use Rattle.house_peers.specs.Taking.{with_all_said}
 use Rattle.house_peers.proofs.Connections.{printed_stands}
 use Rattle.house_peers.specs.HouseSession.{with_all_said as with_all_said_at}
 use Rattle.house_peers.specs.SeatedSession.{Proceeded as SessionProceeded, SeatedSession, SeatedTurned, StandsForSeated, with_place}
-use Rattle.house_peers.specs.SeatedVisitor as seated
-use Rattle.house_peers.specs.SeatedVisitor.{SeatedVisitor}
+use Rattle.house_peers.specs.Visitor as seated
+use Rattle.house_peers.specs.Visitor.{SeatedVisitor}
 use Rattle.house.specs.Printing.{goes, of_connection, of_session, prints_all, prints_none, stays, still_unsaid, with_session}
 use Rattle.house.specs.inner.Printing.{Idled, WentOn}
 use Rattle.house.specs.inner.Steps.{ConnectionWent}

@@ -11,7 +11,7 @@ use Rattle.delivery_core.specs.Stands as core
 use Rattle.house_peers.specs.HouseConnection.{HouseConnection}
 use Rattle.house.specs.House.{House}
 use Rattle.house_peers.specs.Caller.{Caller}
-use Rattle.house_peers.specs.SeatedVisitor.{SeatedVisitor}
+use Rattle.house_peers.specs.Visitor.{SeatedVisitor}
 use Rattle.house_peers.specs.SeatedSession.{SeatedSession}
 use Rattle.house.specs.Setup.{Setup, session_seat, terms_of}
 use Rattle.house.specs.Scene.{Scene, with_world}

@@ -4,8 +4,7 @@ use Rattle.std.specs.Prelude.{◌↔◌, ◌+◌, OnOk, OnErr, IfOk, min, option
 use Rattle.change_ring.specs.declared.change.Change.{Change}
 use Rattle.change_ring.specs.declared.change.Flags.{Flags}
 use Rattle.change_ring.specs.declared.flag_op.FlagOp.{FlagOp}
-use Rattle.change_ring.specs.Log.{rows_of, view_at}
-use Rattle.change_ring.specs.Logged.{discards, flags_logged, removals, removals_if, seen_logged}
+use Rattle.change_ring.specs.Log.{rows_of, view_at, discards, flags_logged, removals, removals_if, seen_logged}
 use Rattle.mailbox.specs.Events.{in_set}
 use Rattle.mailbox.specs.Mailbox.{Mailbox}
 use Rattle.mailbox.specs.declared.clients.MailFault.{MailFault}

@@ -1,16 +1,16 @@
 -- What happens to sessions, over the whole house: who enters, what is said, who leaves, and the copies that are put and heard of.
 use Rattle.std.proofs.Common.{◌≡◌, ◌≢◌, ℕ, ◌+◌, ◌%◌, ◌<◌, ◌⊎◌, inl, inr, Bool, true, false, List, [], ◌∷◌, ◌++◌, length, refl, ap, sym, ◌∙◌, subst, arith, append_assoc, Option, Some, None, get_or, set, get_or-set_other, get_or-set_same, length-set, IsSome}
 use Rattle.delivery_token.specs.Keys.{AtLeast, Precedes, past}
-use Rattle.delivery_token.specs.Log.{heard_at_once}
+use Rattle.delivery_token.specs.Copies.{heard_at_once}
 use Rattle.delivery_token.specs.declared.CopyKey.{CopyKey}
 use Rattle.delivery_token.specs.declared.Job.{Job}
 use Rattle.delivery_token.specs.declared.Refusal.{Refusal}
 use Rattle.delivery_token.specs.declared.log.Noted.{Noted}
-use Rattle.shard_queue.specs.At.{set_at}
+use Rattle.shard_queue.specs.Lane.{set_at}
 use Rattle.shard_queue.proofs.AtLaws.{set_at-same}
 use Rattle.delivery_token.specs.Copies as submission
 use Rattle.delivery_token.specs.inner.Verdicts.{heard_verdict}
-use Rattle.envelope.specs.Directory.{Directory}
+use Rattle.envelope.specs.Names.{Directory}
 use Rattle.world.specs.World.{Config, World}
 use Rattle.world.specs.World as world
 use Rattle.delivery_core.specs.DeliveryCore.{DeliveryCore, notes_of}
@@ -23,8 +23,7 @@ use Rattle.house.specs.declared.core_store.CoreStore.{CoreStore}
 use Rattle.house.specs.CoreStore.{Serves}
 use Rattle.house.proofs.Served.{carries}
 use Rattle.imap_session.specs.Folders.{admission_of, folders_of, has_user}
-use Rattle.house_peers.specs.Visitor.{more_waits}
-use Rattle.house_peers.specs.SeatedVisitor.{SeatedVisitor, copies_of, seated_greeted, sent_by, unread}
+use Rattle.house_peers.specs.Visitor.{more_waits, SeatedVisitor, copies_of, seated_greeted, sent_by, unread}
 use Rattle.house_peers.specs.SeatedSession.{HearsVerdict, SeatedSession, StandsForSeated, due, noted_put, submitted_at, with_nobody_there}
 use Rattle.house_peers.proofs.SessionPutting.{may_be_used, next_copy, put_stands}
 use Rattle.house_peers.proofs.Seating.{heard_stands, vanished}

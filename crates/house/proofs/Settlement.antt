@@ -10,14 +10,14 @@ use Rattle.house.specs.declared.event.Event.{Event}
 use Rattle.house.specs.declared.event.Event.TheVariants.{Bytes, Vanish, Put, Take, Deliver, Answer, Hear, End, Close, Enter, Say, Idle, Leave}
 use Rattle.house.specs.Setup.{Setup}
 use Rattle.house.specs.Scene.{HasNothing, HearPlay, PutPlay, Scene, connection_hears, connection_puts, is_shut_in, place_of, seat_of, session_hears, session_puts}
-use Rattle.house_peers.specs.SeatedVisitor.{SeatedVisitor}
+use Rattle.house_peers.specs.Visitor.{SeatedVisitor}
 use Rattle.house_peers.specs.SeatedSession.{SeatedSession}
 use Rattle.house.specs.Settling.{BreaksOff, GoesRounds, Happened, InTurn, RoundsBreakOff, Stint, StintBreaksOff, Stints, StintsBreakOff, Tries, TurnBreaksOff, cut_short, happens, in_a_row, passes, round, unbegun}
 use Rattle.house.specs.Stands.{StandsFor}
 use Rattle.house.specs.Steps.{Follows, FollowsInPart, IsFreePlace, IsLeft, IsNoNumber, IsNoPlace, IsNobody, IsVacant, KeepsMarks, Led, is_left}
 use Rattle.house.proofs.Ended.{IsFree, nobody_at_place, vacant_free}
 use Rattle.house.proofs.Visiting.{at_place}
-use Rattle.envelope.specs.Directory.{Directory, is_shut}
+use Rattle.envelope.specs.Names.{Directory, is_shut}
 use Rattle.delivery_core.specs.New.{first_key}
 use Rattle.std.proofs.lemmas.List.Elements.{All-append, All-cons, All-get_or, All-head, All-nil, All-tail, filter-append}
 use Rattle.std.proofs.Math.Seq.{take-suc}

@@ -4,8 +4,7 @@ use Rattle.change_ring.specs.declared.change.Change.{Change}
 use Rattle.mailbox.specs.declared.history.History.TheVariants.{Kept}
 use Rattle.mailbox.specs.Mailbox.{Mailbox}
 use Rattle.delivery_core.specs.DeliveryCore.{DeliveryCore}
-use Rattle.envelope.specs.Directory.{Directory}
-use Rattle.envelope.specs.Names.{number_of}
+use Rattle.envelope.specs.Names.{Directory, number_of}
 use Rattle.house.specs.House.{House}
 use Rattle.house.specs.Setup.{Setup}
 use Rattle.house.specs.Scene.{Scene}

@@ -6,12 +6,12 @@ use Rattle.delivery_token.specs.declared.Job.{Job}
 use Rattle.delivery_token.specs.declared.Refusal.{Refusal}
 use Rattle.delivery_token.specs.declared.log.Noted.{Noted}
 use Rattle.shard_queue.proofs.AtLaws.{set_at-same}
-use Rattle.envelope.specs.Directory.{Directory}
+use Rattle.envelope.specs.Names.{Directory}
 use Rattle.world.specs.World.{Config, HearStep, MayPut, PutStep, Step, World, hears_one, put_full, put_joins, put_no_memory, put_shut, shard_of}
 use Rattle.world.specs.World as world
 use Rattle.delivery_core.specs.DeliveryCore.{DeliveryCore, notes_of}
 use Rattle.delivery_core.specs.Changes.{Hears}
-use Rattle.delivery_token.specs.Log.{heard_at_once}
+use Rattle.delivery_token.specs.Copies.{heard_at_once}
 use Rattle.delivery_core.specs.New.{first_key}
 use Rattle.delivery_core.specs.Puts.{IsNextKey}
 use Rattle.delivery_core.specs.Stands as core
@@ -24,10 +24,9 @@ use Rattle.house.specs.Scene.{ConnectionHears, ConnectionPuts, HearPlay, PutPlay
 use Rattle.house_peers.specs.Taking.{HearsVerdict, due, noted_put}
 use Rattle.delivery_token.specs.inner.Verdicts.{heard_verdict}
 use Rattle.house_peers.specs.ConnectionStands.{StandsForConnection}
-use Rattle.house.specs.inner.Steps.{IsOf}
+use Rattle.house.specs.inner.Steps.{IsOf, CallerWentOn, MayNotPut, StandsForMaybe}
 use Rattle.house.specs.Stands.{StandsFor}
 use Rattle.house.specs.Steps.{PutsNext}
-use Rattle.house.specs.inner.Steps.{CallerWentOn, MayNotPut, StandsForMaybe}
 use Rattle.house.proofs.Events.{IsAt, at_seat}
 use Rattle.house.proofs.Callers.{after_going}
 use Rattle.house_peers.proofs.ConnectionPutting.{heard_stands, next_copy, put_stands}

@@ -17,10 +17,10 @@ use Rattle.house.specs.declared.core_store.CoreStore.{CoreStore}
 use Rattle.house.specs.CoreStore.{Serves}
 use Rattle.house.specs.Meets.{Meets}
 use Rattle.house.proofs.Served.{IsServing, carries}
-use Rattle.shard_queue.specs.At.{set_at}
+use Rattle.shard_queue.specs.Lane.{set_at}
 use Rattle.shard_queue.proofs.AtLaws.{set_at-same}
-use Rattle.house_peers.specs.SeatedVisitor as seated
-use Rattle.house_peers.specs.SeatedVisitor.{GoesOn, SeatedVisitor, sent_by}
+use Rattle.house_peers.specs.Visitor as seated
+use Rattle.house_peers.specs.Visitor.{GoesOn, SeatedVisitor, sent_by}
 use Rattle.house_peers.specs.SeatedSession.{SeatedSession, StandsForSeated, key_with}
 use Rattle.house.specs.inner.Printing.{WentOn}
 use Rattle.house.specs.Printing.{Speaks}

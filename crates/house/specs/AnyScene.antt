@@ -2,18 +2,95 @@
 use Rattle.std.specs.Prelude.{◌≡◌, ℕ, ◌+◌, ◌-◌, ◌^◌, ◌<◌, ◌⊎◌, Bool, true, false, List, [], ◌∷◌, ◌++◌, slice_index_or, slice_set, Option, Some, None}
 use Rattle.delivery_token.specs.declared.Job.{Job}
 use Rattle.delivery_token.specs.declared.log.Noted.{Noted}
-use Rattle.shard_queue.specs.At.{set_at}
-use Rattle.world.specs.World as world
+use Rattle.shard_queue.specs.Lane.{set_at}
 use Rattle.world.specs.World.{World, Step}
-use Rattle.house_peers.specs.AnyCaller.{Caller, greeted, more_waits, unread}
-use Rattle.house_peers.specs.AnyVisitor.{Visitor, Awaits, IsSettled, SeatedVisitor, seated_greeted, session_more_waits}
-use Rattle.house_peers.specs.AnyVisitor.{unread as unread_session}
-use Rattle.house.specs.AnyPrinting.{ConnectionGoes, Idles, IsWhole, Speaks, with_session}
-use Rattle.house.specs.Peers.{Peers}
-use Rattle.house.specs.Setup.{Setup, session_seat, terms_of}
+use Rattle.house_peers.specs.AnyCaller.{Caller, greeted, more_waits, unread, Proceeds, Terms, with_unsaid}
+use Rattle.house_peers.specs.AnyVisitor.{Visitor, Awaits, IsSettled, SeatedVisitor, seated_greeted, session_more_waits, unread as unread_session, GoesOn}
+use Rattle.house.specs.Setup.{Peers, Setup, session_seat, terms_of}
 use Rattle.imap_session.specs.Folders.{has_user}
 use Rattle.house.specs.declared.event.Event.{Event}
 use Rattle.house.specs.declared.event.Event.TheVariants.{Bytes, Vanish, Put, Take, Deliver, Answer, Hear, End, Close, Enter, Say, Idle, Leave}
+use Rattle.line_io.specs.Wire.{marked}
+use Rattle.lmtp_machine.specs.declared.connection.What.{What}
+use Rattle.lmtp_machine.specs.declared.connection.What.TheVariants.{Quit}
+use Rattle.house_peers.specs.Speech.{Speech, Guest}
+use Rattle.world.specs.World as world
+
+-- ---- what is said, as the house prints it
+
+-- an L marks what connections say, an I what sessions say
+abbrev pub of_connection : ℕ
+of_connection = 76
+
+abbrev pub of_session : ℕ
+of_session = 73
+
+-- each line that connection n says, and each that session n says, with its mark
+abbrev pub marked_connection : ℕ → List ℕ → List ℕ
+marked_connection n said = marked of_connection n said
+
+abbrev pub marked_session : ℕ → List ℕ → List ℕ
+marked_session n said = marked of_session n said
+
+module _ (mark n : ℕ) where
+  -- What was to be printed is printed, all of it or nothing; what is still to be printed then is nothing, or all of it.
+  pub data Prints (unsaid still printed : List ℕ) : Type 0 where
+    prints_all : still ≡ [] → printed ≡ marked mark n unsaid → Prints unsaid still printed
+    -- a growth was refused, or nothing was tried
+    prints_none : still ≡ unsaid → printed ≡ [] → Prints unsaid still printed
+
+module _ (speech : Speech) where
+  -- Who stands at the seat after a turn: one whose dialogue ended and who has said all is gone, and what waited is dropped. One whose peer is gone
+  -- stays for its verdicts alone, and another that has ended stays only where memory was wanting.
+  pub data Leaves (whole : Bool) (what : What) (after : Caller speech) (o : Option (Caller speech)) : Type 0 where
+    goes : what ≡ Quit → after.talk.unsaid ≡ [] → o ≡ None → Leaves whole what after o
+    stays : (what ≡ Quit → whole ≡ true → ⊥) → (what ≡ Quit → after.gone ≡ true → ⊥) → o ≡ Some after → Leaves whole what after o
+
+  module _ (k : Terms) (whole : Bool) (seat : ℕ) (heard : List Noted) where
+    -- The connection at a seat does what it can now, and what it says is printed. `whole` says that memory wasn't wanting.
+    pub record ConnectionGoes (b : Caller speech) (o : Option (Caller speech)) (printed : List ℕ) : Type 0 where
+      pub what : What
+      pub after : Caller speech
+      pub proceeds : Proceeds speech k whole seat heard b what after
+      pub still : List ℕ
+      pub prints : Prints of_connection (seat + 1) after.talk.unsaid still printed
+      pub all : whole ≡ true → still ≡ []
+      pub leaves : Leaves whole what (with_unsaid speech still after) o
+
+module _ (guest : Guest) where
+  -- its session stands so
+  abbrev pub with_session : Visitor guest → SeatedVisitor guest → SeatedVisitor guest
+  with_session session v = record v { session = session }
+
+  -- so much of what it said is still to be printed
+  abbrev pub still_unsaid : List ℕ → SeatedVisitor guest → SeatedVisitor guest
+  still_unsaid unsaid v = with_session (record v.session { unsaid = unsaid }) v
+
+  module _ {S : Type 0} (step : S → guest.Call → guest.Answer → S → Type 0) (whole : Bool) (seat n : ℕ) (heard : List Noted)
+      (before : SeatedVisitor guest) where
+    -- The session at a seat, whose client is there, went on over a store as far as it could, by what its seat has heard, and this was printed.
+    pub record Speaks (old new : S) (after : SeatedVisitor guest) (printed : List ℕ) : Type 0 where
+      pub spoken : SeatedVisitor guest
+      pub said : List ℕ
+      pub goes : GoesOn guest step whole seat heard before old new spoken said
+      pub still : List ℕ
+      pub prints : Prints of_session n (before.session.unsaid ++ said) still printed
+      pub is : after ≡ still_unsaid still spoken
+
+  module _ {S : Type 0} (step : S → guest.Call → guest.Answer → S → Type 0) (n : ℕ) (before : Visitor guest) (old : S) where
+    -- its session had a turn while it idles, which showed so many changes, and this was printed
+    pub record Idles (new : S) (after : Visitor guest) (count : ℕ) (printed : List ℕ) : Type 0 where
+      pub said : List ℕ
+      pub turned : guest.Idles step before.standing old new count said after.standing
+      pub waits : after.waits ≡ before.waits
+      pub prints : Prints of_session n (before.unsaid ++ said) after.unsaid printed
+
+  -- all that was said is printed, and nothing waits that may be answered
+  pub record IsWhole (v : Visitor guest) : Type 0 where
+    pub said : v.unsaid ≡ []
+    pub answered : guest.HasAnswered v.standing v.waits
+
+-- ---- the house
 
 -- connections, and behind them sessions, are numbered from 1, seats from 0
 abbrev pub seat_of : ℕ → ℕ

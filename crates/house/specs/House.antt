@@ -1,6 +1,6 @@
 -- What the house holds, as contracts see it.
 use Rattle.std.specs.Prelude.{ℕ, Bool, List, Option}
-use Rattle.envelope.specs.Directory.{Directory}
+use Rattle.envelope.specs.Names.{Directory}
 use Rattle.delivery_core.specs.DeliveryCore.{DeliveryCore}
 use Rattle.house_peers.specs.HouseConnection.{HouseConnection}
 use Rattle.house_peers.specs.SeatedSession.{SeatedSession}

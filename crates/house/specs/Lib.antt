@@ -1,9 +1,7 @@
 pub mod Meets
 pub mod CoreStore
 pub mod Setup
-pub mod Peers
 pub mod LmtpAndImap
-pub mod AnyPrinting
 pub mod Printing
 pub mod House
 pub mod AnyScene

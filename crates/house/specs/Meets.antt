@@ -1,8 +1,7 @@
 -- What a session's call comes to in the world, with the answer that it gets.
 use Rattle.std.specs.Prelude.{◌≡◌, ℕ, ◌<◌, ◌≤◌, true, List, [], length, take, Some, None, Ok, Err}
 use Rattle.change_ring.specs.declared.change.Change.{Change}
-use Rattle.change_ring.specs.Log.{rows_of, view_at}
-use Rattle.change_ring.specs.Logged.{discards, flags_logged, removals, seen_logged}
+use Rattle.change_ring.specs.Log.{rows_of, view_at, discards, flags_logged, removals, seen_logged}
 use Rattle.mailbox.specs.Events.{in_set}
 use Rattle.mailbox.specs.declared.clients.MailFault.{MailFault}
 use Rattle.mailbox.specs.declared.clients.MailFault.TheVariants.{Stranger, Lapped, Spent, NoMemory}

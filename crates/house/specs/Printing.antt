@@ -4,12 +4,11 @@ use Rattle.delivery_token.specs.declared.log.Noted.{Noted}
 use Rattle.lmtp_machine.specs.declared.connection.What.{What}
 use Rattle.imap_session.specs.Exchange.{Call, Answer}
 use Rattle.house_peers.specs.Caller.{Caller, Terms}
-use Rattle.house_peers.specs.Visitor.{Visitor}
-use Rattle.house_peers.specs.SeatedVisitor.{SeatedVisitor}
-use Rattle.house.specs.AnyPrinting as any
+use Rattle.house_peers.specs.Visitor.{Visitor, SeatedVisitor}
+use Rattle.house.specs.AnyScene as any
 use Rattle.house_peers.specs.Lmtp.{lmtp}
 use Rattle.house_peers.specs.Imap.{imap}
-pub use Rattle.house.specs.AnyPrinting.{of_connection, of_session, marked_connection, marked_session, Prints, prints_all, prints_none, goes, stays}
+pub use Rattle.house.specs.AnyScene.{of_connection, of_session, marked_connection, marked_session, Prints, prints_all, prints_none, goes, stays}
 
 abbrev pub Leaves : (whole : Bool) (what : What) (after : Caller) (o : Option Caller) → Type 0
 Leaves = any.Leaves lmtp

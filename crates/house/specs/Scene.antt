@@ -4,7 +4,7 @@ use Rattle.delivery_token.specs.declared.log.Noted.{Noted}
 use Rattle.world.specs.World as world
 use Rattle.world.specs.World.{World}
 use Rattle.house_peers.specs.Caller.{Caller}
-use Rattle.house_peers.specs.SeatedVisitor.{SeatedVisitor}
+use Rattle.house_peers.specs.Visitor.{SeatedVisitor}
 use Rattle.house.specs.Setup.{Setup}
 use Rattle.house.specs.declared.event.Event.{Event}
 use Rattle.house.specs.AnyScene as any

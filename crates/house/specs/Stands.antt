@@ -6,12 +6,12 @@ use Rattle.delivery_token.specs.Keys.{AtLeast}
 use Rattle.delivery_core.specs.Stands as core
 use Rattle.house_peers.specs.HouseConnection.{HouseConnection}
 use Rattle.house.specs.House.{House}
-use Rattle.envelope.specs.Directory.{marked}
+use Rattle.envelope.specs.Names.{marked}
 use Rattle.house_peers.specs.Caller.{Caller, Terms}
 use Rattle.house.specs.Setup.{Setup, session_seat, terms_of}
 use Rattle.house.specs.Scene.{Scene}
 use Rattle.house_peers.specs.ConnectionStands.{StandsForConnection}
-use Rattle.house_peers.specs.SeatedVisitor.{SeatedVisitor}
+use Rattle.house_peers.specs.Visitor.{SeatedVisitor}
 use Rattle.house_peers.specs.SeatedSession.{SeatedSession, StandsForSeated}
 
 -- the first key of the connection or session that comes to a seat with this serial

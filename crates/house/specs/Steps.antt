@@ -1,7 +1,7 @@
 -- What a call of the house promises: for each scene for which it stood, a scene to which the event leads.
 use Rattle.std.specs.Option.{is_some}
 use Rattle.std.specs.Prelude.{◌≡◌, ℕ, ◌+◌, ◌-◌, ◌<◌, if◌then◌else◌, nat_lt, ◌≤◌, ◌⊎◌, ◌++◌, ◌%◌, slice_index_or, slice_set, Bool, true, false, List, [], ◌∷◌, length, Option, Some, None, IsSome}
-use Rattle.envelope.specs.Directory.{is_shut}
+use Rattle.envelope.specs.Names.{is_shut}
 use Rattle.delivery_token.specs.WorkerLog.{WorkerLog}
 use Rattle.delivery_token.specs.declared.log.Noted.{Noted}
 use Rattle.house.specs.declared.event.Event.{Event}
@@ -12,7 +12,7 @@ use Rattle.world.specs.World.{Config}
 use Rattle.world.specs.World as world
 use Rattle.delivery_core.specs.DeliveryCore.{DeliveryCore, behind, client_of}
 use Rattle.delivery_core.specs.Changes.{Hears, SameCounts, SameDelivery}
-use Rattle.delivery_token.specs.Log.{heard_at_once}
+use Rattle.delivery_token.specs.Copies.{heard_at_once}
 use Rattle.delivery_token.specs.Keys.{past}
 use Rattle.delivery_core.specs.Stands as core
 use Rattle.house_peers.specs.HouseConnection.{HouseConnection}

@@ -12,7 +12,7 @@ ghost use Rattle.house.specs.Steps.{Follows, FollowsInPart, IsBusy, ChangesNothi
 ghost use Rattle.house.specs.inner.Steps.{HasNoTurn, PlaceIdled, PlaceIdledInPart, StandsForSomebody};
 ghost use Rattle.house.specs.inner.Trying.{Goes, IsAmong, Wants};
 ghost use Rattle.house.specs.declared.event.Event.TheVariants as events;
-ghost use Rattle.house_peers.specs.SeatedVisitor as spec;
+ghost use Rattle.house_peers.specs.Visitor as spec;
 ghost use Rattle.delivery_token.specs.declared.CopyKey.{CopyKey};
 ghost use Rattle.delivery_token.specs.declared.log.Noted.{Noted};
 ghost use Rattle.world.specs.World.{World};

@@ -4,7 +4,7 @@
 ghost use Rattle.std.specs.Prelude.{◌≡◌, ◌≤◌, ◌<◌, ◌⊎◌, ◌++◌, ℕ, List, length, true, false, OnOk, OnErr, IfOk};
 ghost use Rattle.delivery_token.specs.declared.CopyKey.{CopyKey};
 ghost use Rattle.delivery_token.specs.declared.log.Noted.{Noted};
-ghost use Rattle.line_io.specs.Marks.{marked};
+ghost use Rattle.line_io.specs.Wire.{marked};
 ghost use Rattle.lmtp_machine.specs.declared.connection.What.TheVariants as whats;
 ghost use Rattle.house_peers.specs.Caller as connection;
 ghost use Rattle.house_peers.specs.Caller.{Terms};
@@ -14,7 +14,7 @@ ghost use Rattle.house_peers.specs.Taking.{HasWork, line_effort};
 ghost use Rattle.house_peers.specs.HouseSession.{HadTurn, with_all_said};
 ghost use Rattle.house_peers.specs.SeatedSession as seated;
 ghost use Rattle.house_peers.specs.SeatedSession.{StandsForSeated, seat_effort, with_place};
-ghost use Rattle.house_peers.specs.SeatedVisitor as session;
+ghost use Rattle.house_peers.specs.Visitor as session;
 ghost use Rattle.delivery_core.specs.Changes.{SameDelivery};
 ghost use Rattle.house.specs.CoreStore.{Serves};
 ghost use Rattle.house.specs.Printing.{of_connection, of_session};

@@ -14,7 +14,7 @@ ghost use Rattle.house.specs.Stands.{StandsFor, first_of};
 ghost use Rattle.house.specs.Steps.{Follows, FollowsInPart, IsBusy, ChangesNothing, IsNobody, IsNoPlace, IsVacant, Led, MayWant, VisitorWants, is_left};
 ghost use Rattle.house.specs.inner.Steps.{CanEnter, HasLingered, IsSession, IsTalking, PlaceTalked, PlaceVisited, StandsForSomebody};
 ghost use Rattle.house.specs.declared.event.Event.TheVariants as events;
-ghost use Rattle.house_peers.specs.SeatedVisitor as spec;
+ghost use Rattle.house_peers.specs.Visitor as spec;
 ghost use Rattle.house_peers.specs.SeatedSession.{StandsForSeated};
 ghost use Rattle.world.specs.World.{World};
 

@@ -7,7 +7,7 @@ ghost use Rattle.house.specs.Setup.{Setup};
 ghost use Rattle.house.specs.Settled.{BrokeOffFrom, SettledFrom, is_held};
 ghost use Rattle.house.specs.Settling.{GoesRounds, RoundsBreakOff, round};
 ghost use Rattle.house.specs.Stands.{StandsFor};
-ghost use Rattle.envelope.specs.Directory.{is_shut};
+ghost use Rattle.envelope.specs.Names.{is_shut};
 ghost use Rattle.house.specs.inner.Trying.{CameInTurn, CameOne, CameStint, CameStints, Goes, IsOwn, Wants, closes, ends, ends_where, hears, puts, serve, serves};
 
 use crate::event::{Event, HouseFault};

@@ -8,8 +8,7 @@ use Rattle.std.proofs.lemmas.List.Kept.{AllPairs-from_increasing}
 use Rattle.std.proofs.lemmas.Bool.{cases_lt}
 use Rattle.std.proofs.lemmas.List.Elements.{Contains-append_left}
 use Rattle.change_ring.specs.declared.change.Change.{Change}
-use Rattle.change_ring.specs.Log.{added, rows_of}
-use Rattle.change_ring.specs.Logged.{arrival}
+use Rattle.change_ring.specs.Log.{added, rows_of, arrival}
 use Rattle.change_ring.proofs.LogLaws.{added-append, arrival-added}
 use Rattle.delivery_token.specs.Text.{Text}
 use Rattle.delivery_token.specs.declared.CopyKey.{CopyKey}
@@ -24,8 +23,7 @@ use Rattle.world.proofs.Mails.{IsIn}
 use Rattle.house_history.specs.declared.event.Event.{Event}
 use Rattle.house_history.specs.declared.event.Event.TheVariants.{Sent, Withdrawn, Judged, Changed}
 use Rattle.house_history.specs.Events.{accepted_in, accepted_of, changes_from, changes_in, judged_in, judged_of, keys_of_seat, logged, more, sent_by, sent_of, sent_to, sent_to_of, uids_of}
-use Rattle.house_history.specs.Laws.{StandsAlone}
-use Rattle.house_history.specs.Legal.{HasText, IsBefore, Legal, Stands, WasJudged}
+use Rattle.house_history.specs.Legal.{StandsAlone, HasText, IsBefore, Legal, Stands, WasJudged}
 use Rattle.house_history.proofs.Follow.{had_been_sent, never_below, only_verdict}
 use Rattle.house_history.proofs.Logs.{added_logged, rising_of}
 use Rattle.house_history.proofs.Parts.{alone, default_any, given_of, itself, same}

@@ -1,4 +1,4 @@
--- Which histories are legal.
+-- Which histories are legal, and what follows of them.
 use Rattle.std.specs.Prelude.{◌≡◌, ◌<◌, ◌^◌, ℕ, List, [], ◌∷◌, All, AllPairs, Contains}
 use Rattle.change_ring.specs.Log.{IsLegalLog}
 use Rattle.delivery_token.specs.Keys.{Below}
@@ -8,7 +8,8 @@ use Rattle.delivery_token.specs.declared.Verdict.{Verdict}
 use Rattle.delivery_token.specs.declared.Verdict.TheVariants.{Stored, Refused}
 use Rattle.house_history.specs.declared.event.Event.{Event}
 use Rattle.house_history.specs.declared.event.Event.TheVariants.{Sent, Withdrawn, Judged, Changed}
-use Rattle.house_history.specs.Events.{changes_in, judged_in, life, sent_by}
+use Rattle.house_history.specs.Events.{changes_in, judged_in, life, sent_by, accepted_in}
+use Rattle.world.specs.Law.{StandsOnce}
 
 -- of one seat, i is before j
 abbrev pub IsBefore : Job → Job → Type 0
@@ -62,3 +63,11 @@ WasWithdrawn log j = (t : ℕ) × Contains (sent_by j.key.seat log) (j, t) × Co
 -- the message with this UID in mailbox m has this text: that of the copy which was stored there under it
 abbrev pub HasText : List Event → ℕ → ℕ → Text → Type 0
 HasText log m uid text = (j : Job) × (j.mailbox ≡ m) × (j.text ≡ text) × Stands log j uid
+
+-- ---- what follows of a legal history
+
+-- The copy's key stands among those that its mailbox accepted under this UID, at one position; under any other UID it doesn't stand there, and in any
+-- other mailbox it doesn't stand at all.
+pub record StandsAlone (log : List Event) (j : Job) (uid : ℕ) : Type 0 where
+  pub once : StandsOnce (accepted_in j.mailbox log) j.key uid
+  pub nowhere_else : (m w : ℕ) → Contains (accepted_in m log) (j.key, w) → (m ≡ j.mailbox) × (w ≡ uid)

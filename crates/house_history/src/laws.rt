@@ -12,8 +12,7 @@ ghost use Rattle.delivery_token.specs.declared.Verdict.TheVariants.{Refused};
 ghost use Rattle.world.specs.Law.{IsPart};
 ghost use Rattle.house_history.specs.declared.event.Event.{Event};
 ghost use Rattle.house_history.specs.Events.{accepted_in, changes_in, judged_in, keys_of_seat, sent_by, sent_to, uids_of};
-ghost use Rattle.house_history.specs.Laws.{StandsAlone};
-ghost use Rattle.house_history.specs.Legal.{HasUid, Legal, Stands, WasJudged, WasWithdrawn};
+ghost use Rattle.house_history.specs.Legal.{StandsAlone, HasUid, Legal, Stands, WasJudged, WasWithdrawn};
 ghost use Rattle.house_history.specs.Views.{IsNotedIn, IsSettledIn};
 
 use delivery_token::Verdict;

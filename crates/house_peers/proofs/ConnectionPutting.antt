@@ -3,7 +3,7 @@ use Rattle.std.proofs.Common.{◌≡◌, ◌≢◌, ℕ, zero, suc, ◌+◌, ◌
 use Rattle.change_ring.specs.Log.{no_flags}
 use Rattle.std.specs.Prelude.{All}
 use Rattle.std.proofs.lemmas.List.Elements.{All-contains}
-use Rattle.delivery_token.specs.Log.{heard_at_once}
+use Rattle.delivery_token.specs.Copies.{heard_at_once, copies, SlotsFor}
 use Rattle.delivery_token.specs.Keys.{Below, AtLeast, past}
 use Rattle.delivery_token.specs.declared.CopyKey.{CopyKey}
 use Rattle.delivery_token.specs.declared.Job.{Job}
@@ -12,8 +12,6 @@ use Rattle.delivery_token.specs.declared.Verdict.TheVariants.{Refused}
 use Rattle.delivery_token.specs.declared.log.Noted.{Noted}
 use Rattle.lmtp_machine.specs.Dialogue.{Phase, Setting, Submission, keys_from}
 use Rattle.lmtp_machine.specs.Kept.{AreMessages, IsMessage}
-use Rattle.delivery_token.specs.Copies.{copies}
-use Rattle.delivery_token.specs.Heard.{SlotsFor}
 use Rattle.delivery_token.specs.Laws.{TellPositions}
 use Rattle.delivery_token.specs.Verdicts.{Hears}
 use Rattle.delivery_token.specs.inner.Verdicts.{heard_verdict}

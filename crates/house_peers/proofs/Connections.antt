@@ -4,12 +4,11 @@ use Rattle.std.proofs.Common.{◌≡◌, ℕ, ◌+◌, ◌<◌, ◌≤◌, Bool,
 use Rattle.delivery_token.specs.declared.CopyKey.{CopyKey}
 use Rattle.delivery_token.specs.declared.Verdict.{Verdict}
 use Rattle.delivery_token.specs.declared.log.Noted.{Noted}
-use Rattle.envelope.specs.Directory.{Directory, marked}
+use Rattle.envelope.specs.Names.{Directory, marked}
 use Rattle.lmtp_machine.specs.declared.connection.What.{What}
 use Rattle.lmtp_machine.specs.declared.connection.What.TheVariants.{More, Submit, Quit}
-use Rattle.lmtp_machine.specs.Replies.{wire}
+use Rattle.lmtp_machine.specs.Dialogue.{wire, Phase, Start, Ready, Transaction, Data, Waiting, Ended, Standing, Setting, Submission, Turn, on_event}
 use Rattle.lmtp_machine.specs.Dialogue as dialogue
-use Rattle.lmtp_machine.specs.Dialogue.{Phase, Start, Ready, Transaction, Data, Waiting, Ended, Standing, Setting, Submission, Turn, on_event}
 use Rattle.lmtp_machine.specs.Conversation.{Conversation, IsListening, opened}
 use Rattle.lmtp_machine.specs.Calls.{Happens, Tells}
 use Rattle.lmtp_machine.specs.inner.Calls.{Taken}
@@ -25,7 +24,7 @@ use Rattle.house_peers.specs.inner.Meeting.{meets}
 use Rattle.house_peers.specs.Taking.{AreKnown, with_all_said, with_nobody_there}
 use Rattle.house_peers.specs.inner.Taking.{TakenBy}
 use Rattle.delivery_token.specs.Keys.{AtLeast}
-use Rattle.delivery_token.specs.Heard.{SlotsFor}
+use Rattle.delivery_token.specs.Copies.{SlotsFor}
 use Rattle.house_peers.specs.ConnectionStands.{IsAwaited, Proceeded, StandsForConnection}
 use Rattle.house_peers.specs.inner.ConnectionStands.{WentOn, WorkedOff}
 use Rattle.house_peers.specs.inner.ConnectionSteps.{SaidVerdicts}

@@ -13,7 +13,7 @@ use Rattle.std.specs.Option.{is_some}
 use Rattle.delivery_token.specs.Copies.{copies, put_effort}
 use Rattle.imap_session.specs.Exchange.{Sent}
 use Rattle.imap_session.specs.Store.{Follows, to_follow}
-use Rattle.house_peers.specs.SeatedVisitor as seated
+use Rattle.house_peers.specs.Visitor as seated
 use Rattle.house_peers.specs.Caller.{copies_of}
 use Rattle.house_peers.specs.inner.Taking.{AwaitsIn}
 use Rattle.delivery_token.proofs.Copies.{length-copies}

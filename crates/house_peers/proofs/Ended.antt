@@ -4,8 +4,8 @@ use Rattle.delivery_token.specs.declared.log.Noted.{Noted}
 use Rattle.imap_session.specs.declared.standing.After.{After}
 use Rattle.imap_session.specs.Exchange.{Call, Answer, Standing}
 use Rattle.imap_session.specs.Dialogue.{AnswersOne, Bytes, Converses, Line, Sends, goes_on, parts, silent}
-use Rattle.house_peers.specs.SeatedVisitor as seated
-use Rattle.house_peers.specs.SeatedVisitor.{GoesOn, SeatedVisitor}
+use Rattle.house_peers.specs.Visitor as seated
+use Rattle.house_peers.specs.Visitor.{GoesOn, SeatedVisitor}
 
 -- only a session that goes on answers what a client sent
 one_goes : {S : Type 0} (step : S → Call → Answer → S → Type 0) (now : Standing) (one : Sends) (old new : S) (before after : List ℕ) (how : After) (next : Standing) → AnswersOne step now one old new before after how next → now.ended ≡ false

@@ -5,7 +5,7 @@ use Rattle.delivery_token.specs.declared.CopyKey.{CopyKey}
 use Rattle.delivery_token.specs.declared.Verdict.{Verdict}
 use Rattle.delivery_token.specs.declared.log.Noted.{Noted}
 use Rattle.delivery_token.specs.Copies as submission
-use Rattle.delivery_token.specs.Heard.{AreAnswered, SlotsFor}
+use Rattle.delivery_token.specs.Copies.{AreAnswered, SlotsFor}
 use Rattle.delivery_token.specs.Laws.{TellPositions}
 use Rattle.delivery_token.specs.Verdicts.{AreKnown, Hears}
 use Rattle.delivery_token.proofs.Copies.{all_put, no-key}
@@ -14,11 +14,10 @@ use Rattle.imap_session.specs.declared.standing.After.{After}
 use Rattle.imap_session.specs.Exchange.{Call, Answer, Mailing, Sent, Standing, Turn, may_send}
 use Rattle.imap_session.specs.Commands.{turn_of_verdict, without_sent}
 use Rattle.imap_session.specs.Dialogue.{Converses, Sends, may_follow}
-use Rattle.house_peers.specs.Visitor.{HasAnswered, Visitor}
+use Rattle.house_peers.specs.Visitor.{HasAnswered, Visitor, Awaits, IsAnswered, IsSettled, SeatedVisitor, Works, copies_of, keys_of, sent_by, told}
 use Rattle.house_peers.specs.HouseSession as place
 use Rattle.house_peers.specs.HouseSession.{Answered, AnsweredVerdict, HouseSession, Turned}
-use Rattle.house_peers.specs.SeatedVisitor.{Awaits, IsAnswered, IsSettled, SeatedVisitor, Works, copies_of, keys_of, sent_by, told}
-use Rattle.house_peers.specs.SeatedVisitor as seated
+use Rattle.house_peers.specs.Visitor as seated
 use Rattle.delivery_token.specs.Keys.{AtLeast, Below}
 use Rattle.house_peers.proofs.Rising.{NumbersRise, converses_rise, idles_keep, then_rises, verdict_rises}
 use Rattle.house_peers.specs.SeatedSession.{HearsVerdict, key_with, Proceeded, SeatedTurned, SeatedSession, StandsForSeated, submitted_at, with_nobody_there, with_place}

@@ -3,7 +3,7 @@ use Rattle.std.proofs.Common.{◌≡◌, ℕ, suc, inl, inr, arith, List, [], �
 use Rattle.std.specs.Prelude.{All}
 use Rattle.std.proofs.lemmas.List.Elements.{All-contains}
 use Rattle.delivery_token.specs.Keys.{AtLeast, Below, past}
-use Rattle.delivery_token.specs.Log.{heard_at_once}
+use Rattle.delivery_token.specs.Copies.{heard_at_once, SlotsFor}
 use Rattle.delivery_token.specs.declared.CopyKey.{CopyKey}
 use Rattle.delivery_token.specs.declared.Job.{Job}
 use Rattle.delivery_token.specs.declared.Refusal.{Refusal}
@@ -11,12 +11,11 @@ use Rattle.delivery_token.specs.declared.Verdict.{Verdict}
 use Rattle.delivery_token.specs.declared.Verdict.TheVariants.{Refused}
 use Rattle.delivery_token.specs.declared.log.Noted.{Noted}
 use Rattle.delivery_token.specs.Copies as submission
-use Rattle.delivery_token.specs.Heard.{SlotsFor}
 use Rattle.delivery_token.specs.inner.Verdicts.{heard_verdict}
 use Rattle.delivery_token.proofs.Copies.{front_within}
 use Rattle.delivery_token.proofs.Slots.{slot_now, slots_push}
 use Rattle.imap_session.specs.Exchange.{Sent}
-use Rattle.house_peers.specs.SeatedVisitor.{SeatedVisitor, copies_of, keys_of, sent_by}
+use Rattle.house_peers.specs.Visitor.{SeatedVisitor, copies_of, keys_of, sent_by}
 use Rattle.house_peers.specs.SeatedSession.{SeatedSession, StandsForSeated, due, key_with, noted_put, submitted_at}
 
 -- the copy of this message

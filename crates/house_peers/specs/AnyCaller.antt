@@ -5,12 +5,11 @@ use Rattle.delivery_token.specs.declared.CopyKey.{CopyKey}
 use Rattle.delivery_token.specs.declared.Job.{Job}
 use Rattle.delivery_token.specs.declared.Verdict.{Verdict}
 use Rattle.delivery_token.specs.declared.log.Noted.{Noted}
-use Rattle.envelope.specs.Directory.{Directory}
+use Rattle.envelope.specs.Names.{Directory}
 use Rattle.lmtp_machine.specs.declared.connection.What.{What}
 use Rattle.lmtp_machine.specs.declared.connection.What.TheVariants.{More, Submit, Quit}
 use Rattle.lmtp_machine.specs.Dialogue.{Setting, Submission}
-use Rattle.delivery_token.specs.Copies.{copies}
-use Rattle.delivery_token.specs.Heard.{AreAnswered}
+use Rattle.delivery_token.specs.Copies.{copies, AreAnswered}
 use Rattle.house_peers.specs.Speech.{Occasion, Opened, Answered, Speech, wire}
 
 -- on which terms connections are served: by this directory, with the marks that it has now, with this host's name, and up to so many bytes a message

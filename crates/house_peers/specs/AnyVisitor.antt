@@ -6,9 +6,8 @@ use Rattle.delivery_token.specs.declared.CopyKey.{CopyKey}
 use Rattle.delivery_token.specs.declared.Job.{Job}
 use Rattle.delivery_token.specs.declared.Verdict.{Verdict}
 use Rattle.delivery_token.specs.declared.log.Noted.{Noted}
-use Rattle.delivery_token.specs.Copies.{copies}
-use Rattle.delivery_token.specs.Heard.{AreAnswered}
-use Rattle.house_peers.specs.Guest.{Guest}
+use Rattle.delivery_token.specs.Copies.{copies, AreAnswered}
+use Rattle.house_peers.specs.Speech.{Guest}
 
 module _ (guest : Guest) where
   -- where its session stands; the bytes that came and aren't answered yet; and what was said and isn't printed yet

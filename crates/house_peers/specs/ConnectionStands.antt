@@ -3,7 +3,7 @@ use Rattle.std.specs.Prelude.{◌≡◌, ℕ, Bool, List, [], ◌∷◌, drop, l
 use Rattle.delivery_token.specs.declared.CopyKey.{CopyKey}
 use Rattle.delivery_token.specs.declared.log.Noted.{Noted}
 use Rattle.delivery_token.specs.Keys.{AtLeast}
-use Rattle.delivery_token.specs.Heard.{SlotsFor}
+use Rattle.delivery_token.specs.Copies.{SlotsFor}
 use Rattle.lmtp_machine.specs.declared.connection.What.{What}
 use Rattle.lmtp_machine.specs.Dialogue.{Phase, Waiting, Submission}
 use Rattle.lmtp_machine.specs.Kept.{Kept, AreMessages}

@@ -7,7 +7,7 @@ use Rattle.imap_session.specs.Commands.{due_of, greeting}
 use Rattle.imap_session.specs.Store.{AnswersVerdict, IdleTurns}
 use Rattle.imap_session.specs.Dialogue.{Converses, Sends, may_follow, spelled}
 use Rattle.imap_session.specs.Folders.{admission_of, folders_of}
-use Rattle.house_peers.specs.Guest.{Guest}
+use Rattle.house_peers.specs.Speech.{Guest}
 
 module _ {S : Type 0} (step : S → Call → Answer → S → Type 0) (at : Standing) (waits : List ℕ) (old new : S) where
   -- some of the bytes that waited were answered over a store, in their order, and this was said

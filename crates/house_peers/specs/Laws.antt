@@ -1,9 +1,9 @@
 -- What holds of whatever a connection works off.
 use Rattle.std.specs.Prelude.{◌≡◌, ℕ}
-use Rattle.envelope.specs.Directory.{Directory}
+use Rattle.envelope.specs.Names.{Directory}
 use Rattle.lmtp_machine.specs.declared.connection.What.{What}
 use Rattle.lmtp_machine.specs.Dialogue.{Setting, Turn, Waiting}
-use Rattle.lmtp_machine.specs.Calls.{IsQuiet}
+use Rattle.lmtp_machine.specs.Conversation.{IsQuiet}
 use Rattle.house_peers.specs.Talk.{Talk, WorksOff}
 
 -- all that waited waits still, and nothing was said

@@ -1,5 +1,4 @@
 pub mod Speech
-pub mod Guest
 pub mod AnyCaller
 pub mod AnyVisitor
 pub mod Lmtp
@@ -12,6 +11,5 @@ pub mod ConnectionStands
 pub mod Laws
 pub mod Visitor
 pub mod HouseSession
-pub mod SeatedVisitor
 pub mod SeatedSession
 pub mod inner

@@ -3,11 +3,10 @@ use Rattle.std.specs.Prelude.{◌++◌}
 use Rattle.line_io.specs.Wire.{crlf}
 use Rattle.lmtp_machine.specs.declared.reply.Reply.{Reply}
 use Rattle.lmtp_machine.specs.declared.reply.Reply.TheVariants.{Delivered}
-use Rattle.lmtp_machine.specs.Replies.{reply_text}
+use Rattle.lmtp_machine.specs.Dialogue.{reply_text, Turn, on_event, verdict_reply}
 use Rattle.lmtp_machine.specs.Calls.{Tells}
 use Rattle.lmtp_machine.specs.Kept.{Kept}
 use Rattle.lmtp_machine.specs.Dialogue as dialogue
-use Rattle.lmtp_machine.specs.Dialogue.{Turn, on_event, verdict_reply}
 use Rattle.lmtp_machine.specs.Conversation.{Conversation, Leads, led_by, opened}
 use Rattle.house_peers.specs.Speech.{Occasion, Opened, Answered, Speech}
 

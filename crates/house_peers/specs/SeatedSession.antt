@@ -7,16 +7,14 @@ use Rattle.delivery_token.specs.declared.Job.{Job}
 use Rattle.delivery_token.specs.declared.Verdict.{Verdict}
 use Rattle.delivery_token.specs.declared.log.Noted.{Noted}
 use Rattle.delivery_token.specs.Copies as submission
-use Rattle.delivery_token.specs.Copies.{put_effort}
-use Rattle.delivery_token.specs.Heard.{SlotsFor}
+use Rattle.delivery_token.specs.Copies.{put_effort, SlotsFor}
 use Rattle.delivery_token.specs.Verdicts as verdicts
 use Rattle.delivery_token.specs.Verdicts.{Hears}
 use Rattle.imap_session.specs.Exchange.{Call, Answer, Sent}
 use Rattle.imap_session.specs.Store.{IdleTurns, to_follow}
-use Rattle.house_peers.specs.Visitor.{HasAnswered, Visitor}
+use Rattle.house_peers.specs.Visitor.{HasAnswered, Visitor, Proceeds, SeatedVisitor, copies_of, keys_of, sent_by}
 use Rattle.house_peers.specs.HouseSession as place
 use Rattle.house_peers.specs.HouseSession.{HouseSession}
-use Rattle.house_peers.specs.SeatedVisitor.{Proceeds, SeatedVisitor, copies_of, keys_of, sent_by}
 
 -- the session at its place, its seat and serial, whether its client is gone, and of the copy that was put the verdict, or None while that is awaited
 pub record SeatedSession : Type 0 where

@@ -1,5 +1,5 @@
 -- A connection of the house that speaks LMTP: where its dialogue stands, what waits to be taken, and what was said and not printed yet.
-use Rattle.envelope.specs.Directory.{Directory}
+use Rattle.envelope.specs.Names.{Directory}
 use Rattle.lmtp_machine.specs.declared.connection.What.{What}
 use Rattle.lmtp_machine.specs.Dialogue.{Setting, Turn}
 use Rattle.house_peers.specs.AnyCaller as any

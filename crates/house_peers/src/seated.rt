@@ -11,8 +11,8 @@ ghost use Rattle.imap_session.specs.Exchange.{is_idling};
 ghost use Rattle.imap_session.specs.Store.{Starves};
 ghost use Rattle.imap_session.specs.Dialogue.{Asks};
 ghost use Rattle.house_peers.specs.HouseSession.{HadTurn, with_all_said, with_more};
-ghost use Rattle.house_peers.specs.SeatedVisitor as spec;
-ghost use Rattle.house_peers.specs.SeatedVisitor.{Awaits, IsSettled, seated_greeted};
+ghost use Rattle.house_peers.specs.Visitor as spec;
+ghost use Rattle.house_peers.specs.Visitor.{Awaits, IsSettled, seated_greeted};
 ghost use Rattle.house_peers.specs.SeatedSession.{HasWork, HearsVerdict, IsHeard, Proceeded, SeatedTurned, StandsForSeated, due, noted_put, seat_effort, submitted_at, with_nobody_there, with_place};
 
 use crate::session::HouseSession;

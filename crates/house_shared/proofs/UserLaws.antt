@@ -2,7 +2,7 @@
 use Rattle.std.proofs.Common.{◌≡◌, ◌<◌, ◌-◌, ◌∙◌, ℕ, zero, suc, ap, sym, Bool, true, false, List, [], ◌∷◌, Some, IfSome, length, drop, slice_get, nat_eq, arith}
 use Rattle.std.specs.Prelude.{if◌then◌else◌}
 use Rattle.std.proofs.Math.Dec.{eqb-suc-zero}
-use Rattle.envelope.specs.Directory.{Home}
+use Rattle.envelope.specs.Names.{Home}
 use Rattle.house_shared.specs.Users.{is_inbox, user_numbered}
 
 -- the mailbox at this position is, or isn't, an INBOX

@@ -1,6 +1,6 @@
 -- What is made before the first thread runs: the shared state that all share, and room for what the threads will leave.
 use Rattle.std.specs.Prelude.{◌≡◌, ◌≤◌, ◌*◌, ◌+◌, ◌-◌, ◌++◌, ℕ, List, [], All, length, map, replicate, vec_capacity}
-use Rattle.envelope.specs.Directory.{Directory}
+use Rattle.envelope.specs.Names.{Directory}
 use Rattle.lane_work.specs.Rooms.{AreRooms}
 use Rattle.shard_queue.specs.Reply.{senders_of}
 use Rattle.shard_queue.specs.Permits.{capacity_of, producers_of}

@@ -1,6 +1,6 @@
 -- The users of a directory, by number.
 use Rattle.std.specs.Prelude.{ℕ, ◌-◌, ◌==◌, Bool, true, false, if◌then◌else◌, List, [], ◌∷◌, Option, Some, None}
-use Rattle.envelope.specs.Directory.{Home}
+use Rattle.envelope.specs.Names.{Home}
 
 abbrev pub is_inbox : Option (List ℕ) → Bool
 is_inbox None = true

@@ -3,7 +3,7 @@
 
 ghost use Rattle.std.specs.Prelude.{◌≡◌, ◌<◌, ◌≤◌, IfOk, [], length, map, vec_len};
 ghost use Rattle.budget.specs.Limits.{limit_of};
-ghost use Rattle.mailbox.specs.Stands.{Stands};
+ghost use Rattle.mailbox.specs.Mailbox.{Stands};
 ghost use Rattle.house_shared.specs.inner.Making.{AreFittings, ArePapers};
 
 use crate::bells::{Bells, hang_bells};

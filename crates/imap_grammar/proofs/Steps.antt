@@ -1,10 +1,10 @@
 -- One byte further.
-use Rattle.std.proofs.Common.{◌≡◌, ℕ, suc, ◌+◌, ◌<◌, Bool, true, false, cond, List, [], ◌∷◌, length, get_or, drop, ap, refl, sym}
-use Rattle.std.specs.Prelude.{Some, None, ◌==◌, ◌||◌, ◌&&◌, not}
+use Rattle.std.proofs.Common.{◌≡◌, ℕ, suc, ◌+◌, ◌<◌, Bool, true, false, cond, List, [], ◌∷◌, length, get_or, drop, ap, refl, sym, ◌++◌, ◌∙◌, arith, append_assoc}
+use Rattle.std.specs.Prelude.{Some, None, ◌==◌, ◌||◌, ◌&&◌, not, Option}
 use Rattle.std.specs.Option.{option_map}
 use Rattle.std.proofs.lemmas.Bool.Decides.{Decides-eqb}
 use Rattle.std.specs.Bool.{Decides}
-use Rattle.envelope.specs.Directory.{unquoted}
+use Rattle.envelope.specs.Names.{unquoted}
 use Rattle.std.proofs.lemmas.List.{length-append}
 use Rattle.envelope.proofs.Steps.{drop_step}
 use Rattle.imap_grammar.specs.Bytes.{is_special, is_quotable}
@@ -14,8 +14,6 @@ use Rattle.std.specs.Char.{to_ascii_lowercase}
 use Rattle.imap_grammar.specs.inner.Letters.{past_letter}
 use Rattle.std.specs.Str.{bytes_eq, str_eq_ignore_ascii_case as is_same}
 use Rattle.envelope.specs.Reading.{past_byte}
-use Rattle.std.specs.Prelude.{Option}
-use Rattle.std.proofs.Common.{◌++◌, ◌∙◌, arith, append_assoc}
 use Rattle.imap_grammar.specs.Literals.{backslashed, last_position, position_or, quoted}
 
 pub quoted_step : (e : Bool) (xs : List ℕ) (i : ℕ) → i < length xs

@@ -12,7 +12,7 @@ use Rattle.envelope.proofs.Tails.{stops_after, taken_length, starts_some}
 use Rattle.envelope.proofs.Tokens.{Stops, span_len, some_again, first_not}
 use Rattle.envelope.proofs.Words.{space_is}
 use Rattle.envelope.specs.Bytes.{is_space, is_not_space}
-use Rattle.envelope.specs.Directory.{value_of, unquoted, begins_quoted}
+use Rattle.envelope.specs.Names.{value_of, unquoted, begins_quoted}
 use Rattle.envelope.specs.Grammar.{Many, Some1, Gap}
 use Rattle.envelope.specs.Reading.{◌>>=◌, first_is, some_len, after_spaces}
 use Rattle.imap_grammar.specs.Bytes.{is_special, is_quotable}

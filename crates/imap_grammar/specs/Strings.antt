@@ -1,7 +1,7 @@
 -- Strings at the front of a text: an atom, or a quoted string. Reading has these names too.
 use Rattle.std.specs.Prelude.{ℕ, suc, Bool, false, List, [], ◌∷◌, take, drop, Option, Some, None, ◌==◌, ◌||◌, if◌then◌else◌}
 use Rattle.std.specs.Option.{option_map}
-use Rattle.envelope.specs.Directory.{value_of}
+use Rattle.envelope.specs.Names.{value_of}
 use Rattle.envelope.specs.Reading.{◌>>=◌, first_is, some_len}
 use Rattle.imap_grammar.specs.Bytes.{is_quotable, is_special}
 

@@ -6,7 +6,7 @@ ghost use Rattle.std.specs.Option.{option_copied, option_map};
 ghost use Rattle.std.specs.Str.{bytes_eq, str_eq_ignore_ascii_case as is_same};
 ghost use Rattle.mail_date.specs.Fields.{past_word};
 ghost use Rattle.imap_grammar.specs.inner.Searching.{searched, first_letter};
-ghost use Rattle.envelope.specs.Directory.{value_of, unquoted};
+ghost use Rattle.envelope.specs.Names.{value_of, unquoted};
 
 use crate::letters::{Folds, past_letter, past_letter_of};
 use envelope::past_byte;
@@ -135,7 +135,7 @@ pub struct Name<'a> {
 
 impl<'a> Model for Name<'a> {
     ghost use Rattle.std.specs.Prelude.{List, ℕ};
-    ghost use Rattle.envelope.specs.Directory.{value_of};
+    ghost use Rattle.envelope.specs.Names.{value_of};
 
     ghost Value = { List ℕ };
 

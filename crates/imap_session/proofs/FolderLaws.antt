@@ -3,7 +3,7 @@ use Rattle.std.proofs.Common.{◌≡◌, ◌∙◌, ℕ, zero, suc, ◌+◌, ◌
 use Rattle.std.specs.Prelude.{IfSome, slice_get, ◌||◌}
 use Rattle.std.specs.List.{list_any}
 use Rattle.std.specs.Str.{bytes_eq}
-use Rattle.envelope.specs.Directory.{Home}
+use Rattle.envelope.specs.Names.{Home}
 use Rattle.imap_session.specs.Exchange.{Folder}
 use Rattle.imap_session.specs.Folders.{folders_from}
 

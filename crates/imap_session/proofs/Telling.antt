@@ -31,7 +31,8 @@ use Rattle.imap_session.specs.declared.standing.Selected.{Selected}
 use Rattle.imap_session.specs.declared.standing.Profile.{Profile}
 use Rattle.imap_session.specs.declared.standing.Profile.TheVariants.{Standard, Compatible}
 use Rattle.imap_session.proofs.Barring.{answering_has}
-use Rattle.imap_session.specs.Exchange.{Batch, Origin, Client, Copied, Discard, PendingLiteral, Exchange, Expunge, Feed, Folder, ForNothing, ForVerdict, Mailing, Standing, Wait, Write, bye, kept_behind, kept_tag, refusal_text}
+use Rattle.imap_session.specs.Exchange.{Batch, Origin, Client, Copied, Discard, PendingLiteral, Exchange, Expunge, Feed, Folder, ForNothing, ForVerdict, Mailing, Standing, Wait, Write, bye, refusal_text}
+use Rattle.imap_session.specs.Happenings.{kept_behind, kept_tag}
 use Rattle.imap_session.specs.Commands.{fault_tag, date_for, flags_for, mailbox_for, answering, arguments_text, subscribing, telling_recent, appended_words, asking, coming, closing, completed, counting, entering, expunge_set, fault_text, fetch_messages, fetching, folder_of, found_in, if_writable, is_over, last_number, long_rest_text, long_text, most_unasked, messages_done, nowhere, number_named, on_chosen, on_command, on_folder, on_found, on_idle_line, on_rest, on_text, on_verdict, over, refused_text, says, search_done, search_known, search_messages, searching, showing, store_messages, storing, turn_of_long_line, unlimited, wanting, wanting_for, wrong_state, entered_text, copies_of, copy_of, copy_to, copy_messages, empty_batch, gathering, most_copied, most_in_batch, move_done, copied_words, moving, on_stored, submitting_first, taking_back, told_copied, with_copy, with_message, with_validity}
 use Rattle.imap_session.specs.Telling.{LineTellsNoUid, RefusalTellsNoUid, TellsNoUid, VerdictTellsUid, WordsTellWhich, tells_uid, StoredTellsUid}
 use Rattle.imap_session.proofs.Appends.{asked_at, sent_at}

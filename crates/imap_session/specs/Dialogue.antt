@@ -15,11 +15,6 @@ use Rattle.imap_session.specs.Store.{Answers, AnswersVerdict, IdleTurns, Met, Ta
 abbrev pub most_bytes : ℕ
 most_bytes = 8192
 
--- the room that an answer reserves before anything is done: for a line that is said again and 165 bytes, beside the tag of a command that isn't done
--- yet
-abbrev pub answer_room : ℕ
-answer_room = 8357
-
 -- where a client's dialogue stands: where its session does, and the bytes of the line that has not ended yet
 pub record Dialogue : Type 0 where
   pub standing : Standing
@@ -126,11 +121,6 @@ pub record Took {S : Type 0} (step : S → Call → Answer → S → Type 0) (d 
   pub is : progress.after ≡ None ⊎ (progress.after ≡ Some how)
 
 -- ---- turns while it idles
-
--- how long the tag is of a command that isn't done yet
-abbrev pub tag_len : Option (List ℕ) → ℕ
-tag_len None = 0
-tag_len (Some tag) = length tag
 
 -- The session had a turn over a store, while it idles, and showed so many changes; the connection stands for what that leads to.
 pub record Turns {S : Type 0} (step : S → Call → Answer → S → Type 0) (d : Dialogue) (old new : S) (before after : List ℕ) (count : ℕ)

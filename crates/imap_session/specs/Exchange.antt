@@ -172,14 +172,6 @@ waits_for now = waits_sent now.mailing.sent (waits_begun now.mailing.begun (wait
 abbrev pub may_send : Standing → After
 may_send now = if now.ended then Bye else waits_for now
 
--- the tag of a command that isn't done yet: of an IDLE, or of one that goes on behind a literal
-abbrev pub kept_behind : Option PendingLiteral → Option (List ℕ) → Option (List ℕ)
-kept_behind None idling = idling
-kept_behind (Some a) idling = Some a.tag
-
-abbrev pub kept_tag : Standing → Option (List ℕ)
-kept_tag now = kept_behind now.mailing.begun now.idling
-
 -- it waits for DONE, and may have a turn while it does
 abbrev pub is_idling : Standing → Bool
 is_idling now = is_some now.idling && not now.ended

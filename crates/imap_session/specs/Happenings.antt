@@ -119,3 +119,21 @@ pub data Lived {S : Type 0} (step : S → Call → StoreAnswer → S → Type 0)
       → (happening : Happening) (bytes : List ℕ) (turn : Turn) (next : S) → IsTimely now happening → IsSentFor happening bytes
       → VerdictsArePrinted happening → leads_to now happening ≡ Some turn → Met step s turn.events next
       → Lived step first began (sent ++ bytes) (told ++ told_of now happening turn.bytes ∷ []) turn.standing next
+
+-- the room that an answer reserves before anything is done: for a line that is said again and 165 bytes, beside the tag of a command that isn't done
+-- yet
+abbrev pub answer_room : ℕ
+answer_room = 8357
+
+-- how long the tag is of a command that isn't done yet
+abbrev pub tag_len : Option (List ℕ) → ℕ
+tag_len None = 0
+tag_len (Some tag) = length tag
+
+-- the tag of a command that isn't done yet: of an IDLE, or of one that goes on behind a literal
+abbrev pub kept_behind : Option PendingLiteral → Option (List ℕ) → Option (List ℕ)
+kept_behind None idling = idling
+kept_behind (Some a) idling = Some a.tag
+
+abbrev pub kept_tag : Standing → Option (List ℕ)
+kept_tag now = kept_behind now.mailing.begun now.idling

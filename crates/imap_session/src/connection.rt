@@ -3,11 +3,12 @@
 
 ghost use Rattle.std.specs.Prelude.{◌≡◌, ◌↔◌, ◌+◌, ◌^◌, ◌<◌, ◌≤◌, ◌++◌, false, true, is_some, min, take, None, Some, Err, [], length, IfOk, IfSome, OnOk, OnErr};
 ghost use Rattle.std.specs.Option.{option_map};
-ghost use Rattle.imap_session.specs.Exchange.{Feed, Refused, Sent, begun_with, is_idling, kept_tag, may_send};
+ghost use Rattle.imap_session.specs.Exchange.{Feed, Refused, Sent, begun_with, is_idling, may_send};
+ghost use Rattle.imap_session.specs.Happenings.{kept_tag, tag_len};
 ghost use Rattle.imap_session.specs.Commands.{due_of, greeting, most_changes};
 ghost use Rattle.imap_session.specs.Store.{AnswersVerdict, IdleTurns, Starves, TakesBytes, room_for_verdict, to_follow};
 ghost use Rattle.mailbox.specs.declared.clients.MailFault.{MailFault};
-ghost use Rattle.imap_session.specs.Dialogue.{Asks, Dialogue, Hears, StandsFor, Takes, Took, Turns, may_follow, tag_len};
+ghost use Rattle.imap_session.specs.Dialogue.{Asks, Dialogue, Hears, StandsFor, Takes, Took, Turns, may_follow};
 
 use crate::session::Session;
 use crate::standing::{Admission, After, Append, Folder, Selected, SessionFault};

@@ -51,7 +51,8 @@ impl Model for Session {
 impl Session {
     ghost use Rattle.std.specs.Prelude.{◌≡◌, ◌≢◌, ◌==◌, ◌⊎◌, ◌+◌, ◌<◌, ◌≤◌, ◌++◌, ◌↔◌, take, min, if◌then◌else◌, true, false, [], codes, length, is_some, None, Some, Err, OnOk, OnErr, IfOk};
     ghost use Rattle.std.specs.Option.{option_copied, option_map};
-    ghost use Rattle.imap_session.specs.Exchange.{Client, Sent as SentSpec, begun_with, kept_tag, Feed, Refused, closed, is_idling, may_send, played, refusal_text, continuing, tagged};
+    ghost use Rattle.imap_session.specs.Exchange.{Client, Sent as SentSpec, begun_with, Feed, Refused, closed, is_idling, may_send, played, refusal_text, continuing, tagged};
+    ghost use Rattle.imap_session.specs.Happenings.{kept_tag};
     ghost use Rattle.imap_session.specs.Texts.{response_text};
     ghost use Rattle.imap_session.specs.declared.texts.ResponseText.TheVariants as texts;
     ghost use Rattle.imap_session.specs.Commands.{due_of, on_verdict, greeting, logged_in, long_line_text, most_changes, on_idle_line, turn_of_long_line};

@@ -22,21 +22,19 @@ use Rattle.imap_session.specs.Dialogue as dialogue
 use Rattle.imap_session.specs.Dialogue.{Answered, AnswersOne, Converses, Dialogue, Sends, StandsFor, spelled}
 use Rattle.imap_session.specs.Happenings as talk
 use Rattle.imap_session.specs.Happenings.{Happening, IsPrinted, IsSentFor, IsTimely, Lived, Told, VerdictsArePrinted, bytes_in, comes, leads_to, told_line, told_of, turns}
-use Rattle.session_thread.specs.ByHistory.{ByHistory}
+use Rattle.session_thread.specs.ByHistory.{ByHistory, WasShown, WasShownIn, shown_since, shown_then}
 use Rattle.session_thread.specs.Locks.{Holds, LockedStore}
-use Rattle.session_thread.specs.SinceSelect.{WasShown, WasShownIn, shown_since, shown_then}
 use Rattle.session_thread.specs.Life as life
 use Rattle.session_thread.specs.Life.{Departs, HasShown, HasTurn, IsForgotten, Moment, Says, SaysFirst, SaysInPart, Speaks, TellsVerdict, moment}
 use Rattle.session_thread.proofs.ByHistory.{holds_are_by_history, never, refused}
 use Rattle.session_thread.proofs.SinceSelect.{by_call, since_select}
 use Rattle.imap_stream.specs.declared.client_slot.Parting.{Parting}
 use Rattle.imap_stream.specs.declared.client_slot.Parting.TheVariants.{Broken, Gone, Over, Stopped}
-use Rattle.imap_stream.specs.Visits.{GoesOnShowing, Hears, HearsInPart, IsGreeted, LeadsTo, SendsAll, SendsFirst, ShowsAll, ShowsInPart, Tells, Visit, farewell, is_over, takes_bytes}
+use Rattle.imap_stream.specs.Visits.{GoesOnShowing, Hears, HearsInPart, IsGreeted, LeadsTo, SendsAll, SendsFirst, ShowsAll, ShowsInPart, Tells, Visit, farewell, is_over, takes_bytes, Beginning, EndsSo, HasAttended, HasLived, IsCutShort, IsQuiet, said_in}
 use Rattle.imap_stream.specs.Visits as visit
 use Rattle.imap_stream.specs.Attending.{Attended, Calls, Ends, HasCalled, HasParted, IsDismissed, no_call, one_more}
 use Rattle.imap_stream.specs.Attending as visits
 use Rattle.imap_stream.specs.inner.Attending.{HearsOut}
-use Rattle.imap_stream.specs.Living.{Beginning, EndsSo, HasAttended, HasLived, IsCutShort, IsQuiet, said_in}
 
 -- ---- legal histories
 

@@ -1,4 +1,3 @@
 pub mod Attending
 pub mod Visits
-pub mod Living
 pub mod inner

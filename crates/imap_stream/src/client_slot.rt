@@ -7,8 +7,7 @@ ghost use Rattle.house_history.specs.Legal.{Legal};
 ghost use Rattle.imap_session.specs.Exchange.{Admission, Folder, begun_with};
 ghost use Rattle.session_thread.specs.Locks.{LockedStore};
 ghost use Rattle.imap_stream.specs.Attending.{Attended, Ends, HasCalled, IsDismissed};
-ghost use Rattle.imap_stream.specs.Living.{HasAttended};
-ghost use Rattle.imap_stream.specs.Visits.{IsGreeted, takes_bytes};
+ghost use Rattle.imap_stream.specs.Visits.{HasAttended, IsGreeted, takes_bytes};
 ghost use Rattle.imap_stream.specs.inner.Attending.{HearsOn, HearsOut};
 
 use crate::visit::Visit;

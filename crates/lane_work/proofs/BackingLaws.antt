@@ -7,27 +7,25 @@ use Rattle.delivery_token.specs.declared.Job.{Job}
 use Rattle.delivery_token.specs.declared.Verdict.{Verdict}
 use Rattle.delivery_token.specs.declared.Verdict.TheVariants.{Refused, Stored}
 use Rattle.delivery_token.specs.declared.log.Noted.{Noted}
-use Rattle.envelope.specs.Directory.{Directory, shard_of}
+use Rattle.envelope.specs.Names.{Directory, shard_of}
 use Rattle.house_history.specs.declared.event.Event.{Event}
 use Rattle.house_history.specs.Events.{sent_by, sent_of}
 use Rattle.house_history.specs.Legal.{Legal, WasJudged, WasWithdrawn}
 use Rattle.house_history.specs.Views.{IsNotedIn, IsSettledIn}
 use Rattle.house_history.proofs.Follow.{had_been_sent, never_judged, noted_own, settled_final, settled_later, withdrawn_later}
 use Rattle.house_history.proofs.Parts.{there}
-use Rattle.shard_queue.specs.Reply.{received}
+use Rattle.shard_queue.specs.Reply.{received, ReceiverPermit}
 use Rattle.shard_queue.specs.Shared.{IsStartOf}
-use Rattle.shard_queue.specs.Reply.{ReceiverPermit}
 use Rattle.shard_queue.specs.declared.lane.Entry.{Entry}
 use Rattle.shard_queue.specs.declared.lane.Entry.TheVariants.{Item, End}
 use Rattle.lane_work.specs.declared.desk.LanePermit.{LanePermit}
-use Rattle.lane_work.specs.Account.{HaveEnded}
+use Rattle.lane_work.specs.Account.{HaveEnded, FilledAlone, IsAtOnce, IsHeard, Room, WerePut, elsewhere, none, note_of, put, refused, room_at}
 use Rattle.lane_work.specs.Permits.{IsNew, put_by}
 use Rattle.lane_work.specs.Backing.{AreAllOf, BooksStand, HaveStood, KeepsBacked, WordsStand, IsBacked, IsBackedBy, IsShown, WasPut, WasSent}
 use Rattle.lane_work.specs.Ends.{ends_in}
 use Rattle.lane_work.specs.declared.desk.Desk.{Desk}
 use Rattle.lane_work.specs.inner.Backing.{GoesOnWith}
 use Rattle.lane_work.specs.Dispatching.{Dispatch, HasLearned, SendsOrKeeps, keeps, sends}
-use Rattle.lane_work.specs.Copies.{FilledAlone, IsAtOnce, IsHeard, Room, WerePut, elsewhere, none, note_of, put, refused, room_at}
 
 -- ---- the history goes on
 

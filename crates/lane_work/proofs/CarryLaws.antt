@@ -6,8 +6,7 @@ use Rattle.delivery_token.specs.declared.Job.{Job}
 use Rattle.delivery_token.specs.declared.Verdict.{Verdict}
 use Rattle.shard_queue.specs.Reply.{received}
 use Rattle.shard_queue.specs.Shared.{IsStartOf}
-use Rattle.lane_work.specs.Account.{AreBooksOf}
-use Rattle.lane_work.specs.Copies.{rooms_of}
+use Rattle.lane_work.specs.Account.{AreBooksOf, rooms_of}
 use Rattle.lane_work.specs.inner.Couriers.{CarriesOn}
 use Rattle.lane_work.specs.Permits.{put_by}
 use Rattle.lane_work.specs.inner.Copies.{WasJudged}

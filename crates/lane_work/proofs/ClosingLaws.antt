@@ -3,7 +3,7 @@ use Rattle.std.proofs.Common.{◌≡◌, ℕ, zero, suc, ◌+◌, ◌∙◌, Boo
 use Rattle.std.specs.Prelude.{nat_lt, nat_le}
 use Rattle.std.specs.List.{list_any}
 use Rattle.std.proofs.lemmas.Bool.Decides.{nat_tests}
-use Rattle.envelope.specs.Directory.{Directory, is_shut, marked}
+use Rattle.envelope.specs.Names.{Directory, is_shut, marked}
 use Rattle.lane_work.specs.declared.desk.Closing.{Closing}
 use Rattle.lane_work.specs.Account.{IsMarkedBy, is_closed_by}
 use Rattle.lane_work.specs.inner.Closing.{IsMarkedBefore, Marks, is_closed_at, is_closed_before}

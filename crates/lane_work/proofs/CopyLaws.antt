@@ -9,7 +9,7 @@ use Rattle.delivery_token.specs.declared.CopyKey.{CopyKey}
 use Rattle.delivery_token.specs.Text.{Text}
 use Rattle.delivery_token.specs.declared.Job.{Job}
 use Rattle.delivery_token.specs.declared.Verdict.{Verdict}
-use Rattle.envelope.specs.Directory.{Directory, shard_of}
+use Rattle.envelope.specs.Names.{Directory, shard_of}
 use Rattle.shard_queue.specs.declared.lane.Entry.{Entry}
 use Rattle.shard_queue.specs.declared.lane.Entry.TheVariants.{Item}
 use Rattle.delivery_token.specs.declared.log.Noted.{Noted}
@@ -18,8 +18,7 @@ use Rattle.shard_queue.specs.Shared.{IsStartOf}
 use Rattle.lane_work.specs.Talk.{Judged}
 use Rattle.lane_work.specs.declared.hearing.Torn.{Torn}
 use Rattle.std.specs.Prelude.{Result, Ok, Err, IfOk}
-use Rattle.lane_work.specs.Account.{AreBooks, AreBooksOf}
-use Rattle.lane_work.specs.Copies.{FilledAlone, IsAtOnce, IsHeard, Room, WerePut, none, put, elsewhere, refused, copies, copies_of, note_of, room_at, told}
+use Rattle.lane_work.specs.Account.{AreBooks, AreBooksOf, FilledAlone, IsAtOnce, IsHeard, Room, WerePut, none, put, elsewhere, refused, copies, copies_of, note_of, room_at, told}
 use Rattle.workers_sync.specs.Carried.{Carried, copy_of, judged_of}
 use Rattle.delivery_token.specs.Verdicts.{Fills, FillsIn}
 use Rattle.delivery_token.proofs.Fills.{fills_length}

@@ -6,7 +6,7 @@ use Rattle.shard_queue.specs.declared.lane.Entry.{Entry}
 use Rattle.shard_queue.specs.declared.lane.Entry.TheVariants.{Item, End}
 use Rattle.shard_queue.specs.Lane.{of}
 use Rattle.shard_queue.specs.Permits.{WasFull}
-use Rattle.lane_work.specs.Copies.{FilledAlone, Room}
+use Rattle.lane_work.specs.Account.{FilledAlone, Room}
 
 -- where nobody else put anything all entries are the first producer's
 all_own : (entries : List (Entry Job)) → ((p : ℕ) → of (suc p) entries ≡ []) → of 0 entries ≡ entries

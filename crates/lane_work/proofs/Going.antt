@@ -11,9 +11,8 @@ use Rattle.lmtp_machine.specs.declared.commands.Stage.TheVariants as stages
 use Rattle.lmtp_machine.specs.declared.reply.Reply.{Reply}
 use Rattle.lmtp_machine.specs.declared.reply.Reply.TheVariants.{Greeting}
 use Rattle.lmtp_machine.specs.Conversation.{Conversation, opened}
-use Rattle.lmtp_machine.specs.Dialogue.{Ended, Phase, Setting}
+use Rattle.lmtp_machine.specs.Dialogue.{Ended, Phase, Setting, reply_text, wire}
 use Rattle.lmtp_machine.specs.LmtpMachine.{LmtpMachine, StandsFor}
-use Rattle.lmtp_machine.specs.Replies.{reply_text, wire}
 use Rattle.shard_queue.specs.declared.lane.Entry.{Entry}
 use Rattle.lane_work.specs.Talk.{Judged, HasTaken, greeted}
 use Rattle.lane_work.specs.Account.{AreBooks, Premises}

@@ -6,13 +6,11 @@ use Rattle.delivery_token.specs.declared.Verdict.{Verdict}
 use Rattle.delivery_token.specs.declared.Verdict.TheVariants.{Stored, Refused}
 use Rattle.delivery_token.specs.declared.Refusal.TheVariants.{Full, NoMemory}
 use Rattle.delivery_token.specs.declared.log.Noted.{Noted}
-use Rattle.envelope.specs.Directory.{Directory, shard_of}
+use Rattle.envelope.specs.Names.{Directory, shard_of}
 use Rattle.shard_queue.specs.declared.lane.Entry.{Entry}
-use Rattle.shard_queue.specs.Permits.{ShardQueue, Ended, ConsumerPermit, Closed}
+use Rattle.shard_queue.specs.Permits.{ShardQueue, Ended, ConsumerPermit, Closed, said, history, ended_number}
 use Rattle.shard_queue.specs.Lane.{of}
-use Rattle.shard_queue.specs.Permits.{said, history, ended_number}
-use Rattle.lane_work.specs.Account.{Account, Premises}
-use Rattle.lane_work.specs.Copies.{IsAtOnce, IsHeard, Room, WerePut, note_of, none, put, elsewhere, refused}
+use Rattle.lane_work.specs.Account.{Account, Premises, IsAtOnce, IsHeard, Room, WerePut, note_of, none, put, elsewhere, refused}
 use Rattle.lane_work.specs.Histories.{AreHeard}
 use Rattle.lane_work.specs.Permits.{AreEnded}
 use Rattle.lane_work.specs.LanePermits.{AreClosed}

@@ -1,16 +1,15 @@
 -- Where a dialogue stands by its machine's stage, and what is said last there.
 use Rattle.std.proofs.Common.{◌≡◌, ◌≢◌, ◌∙◌, ◌++◌, ap, refl, sym, subst, List, ℕ, [], ◌∷◌, true, false}
-use Rattle.envelope.specs.Directory.{Directory}
+use Rattle.envelope.specs.Names.{Directory}
 use Rattle.lmtp_machine.specs.declared.commands.Stage.{Stage}
 use Rattle.lmtp_machine.specs.declared.commands.Stage.TheVariants as stages
 use Rattle.lmtp_machine.specs.declared.reply.Reply.TheVariants.{ShuttingDown}
 use Rattle.lmtp_machine.specs.Calls.{Happens}
 use Rattle.lmtp_machine.specs.Conversation.{Conversation}
-use Rattle.lmtp_machine.specs.Dialogue.{Phase, Start, Ready, Transaction, Data, Waiting, Ended}
+use Rattle.lmtp_machine.specs.Dialogue.{Phase, Start, Ready, Transaction, Data, Waiting, Ended, wire}
 use Rattle.lmtp_machine.specs.Dialogue as on
 use Rattle.lmtp_machine.specs.LmtpMachine.{LmtpMachine, StandsFor, IsHere, is_data}
 use Rattle.lmtp_machine.specs.Standing.{phase_of}
-use Rattle.lmtp_machine.specs.Replies.{wire}
 use Rattle.lane_work.specs.Streaming.{last_words}
 
 -- a machine that has ended stands for a dialogue that has ended

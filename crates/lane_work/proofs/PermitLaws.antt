@@ -5,24 +5,19 @@ use Rattle.std.proofs.lemmas.List.Elements.{filter_map-append, All-cons, All-hea
 use Rattle.delivery_token.specs.declared.Verdict.{Verdict}
 use Rattle.shard_queue.specs.declared.lane.Entry.TheVariants.{Item, End}
 use Rattle.delivery_token.specs.declared.Job.{Job}
-use Rattle.shard_queue.specs.Permits.{ShardQueue}
+use Rattle.shard_queue.specs.Permits.{ShardQueue, Ended, IsEnded, ended_number, said}
 use Rattle.lane_work.specs.declared.desk.LanePermit.{LanePermit}
 use Rattle.delivery_token.specs.declared.log.Noted.{Noted}
-use Rattle.shard_queue.specs.Permits.{Ended}
-use Rattle.shard_queue.specs.Reply.{ReplyChannel}
-use Rattle.shard_queue.specs.Reply.{SenderPermit}
+use Rattle.shard_queue.specs.Reply.{ReplyChannel, SenderPermit, SenderEnded, IsSender, IsSenderEnded, said_on, sender_number, sender_ended_number, sent_on}
 use Rattle.shard_queue.specs.declared.lane.Entry.{Entry}
-use Rattle.shard_queue.specs.Permits.{IsEnded, ended_number, said}
-use Rattle.shard_queue.specs.Reply.{SenderEnded}
-use Rattle.shard_queue.specs.Reply.{IsSender, IsSenderEnded, said_on, sender_number, sender_ended_number, sent_on}
 use Rattle.shard_queue.specs.Permits as queues
 use Rattle.shard_queue.specs.Reply as channels
 use Rattle.lane_work.specs.declared.desk.LanePermit.TheVariants.{Live}
 use Rattle.lane_work.specs.SharedLanes.{AreNew}
 use Rattle.lane_work.specs.Ends.{ends_in}
 use Rattle.lane_work.specs.Permits.{AreEnded, ArePermits, AreSenders, AreSendersEnded, AreLive, AreShutWhereOver, IsNew, IsPermit, is_over, overs, put_by, permit_number}
-use Rattle.envelope.specs.Directory.{Directory}
-use Rattle.lane_work.specs.Copies.{FilledAlone, IsAtOnce, Room, room_at, room_of, rooms_of}
+use Rattle.envelope.specs.Names.{Directory}
+use Rattle.lane_work.specs.Account.{FilledAlone, IsAtOnce, Room, room_at, room_of, rooms_of}
 
 pub permits_length : (qs : List (ShardQueue Job)) (p : ℕ) (ss : List (LanePermit Job)) → ArePermits qs p ss → length ss ≡ length qs
 permits_length [] p [] h = refl

@@ -3,7 +3,7 @@ use Rattle.std.proofs.Common.{◌≡◌, ℕ, zero, suc, ◌+◌, ◌<◌, ◌++
 use Rattle.std.proofs.lemmas.Bool.Decides.{eqb_tells}
 use Rattle.std.proofs.lemmas.List.{length-append, length-map, map-append}
 use Rattle.delivery_token.specs.declared.Job.{Job}
-use Rattle.envelope.specs.Directory.{Directory, is_shut}
+use Rattle.envelope.specs.Names.{Directory, is_shut}
 use Rattle.shard_queue.specs.Permits.{ShardQueue}
 use Rattle.lane_work.specs.declared.desk.LanePermit.{LanePermit}
 use Rattle.lane_work.specs.Permits.{ArePermits, AreShutWhereOver, IsPermit, is_over, overs, permit_number, put_by}

@@ -11,10 +11,9 @@ use Rattle.shard_queue.specs.declared.lane.Entry.TheVariants.{End}
 use Rattle.lane_work.specs.declared.desk.LanePermit.{LanePermit}
 use Rattle.lane_work.specs.Permits.{IsNew, put_by}
 use Rattle.shard_queue.specs.Shared.{IsStartOf}
-use Rattle.envelope.specs.Directory.{Directory}
+use Rattle.envelope.specs.Names.{Directory}
 use Rattle.lane_work.specs.Talk.{Judged, WholeTalk}
-use Rattle.lane_work.specs.Copies.{Room, none, room_at, told}
-use Rattle.lane_work.specs.Account.{Account, AreAccountedFor, AreBooks, AreBooksOf, HaveEnded, HaveTalked, IsMarkedBy, Premises, closings_of, next, notes_tell, setting_at}
+use Rattle.lane_work.specs.Account.{Room, none, room_at, told, Account, AreAccountedFor, AreBooks, AreBooksOf, HaveEnded, HaveTalked, IsMarkedBy, Premises, closings_of, next, notes_tell, setting_at}
 use Rattle.lane_work.specs.inner.Account.{HasServed}
 use Rattle.lane_work.specs.Account as account
 use Rattle.lane_work.specs.inner.Speaking.{Spoke}

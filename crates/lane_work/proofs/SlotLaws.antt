@@ -6,7 +6,7 @@ use Rattle.delivery_token.specs.declared.log.Noted.{Noted}
 use Rattle.shard_queue.specs.declared.lane.Entry.{Entry}
 use Rattle.shard_queue.specs.declared.lane.Entry.TheVariants.{Item}
 use Rattle.shard_queue.specs.Shared.{IsStartOf}
-use Rattle.lane_work.specs.Copies.{IsHeard, note_of}
+use Rattle.lane_work.specs.Account.{IsHeard, note_of}
 use Rattle.lane_work.specs.inner.Copies.{WereHeard}
 
 -- ---- what was heard

@@ -3,15 +3,13 @@ use Rattle.std.proofs.Common.{◌≡◌, ◌⊎◌, ℕ, ◌-◌, ◌+◌, ◌++
 use Rattle.delivery_token.specs.declared.Job.{Job}
 use Rattle.delivery_token.specs.declared.Verdict.{Verdict}
 use Rattle.delivery_token.specs.declared.log.Noted.{Noted}
-use Rattle.envelope.specs.Directory.{Directory}
-use Rattle.lmtp_machine.specs.Dialogue.{Setting}
+use Rattle.envelope.specs.Names.{Directory}
+use Rattle.lmtp_machine.specs.Dialogue.{Setting, wire}
 use Rattle.lmtp_machine.specs.LmtpMachine.{LmtpMachine}
-use Rattle.lmtp_machine.specs.Replies.{wire}
 use Rattle.shard_queue.specs.declared.lane.Entry.{Entry}
 use Rattle.shard_queue.specs.Shared.{IsStartOf}
 use Rattle.lane_work.specs.Talk.{Judged, HasTaken}
-use Rattle.lane_work.specs.Account.{AreBooks}
-use Rattle.lane_work.specs.Copies.{Room, told}
+use Rattle.lane_work.specs.Account.{AreBooks, Room, told}
 use Rattle.lane_work.specs.declared.worker.Stop.{Stop}
 use Rattle.lane_work.specs.Speaking.{Stands}
 use Rattle.lane_work.proofs.TalkLaws.{piece_more, split_there}

@@ -6,21 +6,19 @@ use Rattle.line_io.specs.Wire.{crlf}
 use Rattle.delivery_token.specs.declared.Job.{Job}
 use Rattle.delivery_token.specs.declared.Verdict.{Verdict}
 use Rattle.delivery_token.specs.declared.log.Noted.{Noted}
-use Rattle.envelope.specs.Directory.{Directory}
+use Rattle.envelope.specs.Names.{Directory}
 use Rattle.lmtp_machine.specs.declared.connection.Fed.{Fed}
 use Rattle.lmtp_machine.specs.declared.connection.What.{What}
 use Rattle.lmtp_machine.specs.declared.connection.What.TheVariants.{More, Submit, Quit}
 use Rattle.lmtp_machine.specs.declared.reply.Reply.{Reply}
 use Rattle.lmtp_machine.specs.Calls.{Follows, Happens, Submits, Tells}
 use Rattle.lmtp_machine.specs.Conversation.{Conversation, led_by, opened}
-use Rattle.lmtp_machine.specs.Dialogue.{Phase, Waiting, Ended, Setting, Submission, Turn, Event, on_event, on_verdicts, verdict_reply}
+use Rattle.lmtp_machine.specs.Dialogue.{Phase, Waiting, Ended, Setting, Submission, Turn, Event, on_event, on_verdicts, verdict_reply, reply_text, wire}
 use Rattle.lmtp_machine.specs.Dialogue as on
 use Rattle.lmtp_machine.specs.LmtpMachine.{LmtpMachine, StandsFor}
-use Rattle.lmtp_machine.specs.Replies.{reply_text, wire}
 use Rattle.shard_queue.specs.declared.lane.Entry.{Entry}
 use Rattle.lane_work.specs.Talk.{Judged, HasTaken, greeted, goes_on, submits}
-use Rattle.lane_work.specs.Account.{AreBooks}
-use Rattle.lane_work.specs.Copies.{Room}
+use Rattle.lane_work.specs.Account.{AreBooks, Room}
 use Rattle.lane_work.specs.Speaking.{Stands, is_quit}
 use Rattle.lane_work.specs.inner.Speaking.{Spoke}
 use Rattle.lane_work.proofs.ClosedLaws.{AreOpen, message_open}

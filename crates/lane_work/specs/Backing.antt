@@ -4,7 +4,7 @@ use Rattle.delivery_token.specs.declared.Job.{Job}
 use Rattle.delivery_token.specs.declared.Verdict.{Verdict}
 use Rattle.delivery_token.specs.declared.Verdict.TheVariants.{Stored}
 use Rattle.delivery_token.specs.declared.log.Noted.{Noted}
-use Rattle.envelope.specs.Directory.{Directory}
+use Rattle.envelope.specs.Names.{Directory}
 use Rattle.house_history.specs.declared.event.Event.{Event}
 use Rattle.house_history.specs.Events.{sent_by}
 use Rattle.house_history.specs.Legal.{Legal, WasJudged, WasWithdrawn}
@@ -13,8 +13,7 @@ use Rattle.shard_queue.specs.declared.lane.Entry.{Entry}
 use Rattle.shard_queue.specs.declared.lane.Entry.TheVariants.{Item, End}
 use Rattle.shard_queue.specs.Reply.{received}
 use Rattle.lane_work.specs.declared.desk.Desk.{Desk}
-use Rattle.lane_work.specs.Account.{AreBooksOf, HaveEnded}
-use Rattle.lane_work.specs.Copies.{Room}
+use Rattle.lane_work.specs.Account.{AreBooksOf, HaveEnded, Room}
 use Rattle.lane_work.specs.Dispatching.{Dispatch}
 use Rattle.lane_work.specs.Permits.{put_by}
 

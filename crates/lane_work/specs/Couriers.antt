@@ -4,13 +4,11 @@ use Rattle.workers_sync.specs.Carried.{Carried, judged_of}
 use Rattle.delivery_token.specs.declared.Job.{Job}
 use Rattle.delivery_token.specs.declared.Verdict.{Verdict}
 use Rattle.delivery_token.specs.declared.log.Noted.{Noted}
-use Rattle.shard_queue.specs.Reply.{ReplyChannel}
-use Rattle.shard_queue.specs.Reply.{IsReceiver, received}
+use Rattle.shard_queue.specs.Reply.{ReplyChannel, IsReceiver, received}
 use Rattle.lane_work.specs.declared.desk.Desk.{Desk}
 use Rattle.lane_work.specs.declared.desk.Intake.{Intake}
-use Rattle.lane_work.specs.Account.{AreBooksOf}
+use Rattle.lane_work.specs.Account.{AreBooksOf, rooms_of}
 use Rattle.lane_work.specs.Backing.{KeepsBacked}
-use Rattle.lane_work.specs.Copies.{rooms_of}
 use Rattle.lane_work.specs.Ends.{CountsEnds}
 use Rattle.lane_work.specs.Permits.{AreLive, ArePermits, put_by}
 

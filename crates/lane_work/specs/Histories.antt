@@ -4,13 +4,11 @@ use Rattle.delivery_token.specs.declared.Job.{Job}
 use Rattle.delivery_token.specs.declared.Verdict.{Verdict}
 use Rattle.delivery_token.specs.declared.Verdict.TheVariants.{Stored}
 use Rattle.delivery_token.specs.declared.log.Noted.{Noted}
-use Rattle.envelope.specs.Directory.{Directory, shard_of}
+use Rattle.envelope.specs.Names.{Directory, shard_of}
 use Rattle.shard_queue.specs.declared.lane.Entry.{Entry}
-use Rattle.shard_queue.specs.Permits.{ShardQueue}
-use Rattle.shard_queue.specs.Permits.{Ended}
+use Rattle.shard_queue.specs.Permits.{ShardQueue, Ended, ended_number, said}
 use Rattle.shard_queue.specs.Lane.{of}
-use Rattle.shard_queue.specs.Permits.{ended_number, said}
-use Rattle.lane_work.specs.Copies.{IsHeard, Room, WerePut, note_of}
+use Rattle.lane_work.specs.Account.{IsHeard, Room, WerePut, note_of}
 use Rattle.lane_work.specs.Permits.{AreEnded}
 
 -- what each of these ended permits said is what was taken of it from its lane, as `close` of each lane tells

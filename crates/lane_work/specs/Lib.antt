@@ -1,5 +1,4 @@
 pub mod Talk
-pub mod Copies
 pub mod Couriers
 pub mod Permits
 pub mod Account

@@ -2,14 +2,11 @@
 use Rattle.std.specs.Prelude.{◌≡◌, ℕ, Bool, true, false, List, [], ◌∷◌, ◌++◌, ◌-◌, All, length, map, take, slice_index_or}
 use Rattle.delivery_token.specs.declared.Job.{Job}
 use Rattle.delivery_token.specs.declared.log.Noted.{Noted}
-use Rattle.envelope.specs.Directory.{Directory, is_shut}
+use Rattle.envelope.specs.Names.{Directory, is_shut}
 use Rattle.shard_queue.specs.declared.lane.Entry.{Entry}
 use Rattle.shard_queue.specs.declared.lane.Entry.TheVariants.{End}
-use Rattle.shard_queue.specs.Permits.{ShardQueue}
-use Rattle.shard_queue.specs.Reply.{ReplyChannel}
-use Rattle.shard_queue.specs.Reply.{SenderPermit}
-use Rattle.shard_queue.specs.Permits.{IsProducer, IsEnded, number_of, ended_number, said, sent}
-use Rattle.shard_queue.specs.Reply.{IsSender, sender_number}
+use Rattle.shard_queue.specs.Permits.{ShardQueue, IsProducer, IsEnded, number_of, ended_number, said, sent}
+use Rattle.shard_queue.specs.Reply.{ReplyChannel, SenderPermit, IsSender, sender_number}
 pub use Rattle.lane_work.specs.LanePermits.{AreEnded}
 pub use Rattle.lane_work.specs.ChannelPermits.{AreSendersEnded}
 use Rattle.lane_work.specs.declared.desk.LanePermit.{LanePermit}

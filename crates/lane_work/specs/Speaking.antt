@@ -3,19 +3,17 @@ use Rattle.std.specs.Prelude.{◌≡◌, ℕ, Bool, true, false, List, ◌++◌,
 use Rattle.delivery_token.specs.declared.Job.{Job}
 use Rattle.delivery_token.specs.declared.Verdict.{Verdict}
 use Rattle.delivery_token.specs.declared.log.Noted.{Noted}
-use Rattle.envelope.specs.Directory.{Directory}
+use Rattle.envelope.specs.Names.{Directory}
 use Rattle.lmtp_machine.specs.declared.connection.What.{What}
 use Rattle.lmtp_machine.specs.declared.connection.What.TheVariants.{More, Submit, Quit}
 use Rattle.lmtp_machine.specs.declared.reply.Reply.{Reply}
 use Rattle.lmtp_machine.specs.Conversation.{Conversation}
-use Rattle.lmtp_machine.specs.Dialogue.{Ended}
+use Rattle.lmtp_machine.specs.Dialogue.{Ended, wire}
 use Rattle.lmtp_machine.specs.LmtpMachine.{LmtpMachine, StandsFor}
-use Rattle.lmtp_machine.specs.Replies.{wire}
 use Rattle.shard_queue.specs.declared.lane.Entry.{Entry}
 use Rattle.lane_work.specs.declared.desk.Intake.{Intake}
 use Rattle.lane_work.specs.Talk.{Judged, HasTaken}
-use Rattle.lane_work.specs.Account.{AreBooks, Premises}
-use Rattle.lane_work.specs.Copies.{Room, rooms_of}
+use Rattle.lane_work.specs.Account.{AreBooks, Premises, Room, rooms_of}
 
 abbrev pub premises_of : {B : Type 0} → Intake B → Premises
 premises_of intake = record {

@@ -1,13 +1,12 @@
 -- What a whole connection comes to: its bytes lead from turn to turn, and behind each message that it submits come the verdicts on its copies.
 use Rattle.std.specs.Prelude.{◌≡◌, ◌⊎◌, ℕ, List, [], ◌∷◌, ◌++◌, length, map}
 use Rattle.delivery_token.specs.declared.Verdict.{Verdict}
-use Rattle.envelope.specs.Directory.{Directory}
+use Rattle.envelope.specs.Names.{Directory}
 use Rattle.lmtp_machine.specs.declared.reply.Reply.{Reply}
 use Rattle.lmtp_machine.specs.declared.reply.Reply.TheVariants.{Greeting}
 use Rattle.lmtp_machine.specs.Dialogue.{Event, Setting, Submission, Turn, Ended, dialogue, verdict_reply}
 use Rattle.lmtp_machine.specs.Dialogue as on
-use Rattle.lmtp_machine.specs.Conversation.{Conversation, Leads, led_by, opened}
-use Rattle.lmtp_machine.specs.Calls.{IsQuiet}
+use Rattle.lmtp_machine.specs.Conversation.{Conversation, Leads, led_by, opened, IsQuiet}
 
 -- a message that was submitted, with the verdicts on its copies, one for each recipient
 pub record Judged : Type 0 where

@@ -5,7 +5,7 @@ ghost use Rattle.std.specs.Prelude.{◌≡◌, IfOk, List, OnOk, false, length, 
 ghost use Rattle.workers_sync.specs.Carried.{Carried};
 ghost use Rattle.shard_queue.specs.Reply.{IsReceiver, received};
 ghost use Rattle.shard_queue.specs.Shared.{IsStartOf};
-ghost use Rattle.lane_work.specs.Copies.{rooms_of};
+ghost use Rattle.lane_work.specs.Account.{rooms_of};
 ghost use Rattle.lane_work.specs.Couriers.{HasCarried, IsReady, IsSameDesk};
 ghost use Rattle.lane_work.specs.inner.Copies.{WasJudged};
 ghost use Rattle.lane_work.specs.inner.Couriers.{CarriesOn};

@@ -2,7 +2,7 @@
 //! there are over. What is said of a closed shard is the conversation's, and stands below.
 
 ghost use Rattle.std.specs.Prelude.{◌≡◌, ◌<◌, ◌||◌, ◌∷◌, [], ℕ, true, false, length, slice_index_or};
-ghost use Rattle.envelope.specs.Directory.{is_shut};
+ghost use Rattle.envelope.specs.Names.{is_shut};
 ghost use Rattle.lane_work.specs.Permits.{AreInForce, IsPermit, is_over, overs, permit_number, put_by};
 ghost use Rattle.lane_work.specs.inner.Closing.{KeepsDesk, Marks, closings_at};
 

@@ -8,7 +8,7 @@ ghost use Rattle.shard_queue.specs.Reply.{IsReceiver, received};
 ghost use Rattle.shard_queue.specs.Shared.{IsStartOf};
 ghost use Rattle.lmtp_machine.specs.Calls.{submission_of};
 ghost use Rattle.delivery_token.specs.Verdicts.{Fills, unknown};
-ghost use Rattle.lane_work.specs.Copies.{IsHeard, copies_of};
+ghost use Rattle.lane_work.specs.Account.{IsHeard, copies_of};
 ghost use Rattle.lane_work.specs.Backing.{KeepsBacked};
 ghost use Rattle.lane_work.specs.inner.Copies.{WereHeard};
 ghost use Rattle.lane_work.specs.inner.Desk.{SameButReceiver};

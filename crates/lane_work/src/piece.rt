@@ -9,7 +9,7 @@ ghost use Rattle.lane_work.specs.Permits.{AreInForce, put_by};
 ghost use Rattle.lane_work.specs.Backing.{KeepsBacked};
 ghost use Rattle.lane_work.specs.Ends.{CountsEnds};
 ghost use Rattle.lane_work.specs.Speaking.{Stands};
-ghost use Rattle.lane_work.specs.Copies.{rooms_of};
+ghost use Rattle.lane_work.specs.Account.{rooms_of};
 ghost use Rattle.lane_work.specs.inner.Pieces.{TookPiece, SaidByThen};
 
 use crate::bells::Notifier;

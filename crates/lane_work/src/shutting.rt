@@ -4,7 +4,7 @@
 ghost use Rattle.std.specs.Prelude.{◌≡◌, ◌≢◌, ◌++◌, false, true, OnOk, OnErr, Err};
 ghost use Rattle.lmtp_machine.specs.Conversation.{Conversation};
 ghost use Rattle.lmtp_machine.specs.LmtpMachine.{StandsFor};
-ghost use Rattle.lmtp_machine.specs.Replies.{wire};
+ghost use Rattle.lmtp_machine.specs.Dialogue.{wire};
 ghost use Rattle.lane_work.specs.Streaming.{AreGivenUp, SaysLast, last_words};
 
 use crate::outcome::{Ending, TalkFault};

@@ -5,16 +5,15 @@ ghost use Rattle.std.specs.Prelude.{◌≡◌, ◌<◌, ◌≤◌, ◌∷◌, Li
 ghost use Rattle.lmtp_machine.specs.declared.reply.Reply.TheVariants.{Greeting};
 ghost use Rattle.lmtp_machine.specs.Conversation.{opened};
 ghost use Rattle.lmtp_machine.specs.LmtpMachine.{StandsFor};
-ghost use Rattle.lmtp_machine.specs.Replies.{wire};
+ghost use Rattle.lmtp_machine.specs.Dialogue.{wire};
 ghost use Rattle.shard_queue.specs.Reply.{IsReceiver, received};
 ghost use Rattle.shard_queue.specs.Shared.{IsStartOf};
 ghost use Rattle.lane_work.specs.Talk.{Judged};
 ghost use Rattle.lane_work.specs.Permits.{AreInForce, put_by};
-ghost use Rattle.lane_work.specs.Account.{AreBooks, setting_at};
+ghost use Rattle.lane_work.specs.Account.{AreBooks, setting_at, rooms_of};
 ghost use Rattle.lane_work.specs.Backing.{KeepsBacked};
 ghost use Rattle.lane_work.specs.Ends.{CountsEnds};
 ghost use Rattle.lane_work.specs.Speaking.{Stands, premises_of};
-ghost use Rattle.lane_work.specs.Copies.{rooms_of};
 ghost use Rattle.lane_work.specs.Streaming.{IsPlayed};
 
 use crate::bells::Notifier;

@@ -5,8 +5,7 @@ ghost use Rattle.std.specs.Prelude.{◌≡◌, ◌≤◌, ◌++◌, ◌∷◌, [
 ghost use Rattle.delivery_token.specs.declared.Job.{Job};
 ghost use Rattle.delivery_token.specs.declared.Verdict.{Verdict};
 ghost use Rattle.lmtp_machine.specs.Calls.{submission_of};
-ghost use Rattle.lane_work.specs.Account.{notes_tell};
-ghost use Rattle.lane_work.specs.Copies.{copies_of, note_of};
+ghost use Rattle.lane_work.specs.Account.{notes_tell, copies_of, note_of};
 
 use delivery_token::{CopyKey, Verdict, WorkerLog};
 use lmtp_machine::Submission;

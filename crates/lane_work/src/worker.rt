@@ -5,7 +5,7 @@ ghost use Rattle.std.specs.Prelude.{◌≡◌, ◌≢◌, ◌≤◌, ◌<◌, �
 ghost use Rattle.std.specs.Io.{StartsWith};
 ghost use Rattle.delivery_token.specs.declared.Job.{Job};
 ghost use Rattle.delivery_token.specs.declared.Verdict.{Verdict};
-ghost use Rattle.envelope.specs.Directory.{marked};
+ghost use Rattle.envelope.specs.Names.{marked};
 ghost use Rattle.shard_queue.specs.Permits.{said};
 ghost use Rattle.shard_queue.specs.Reply.{IsReceiver, received};
 ghost use Rattle.shard_queue.specs.Shared.{IsStartOf};
@@ -13,7 +13,7 @@ ghost use Rattle.lmtp_machine.specs.Calls.{Moves, submission_of};
 ghost use Rattle.lane_work.specs.Talk.{Judged};
 ghost use Rattle.lane_work.specs.Permits.{AreEnded, AreInForce, ArePermits, IsNew, overs, put_by};
 ghost use Rattle.lane_work.specs.inner.Permits.{AreOpenTo};
-ghost use Rattle.lane_work.specs.Account.{AreBooks, HaveEnded, notes_tell, setting_at};
+ghost use Rattle.lane_work.specs.Account.{AreBooks, HaveEnded, notes_tell, setting_at, rooms_of};
 ghost use Rattle.lane_work.specs.inner.Account.{HasServed};
 ghost use Rattle.lane_work.specs.Awaiting.{HearsItsOwn, copies_in, verdicts_in};
 ghost use Rattle.lane_work.specs.Ends.{CountsEnds, ends_in};
@@ -21,7 +21,6 @@ ghost use Rattle.lane_work.specs.Backing.{IsBackedBy, IsBackedDesk, KeepsBacked}
 ghost use Rattle.lane_work.specs.Working.{IsWorked};
 ghost use Rattle.lane_work.specs.Speaking.{Stands, is_quit, premises_of};
 ghost use Rattle.lane_work.specs.inner.Speaking.{Spoke};
-ghost use Rattle.lane_work.specs.Copies.{rooms_of};
 
 use crate::bells::Notifier;
 use crate::closing::close_due;

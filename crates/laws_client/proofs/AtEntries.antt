@@ -16,9 +16,7 @@ use Rattle.imap_grammar.specs.declared.command.Command.{Command}
 use Rattle.imap_session.specs.Commands.{turn_of}
 use Rattle.imap_session.specs.Exchange.{Answer as StoreAnswer, Standing, Turn, tagged}
 use Rattle.house.specs.Meets.{Meets}
-use Rattle.house_peers.specs.Visitor.{Visitor}
-use Rattle.house_peers.specs.Visitor.{more_waits as session_more_waits}
-use Rattle.house_peers.specs.SeatedVisitor.{SeatedVisitor}
+use Rattle.house_peers.specs.Visitor.{Visitor, more_waits as session_more_waits, SeatedVisitor}
 use Rattle.house.specs.Setup.{Setup, session_seat}
 use Rattle.house.specs.Printing.{still_unsaid, with_session}
 use Rattle.house.specs.Scene.{HearPlay, Parts, PutPlay, SayPlay, Scene, SessionGoes, SessionHears, SessionPuts, SessionTalks, connection_hears, connection_puts, empty_scene, lingers, parts, place_of, remains, seat_of, session_hears, session_puts, talks, with_visitor, with_world}

@@ -30,8 +30,7 @@ use Rattle.session_thread.specs.Life.{known_client}
 use Rattle.session_thread.specs.Locks.{LockedStore}
 use Rattle.imap_stream.specs.declared.client_slot.Parting.{Parting}
 use Rattle.imap_stream.specs.declared.client_slot.Parting.TheVariants.{Broken, Gone, Over, Stopped}
-use Rattle.imap_stream.specs.Living.{Beginning, EndsSo, HasAttended, HasLived, IsCutShort, IsQuiet, said_in}
-use Rattle.imap_stream.specs.Visits.{SendsFirst, Visit, farewell, is_over, takes_bytes}
+use Rattle.imap_stream.specs.Visits.{Beginning, EndsSo, HasAttended, HasLived, IsCutShort, IsQuiet, said_in, SendsFirst, Visit, farewell, is_over, takes_bytes}
 use Rattle.laws_client.specs.rows.HistoryRows.{first, outside, within}
 
 -- ---- a visit

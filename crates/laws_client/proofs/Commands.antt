@@ -14,13 +14,13 @@ use Rattle.imap_grammar.specs.declared.command.ImapFault.{ImapFault}
 use Rattle.imap_grammar.specs.declared.command.ImapFault.TheVariants.{NoTag, Unknown, LeftOut, Arguments}
 use Rattle.imap_session.specs.declared.standing.After.TheVariants.{Go}
 use Rattle.imap_session.specs.declared.standing.Selected.{Selected}
-use Rattle.imap_session.specs.Exchange.{Answer, PendingLiteral, Exchange, ForNothing, Mailing, Sent, Standing, Turn, Wait, bye, kept_behind, tagged, untagged, Origin, Client, Copied, Batch}
+use Rattle.imap_session.specs.Exchange.{Answer, PendingLiteral, Exchange, ForNothing, Mailing, Sent, Standing, Turn, Wait, bye, tagged, untagged, Origin, Client, Copied, Batch}
+use Rattle.imap_session.specs.Happenings.{kept_behind, IsPrinted}
 use Rattle.imap_session.specs.Commands.{appended_words, long_idle_text, long_rest_text, long_text, on_rest, on_verdict, turn_with, without_begun, without_sent, completed, fault_text, on_command, on_idle_line, on_read, only_says, says, showing, arguments_text, logged_in, refused_text, on_text_line, copied_words, on_stored, move_done, with_copy, copies_of, told_copied}
 use Rattle.laws_client.specs.Beliefs.{Leads, Leaves, TellsNothing}
 use Rattle.laws_client.specs.ListTurns.{is_inner, IsPlain, IsTag, Says, SeesAll}
 use Rattle.laws_client.specs.Fetches.{IsNumbered}
 use Rattle.laws_client.specs.Commands.{AreNames, HasToldParts, MayAnswer, MayAsk, MayCome, stays}
-use Rattle.imap_session.specs.Happenings.{IsPrinted}
 use Rattle.laws_client.specs.ListLaws.{AnswerIsFollowed, LongLineTellsNothing, VerdictIsFollowed}
 use Rattle.laws_client.proofs.Ends.{leaves, refusals, tagged_tells_nothing}
 use Rattle.laws_client.proofs.Chosen.{small_in}

@@ -4,7 +4,8 @@ use Rattle.std.specs.Prelude.{Ok, flat_map, if◌then◌else◌}
 use Rattle.mailbox.specs.declared.clients.Row.{Row}
 use Rattle.world.specs.World.{Config, Event as WorldEvent, IsWorld, World}
 use Rattle.imap_session.specs.Commands.{greeting}
-use Rattle.imap_session.specs.Exchange.{Alter, Call, Count, Enter, Event as Happened, Expunge, Feed, Found, Leave, Look, Read, Answer as StoreAnswer, Entered, Looked, Counted, Altered, Expunged, Fed, Left, Refused, Starved, Standing, Turn, kept_tag, Discard, Discarded}
+use Rattle.imap_session.specs.Exchange.{Alter, Call, Count, Enter, Event as Happened, Expunge, Feed, Found, Leave, Look, Read, Answer as StoreAnswer, Entered, Looked, Counted, Altered, Expunged, Fed, Left, Refused, Starved, Standing, Turn, Discard, Discarded}
+use Rattle.imap_session.specs.Happenings.{kept_tag, Answer, Happening, Heard, Line, Literal, LongLine, Told, Turned, Words, bytes_in, leads_to, told_line, told_of, whole_line}
 use Rattle.imap_session.specs.Store.{Met}
 use Rattle.house.specs.Meets.{Meets}
 use Rattle.house.specs.Setup.{Setup}
@@ -17,7 +18,6 @@ use Rattle.laws_client.specs.ClientRecords.{IsPrintable, first_standing, first_w
 use Rattle.laws_client.specs.Sizes.{HasShortTexts, HasSmallNumbers}
 use Rattle.laws_client.specs.RecordTurns.{Stands}
 use Rattle.laws_client.specs.Commands.{AreNames}
-use Rattle.imap_session.specs.Happenings.{Answer, Happening, Heard, Line, Literal, LongLine, Told, Turned, Words, bytes_in, leads_to, told_line, told_of, whole_line}
 use Rattle.imap_grammar.specs.Reading.{read}
 use Rattle.imap_grammar.specs.declared.command.Command.{Command}
 use Rattle.laws_client.specs.Views.{view_of}

@@ -8,7 +8,7 @@ use Rattle.line_io.specs.Wire.{crlf}
 use Rattle.delivery_token.specs.declared.Verdict.{Verdict}
 use Rattle.dot_stuffing.specs.declared.Outcome.{Outcome}
 use Rattle.dot_stuffing.specs.declared.Outcome.TheVariants as outcomes
-use Rattle.envelope.specs.Directory.{Directory, is_shut, lookup, shard_of}
+use Rattle.envelope.specs.Names.{Directory, is_shut, lookup, shard_of}
 use Rattle.envelope.specs.Grammar.{Form, Plain, Mail, Rcpt, Line as Line_form, Reads, has_long_part, is_body, is_too_long, judged}
 use Rattle.envelope.proofs.Law.{reads}
 use Rattle.envelope.specs.Reading.{read}

@@ -5,16 +5,14 @@ use Rattle.std.proofs.lemmas.Bool.{eq-eqb}
 use Rattle.std.proofs.lemmas.Bool.Decides.{eqb_tells}
 use Rattle.std.specs.Borrow.{Bor}
 use Rattle.line_io.specs.Wire.{joined}
-use Rattle.shard_queue.specs.At.{set_at}
+use Rattle.shard_queue.specs.Lane.{set_at}
 use Rattle.shard_queue.proofs.AtLaws.{at_cases}
 use Rattle.world.specs.World.{Event, IsWorld, Step, World, empty_world}
 use Rattle.world.proofs.Always.{steps_join}
 use Rattle.imap_session.specs.Exchange as calls
 use Rattle.house_peers.specs.Caller.{Caller}
 use Rattle.imap_session.specs.Folders.{folders_of}
-use Rattle.house_peers.specs.Visitor.{Visitor, greeted}
-use Rattle.house_peers.specs.Visitor.{more_waits as session_more_waits}
-use Rattle.house_peers.specs.SeatedVisitor.{SeatedVisitor, seated_greeted}
+use Rattle.house_peers.specs.Visitor.{Visitor, greeted, more_waits as session_more_waits, SeatedVisitor, seated_greeted}
 use Rattle.house.specs.Setup.{Setup, session_seat, admitted_in}
 use Rattle.house.specs.Printing.{with_session}
 use Rattle.house.specs.Scene as scene

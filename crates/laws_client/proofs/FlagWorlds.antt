@@ -2,17 +2,16 @@
 use Rattle.std.proofs.Common.{◌≡◌, ℕ, ◌+◌, ◌≤◌, Bool, List, ◌∷◌, ◌++◌, length, drop, refl, sym, subst, ap, ◌∙◌, arith, append-nil, []}
 use Rattle.std.specs.Prelude.{Option, Some, None, option_map}
 use Rattle.std.proofs.lemmas.List.{take-append-drop, take-append-le}
-use Rattle.shard_queue.specs.At.{set_at}
+use Rattle.shard_queue.specs.Lane.{set_at}
 use Rattle.shard_queue.proofs.AtLaws.{set_at-same}
 use Rattle.change_ring.specs.declared.change.Change.{Change}
 use Rattle.change_ring.specs.declared.change.Flags.{Flags}
 use Rattle.change_ring.specs.declared.flag_op.FlagOp.{FlagOp}
-use Rattle.change_ring.specs.Log.{IsLegalLog, Row, replay, rows_of}
-use Rattle.change_ring.specs.Logged.{flags_logged, removals, seen_logged}
+use Rattle.change_ring.specs.Log.{IsLegalLog, Row, replay, rows_of, flags_logged, removals, seen_logged}
 use Rattle.mailbox.specs.Events.{in_set}
 use Rattle.mailbox.specs.declared.clients.Row as read
 use Rattle.world.specs.World.{Box, Config, Event, Session, Step, World, shows}
-use Rattle.world.proofs.Always.{legal}
+use Rattle.world.proofs.Always.{legal, kept_always}
 use Rattle.world.proofs.Kept.{Kept, SessionOk}
 use Rattle.delivery_core.specs.Clients.{Done, row_with, rows_then}
 use Rattle.imap_session.specs.Exchange.{Call, Answer, Event as Happened, Look, Read as ReadCall, Count, Alter, Expunge as ExpungeCall, Feed as FeedCall, Leave as LeaveCall, Enter as EnterCall, Entered, Looked, Found, Counted, Altered, Expunged, Fed, Left, Refused, Discard as DiscardCall, Discarded}
@@ -32,7 +31,6 @@ use Rattle.laws_client.specs.Flags.{Believes, KnowsFlags, Point, counted}
 use Rattle.laws_client.specs.FlagTurns.{IfInside, SeesAllFlags, SeesFlags, TellsFlags, shown_in}
 use Rattle.laws_client.specs.Worlds.{CallsTellFlags, IsRightOnFlags, OthersLeaveFlags, point_in, point_of}
 use Rattle.laws_client.proofs.Moments.{flags_outlast}
-use Rattle.world.proofs.Always.{kept_always}
 
 -- ---- points
 

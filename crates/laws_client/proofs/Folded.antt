@@ -5,8 +5,7 @@ use Rattle.std.specs.List.{list_all, list_any}
 use Rattle.std.specs.Str.{bytes_eq, str_eq_ignore_ascii_case as is_same}
 use Rattle.std.proofs.lemmas.Bool.{false≢true}
 use Rattle.std.proofs.lemmas.Option.{none-some}
-use Rattle.envelope.specs.Directory.{Directory, Home, is_home}
-use Rattle.envelope.specs.Names.{first_fault, has_length, has_right_folder, home_of, homes_unless, inbox_of, is_folder, is_folder_byte, is_name, is_right, is_user, or_fault, word_fault, words_read}
+use Rattle.envelope.specs.Names.{Directory, Home, is_home, first_fault, has_length, has_right_folder, home_of, homes_unless, inbox_of, is_folder, is_folder_byte, is_name, is_right, is_user, or_fault, word_fault, words_read}
 use Rattle.envelope.specs.declared.directory.DirectoryFault.{DirectoryFault}
 use Rattle.envelope.specs.declared.directory.DirectoryFault.TheVariants.{TooMany, BadName, Twice}
 use Rattle.imap_grammar.proofs.Tokens.{excludes, not_true}

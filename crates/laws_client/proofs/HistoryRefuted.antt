@@ -26,8 +26,7 @@ use Rattle.house_history.specs.Legal.{Stands}
 use Rattle.imap_session.specs.Exchange.{Enter, Look, Read, Count, Alter, Expunge, Feed, Leave, Discard, Entered, Looked, Found, Counted, Altered, Expunged, Fed, Left, Discarded, Refused}
 use Rattle.session_thread.specs.declared.locked_store.Entry.{Entry}
 use Rattle.session_thread.specs.Locks.{In, LockedStore, says}
-use Rattle.session_thread.specs.SinceSelect.{Shows}
-use Rattle.session_thread.specs.ByHistory.{ByHistory, Comes, IsRead, Logs, Moves, flags_in}
+use Rattle.session_thread.specs.ByHistory.{Shows, ByHistory, Comes, IsRead, Logs, Moves, flags_in}
 use Rattle.laws_client.specs.rows.HistoryRows.{both, came, deleted, emptied, entry, first, flagged, marked, message_read, opening, outside, seen, status, was_left, was_read, within}
 
 -- ---- words

@@ -11,7 +11,7 @@ use Rattle.house.specs.Scene as scene
 use Rattle.house.specs.Scene.{BytesPlay, HearPlay, IdlePlay, Plays, PutPlay, Scene, SessionGoes, connection_hears, connection_puts, goes_on, opens, place_of, seat_of, session_hears, session_puts}
 use Rattle.house.specs.declared.event.Event as house
 use Rattle.house.specs.declared.event.Event.TheVariants.{Bytes, Vanish, Put, Take, Deliver, Answer, Hear, End, Close, Enter, Say, Idle, Leave}
-use Rattle.house_peers.specs.SeatedVisitor.{SeatedVisitor}
+use Rattle.house_peers.specs.Visitor.{SeatedVisitor}
 use Rattle.exactly_once.specs.Promise.{text_of}
 use Rattle.laws_client.specs.ClientRecords.{RecordsMoveOn}
 use Rattle.laws_client.proofs.Recording.{Walk, goes, stands, talks_walk, walk_call, walk_met, walk_parts}

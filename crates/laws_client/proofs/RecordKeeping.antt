@@ -6,7 +6,7 @@ use Rattle.std.specs.Borrow.{Bor}
 use Rattle.line_io.specs.Wire.{IsCut, joined}
 use Rattle.world.specs.World as world
 use Rattle.world.specs.World.{Config, Event, Steps, World, empty_world}
-use Rattle.house_peers.specs.SeatedVisitor.{SeatedVisitor}
+use Rattle.house_peers.specs.Visitor.{SeatedVisitor}
 use Rattle.house.specs.Setup.{Setup, session_seat, admitted_in}
 use Rattle.house.specs.Printing.{Prints, of_session}
 use Rattle.house.specs.Scene as scene

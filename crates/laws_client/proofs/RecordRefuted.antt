@@ -14,7 +14,7 @@ use Rattle.imap_session.specs.Commands.{appended_words, greeting, copies_of, ref
 use Rattle.imap_session.proofs.Telling.{words_tell_which}
 use Rattle.house.specs.Setup.{Setup}
 use Rattle.house.specs.Scene.{Scene, empty_scene}
-use Rattle.house_peers.specs.SeatedVisitor.{SeatedVisitor}
+use Rattle.house_peers.specs.Visitor.{SeatedVisitor}
 use Rattle.laws_client.specs.Beliefs.{IsRight}
 use Rattle.laws_client.specs.Client.{Client, Known, Messages, fresh}
 use Rattle.imap_session.specs.Happenings.{IsSentFor, LongLine, Told, Turned, bytes_in}

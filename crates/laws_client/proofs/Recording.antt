@@ -17,9 +17,8 @@ use Rattle.imap_session.specs.Exchange as calls
 use Rattle.imap_session.specs.Exchange.{Call, Answer}
 use Rattle.imap_session.specs.Store.{Met}
 use Rattle.house.specs.Meets.{Meets}
-use Rattle.house_peers.specs.Visitor.{Visitor}
-use Rattle.house_peers.specs.SeatedVisitor as seated
-use Rattle.house_peers.specs.SeatedVisitor.{GoesOn, SeatedVisitor, answers, rests, sent_by, stalls, works}
+use Rattle.house_peers.specs.Visitor.{Visitor, GoesOn, SeatedVisitor, answers, rests, sent_by, stalls, works}
+use Rattle.house_peers.specs.Visitor as seated
 use Rattle.house.specs.Setup.{Setup, session_seat}
 use Rattle.house.specs.Printing.{Prints, Speaks, marked_session, of_session, prints_all, prints_none, still_unsaid}
 use Rattle.house.specs.Scene.{LeavesMailbox, Lingers, Parts, SessionTalks, parts, remains, waits, fades}

@@ -17,12 +17,12 @@ use Rattle.imap_grammar.specs.declared.command.Fetch.{Fetch}
 use Rattle.imap_grammar.specs.declared.command.ImapFault.{ImapFault}
 use Rattle.imap_session.specs.declared.standing.After.TheVariants.{Go}
 use Rattle.imap_session.specs.declared.standing.Selected.{Selected}
-use Rattle.imap_session.specs.Exchange.{Alter, Altered, Answer, PendingLiteral, Exchange, ForNothing, Found, Mailing, Read, Sent, Standing, Turn, Wait, Write, bye, kept_behind, Origin, Client, Copied, Batch}
+use Rattle.imap_session.specs.Exchange.{Alter, Altered, Answer, PendingLiteral, Exchange, ForNothing, Found, Mailing, Read, Sent, Standing, Turn, Wait, Write, bye, Origin, Client, Copied, Batch}
+use Rattle.imap_session.specs.Happenings.{kept_behind, IsPrinted}
 use Rattle.imap_session.specs.Commands.{turn_of, turn_of_verdict, appended_words, on_rest, on_verdict, turn_with, without_begun, without_sent, completed, fault_text, fetched, on_command, on_found, on_idle_line, on_read, only_says, says, showing, logged_in, refused_text, on_text_line, copied_words, on_stored, move_done, with_copy, copies_of, told_copied}
 use Rattle.laws_client.specs.ListTurns.{IsTag}
 use Rattle.laws_client.specs.Fetches.{AreToldParts, IsNumbered}
 use Rattle.laws_client.specs.Commands.{AreNames, HasToldParts, IsFollowed, MayAnswer, MayAsk, MayCome, stays}
-use Rattle.imap_session.specs.Happenings.{IsPrinted}
 use Rattle.laws_client.proofs.Commands.{server_tells_nothing, fault_tells_nothing, stored_plain, may_answer}
 use Rattle.laws_client.proofs.Each.{IsIn}
 use Rattle.laws_client.proofs.Ends.{refusal_tells_nothing, tagged_tells_nothing}

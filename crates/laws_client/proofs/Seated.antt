@@ -8,9 +8,8 @@ use Rattle.imap_session.specs.Exchange.{Event as Happened, Mailing, Sent}
 use Rattle.imap_session.specs.Store.{IdleTurns, Met}
 use Rattle.house.specs.Meets.{Meets}
 use Rattle.house_peers.proofs.Rising.{idles_keep}
-use Rattle.house_peers.specs.Visitor.{Visitor}
-use Rattle.house_peers.specs.SeatedVisitor as seated
-use Rattle.house_peers.specs.SeatedVisitor.{GoesOn, SeatedVisitor, Works, answers, copies_of, rests, sent_by, stalls, works}
+use Rattle.house_peers.specs.Visitor.{Visitor, GoesOn, SeatedVisitor, Works, answers, copies_of, rests, sent_by, stalls, works}
+use Rattle.house_peers.specs.Visitor as seated
 use Rattle.laws_client.proofs.Moved.{Calls}
 use Rattle.laws_client.proofs.Out.{Fate, copy_of, fate_met, fate_step, put_fate}
 

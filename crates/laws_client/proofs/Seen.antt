@@ -7,14 +7,13 @@ use Rattle.std.proofs.lemmas.Option.{none-some}
 use Rattle.std.proofs.lemmas.List.{take-append-drop, length-drop, length-take, length-map}
 use Rattle.std.proofs.lemmas.List.Sums.{count_by-le-length, sum_by-le}
 use Rattle.std.proofs.Math.Nat.{min-le_right}
-use Rattle.shard_queue.specs.At.{set_at}
+use Rattle.shard_queue.specs.Lane.{set_at}
 use Rattle.shard_queue.proofs.AtLaws.{set_at-same}
 use Rattle.delivery_token.specs.declared.Job.{Job}
 use Rattle.change_ring.specs.declared.change.Change.{Change}
 use Rattle.change_ring.specs.declared.change.Flags.{Flags}
 use Rattle.change_ring.specs.declared.flag_op.FlagOp.{FlagOp}
-use Rattle.change_ring.specs.Log.{Row, added, replay, rows_of, view_at, FitsView}
-use Rattle.change_ring.specs.Logged.{flags_logged, removals, seen_logged}
+use Rattle.change_ring.specs.Log.{Row, added, replay, rows_of, view_at, FitsView, flags_logged, removals, seen_logged}
 use Rattle.change_ring.proofs.LogLaws.{added-append, uids-rows_after, FitsView-rest, FitsView-take}
 use Rattle.mailbox.specs.Events.{in_set}
 use Rattle.mailbox.specs.declared.clients.MailFault.{MailFault}

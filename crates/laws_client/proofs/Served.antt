@@ -28,9 +28,8 @@ use Rattle.imap_session.specs.Exchange.{Call, Answer, Enter, Look, Read, Count, 
 use Rattle.imap_session.specs.Commands.{unlimited}
 use Rattle.imap_session.specs.Store.{Met}
 use Rattle.session_thread.specs.declared.locked_store.Entry.{Entry}
-use Rattle.session_thread.specs.ByHistory.{ByHistory, Comes, Moves}
+use Rattle.session_thread.specs.ByHistory.{ByHistory, Comes, Moves, IsUpToCursor, Shows, WasShown, WasShownIn, shown_since, shown_then}
 use Rattle.session_thread.specs.Locks.{HasOpening, HasRow, HasStatus, LockedStore}
-use Rattle.session_thread.specs.SinceSelect.{IsUpToCursor, Shows, WasShown, WasShownIn, shown_since, shown_then}
 use Rattle.session_thread.proofs.ByHistory.{by_history, shown_by_history}
 use Rattle.laws_client.specs.Beliefs.{MayShow}
 use Rattle.laws_client.specs.Client.{Client}

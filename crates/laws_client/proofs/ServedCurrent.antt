@@ -8,9 +8,8 @@ use Rattle.imap_grammar.specs.declared.command.ImapFault.{ImapFault}
 use Rattle.imap_session.specs.Exchange.{Event, Standing}
 use Rattle.imap_session.specs.Commands.{unlimited}
 use Rattle.imap_session.specs.Store.{Met}
-use Rattle.session_thread.specs.ByHistory.{ByHistory}
+use Rattle.session_thread.specs.ByHistory.{ByHistory, WasShown, shown_then}
 use Rattle.session_thread.specs.Locks.{LockedStore}
-use Rattle.session_thread.specs.SinceSelect.{WasShown, shown_then}
 use Rattle.session_thread.proofs.ByHistory.{by_history, shown_by_history}
 use Rattle.laws_client.specs.Client.{Client, reads}
 use Rattle.laws_client.specs.Clients.{Asked, IsRightAbout, answered, asked, hears, hears_all}

@@ -19,9 +19,8 @@ use Rattle.house_history.proofs.Logs.{legal_empty_log}
 use Rattle.imap_session.specs.Exchange.{Call, Answer, Look, Read, Count, Alter, Expunge, Feed, Entered, Looked, Found, Counted, Altered, Expunged, Fed, Left, Refused, Starved, Event, Standing, Turn, Discard, Discarded}
 use Rattle.imap_session.specs.Store.{Met}
 use Rattle.session_thread.specs.declared.locked_store.Entry.{Entry}
-use Rattle.session_thread.specs.ByHistory.{ByHistory, Moves, flags_in}
+use Rattle.session_thread.specs.ByHistory.{ByHistory, Moves, flags_in, Shows, WasShown, WasShownIn, shown_since, shown_then}
 use Rattle.session_thread.specs.Locks.{LockedStore}
-use Rattle.session_thread.specs.SinceSelect.{Shows, WasShown, WasShownIn, shown_since, shown_then}
 use Rattle.session_thread.proofs.ByHistory.{by_history, shown_by_history}
 use Rattle.laws_client.specs.Beliefs.{Each}
 use Rattle.laws_client.specs.Client.{Client}

@@ -5,9 +5,8 @@ use Rattle.change_ring.specs.declared.change.Change.{Change}
 use Rattle.cursor_set.specs.Cursors.{CursorHandle}
 use Rattle.imap_session.specs.Exchange.{Call, Answer, Look, Read, Count, Alter, Expunge, Feed, Entered, Looked, Found, Counted, Altered, Expunged, Fed, Left, Refused, Starved, Event, Discard, Discarded}
 use Rattle.session_thread.specs.declared.locked_store.Entry.{Entry}
-use Rattle.session_thread.specs.ByHistory.{ByHistory, Moves}
+use Rattle.session_thread.specs.ByHistory.{ByHistory, Moves, shown_since, shown_then}
 use Rattle.session_thread.specs.Locks.{In, LockedStore}
-use Rattle.session_thread.specs.SinceSelect.{shown_since, shown_then}
 use Rattle.laws_client.specs.FlagTurns.{shown_in}
 use Rattle.laws_client.proofs.Served.{never}
 use Rattle.laws_client.specs.ServedStays.{ServedSessionsStay, stays_by}

@@ -1,7 +1,7 @@
 -- Over a whole record no text that is put is too long: of connections, sessions, lanes and mailboxes.
 use Rattle.std.proofs.Common.{◌≡◌, ℕ, ◌+◌, ◌≤◌, ◌<◌, ◌^◌, Bool, false, true, List, [], ◌∷◌, length, refl, sym, subst, ap, ◌∙◌, arith}
 use Rattle.std.specs.Prelude.{Option, Some, None, IfSome}
-use Rattle.shard_queue.specs.At.{set_at}
+use Rattle.shard_queue.specs.Lane.{set_at}
 use Rattle.shard_queue.proofs.AtLaws.{at_each}
 use Rattle.change_ring.specs.declared.change.Flags.{Flags}
 use Rattle.delivery_token.specs.declared.CopyKey.{CopyKey}
@@ -27,8 +27,8 @@ use Rattle.imap_session.specs.Dialogue as imap
 use Rattle.imap_session.specs.Dialogue.{AnswersLine, AnswersOne, Converses, Sends, goes_on, parts as ends_with, reads, silent, too_long}
 use Rattle.house.specs.Meets.{Meets}
 use Rattle.imap_session.specs.Folders.{folders_of, admission_of}
-use Rattle.house_peers.specs.SeatedVisitor as seated
-use Rattle.house_peers.specs.SeatedVisitor.{GoesOn, SeatedVisitor, seated_greeted}
+use Rattle.house_peers.specs.Visitor as seated
+use Rattle.house_peers.specs.Visitor.{GoesOn, SeatedVisitor, seated_greeted}
 use Rattle.house.specs.Setup.{Setup, session_seat, terms_of, admitted_in}
 use Rattle.house.specs.Printing.{ConnectionGoes, Leaves, goes, stays, still_unsaid, with_session}
 use Rattle.house.specs.Scene as scene

@@ -12,9 +12,8 @@ use Rattle.imap_session.specs.Commands.{due_of, turn_of_long_line, with_bytes}
 use Rattle.imap_session.specs.Store.{AnswersVerdict, Met}
 use Rattle.imap_session.specs.Dialogue as dialogue
 use Rattle.imap_session.specs.Dialogue.{AnswersLine, AnswersOne, Converses, Sends, goes_on, parts, reads, silent, spelled, too_long}
-use Rattle.house_peers.specs.Visitor.{Visitor}
-use Rattle.house_peers.specs.SeatedVisitor as seated
-use Rattle.house_peers.specs.SeatedVisitor.{GoesOn, SeatedVisitor, Works}
+use Rattle.house_peers.specs.Visitor.{Visitor, GoesOn, SeatedVisitor, Works}
+use Rattle.house_peers.specs.Visitor as seated
 use Rattle.imap_session.specs.Happenings.{Happening, Heard, IsSentFor, Line, Literal, LongLine, Told, VerdictsArePrinted, bytes_in, leads_to, told_of}
 use Rattle.laws_client.specs.Lives.{Lives, turns}
 use Rattle.laws_client.proofs.Moved.{Calls}

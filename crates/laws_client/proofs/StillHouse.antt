@@ -10,7 +10,7 @@ use Rattle.world.specs.declared.hand.Hand.TheVariants.{Empty, Taken, Done}
 use Rattle.world.specs.World.{AnswerStep, DeliverStep, TakeStep, World, answer_full, answers, deliver_full, deliver_no_memory, deliver_spent, delivers, empty_world, take_empty, takes}
 use Rattle.world.proofs.Base.{Every, all_of_every, every_append}
 use Rattle.house_peers.specs.Caller.{Caller}
-use Rattle.house_peers.specs.SeatedVisitor.{SeatedVisitor}
+use Rattle.house_peers.specs.Visitor.{SeatedVisitor}
 use Rattle.house.specs.Setup.{Setup}
 use Rattle.house.specs.Scene.{BytesPlay, HasNothing, Scene, connection_hears, connection_puts, empty_scene, goes_on, is_shut_in, opens, session_hears, session_puts, with_world}
 use Rattle.house.specs.Settled.{is_held}

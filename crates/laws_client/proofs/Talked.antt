@@ -4,7 +4,7 @@ use Rattle.std.specs.Prelude.{Bool, IfSome, Option, Some, None, flat_map}
 use Rattle.std.proofs.lemmas.Grind.{flat_map-append}
 use Rattle.line_io.specs.Wire.{crlf}
 use Rattle.delivery_token.specs.declared.Verdict.{Verdict}
-use Rattle.delivery_token.specs.Heard.{HeardFor}
+use Rattle.delivery_token.specs.Copies.{HeardFor}
 use Rattle.delivery_token.specs.declared.log.Noted.{Noted}
 use Rattle.world.specs.World.{Config, Event, Step, World}
 use Rattle.imap_session.specs.declared.standing.After.{After}
@@ -13,9 +13,8 @@ use Rattle.imap_session.specs.Commands.{due_of, turn_of_long_line, with_bytes}
 use Rattle.imap_session.specs.Store.{AnswersVerdict, IdleTurns, Met}
 use Rattle.imap_session.specs.Dialogue as dialogue
 use Rattle.imap_session.specs.Dialogue.{AnswersLine, AnswersOne, Converses, Sends, goes_on, parts, reads, silent, spelled, too_long}
-use Rattle.house_peers.specs.Visitor.{Visitor}
-use Rattle.house_peers.specs.SeatedVisitor as seated
-use Rattle.house_peers.specs.SeatedVisitor.{GoesOn, IsAnswered, SeatedVisitor, Works, keys_of, sent_by}
+use Rattle.house_peers.specs.Visitor.{Visitor, GoesOn, IsAnswered, SeatedVisitor, Works, keys_of, sent_by}
+use Rattle.house_peers.specs.Visitor as seated
 use Rattle.imap_session.specs.Happenings.{Happening, Heard, IsPrinted, IsSentFor, Line, Literal, LongLine, Told, Turned, bytes_in, leads_to, told_of}
 use Rattle.laws_client.specs.Lives.{Lives, comes, turns, others}
 use Rattle.laws_client.specs.Views.{IsOfOthers}

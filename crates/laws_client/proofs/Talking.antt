@@ -1,12 +1,12 @@
 -- A whole talk, one turn behind the other.
 use Rattle.std.proofs.Common.{◌≡◌, ℕ, true, List, ◌∷◌, ap, sym, refl, subst, []}
 use Rattle.std.specs.Prelude.{Option, Some, None, IfSome}
-use Rattle.imap_session.specs.Exchange.{Standing, Turn, PendingLiteral, is_idling, kept_behind, may_send}
+use Rattle.imap_session.specs.Exchange.{Standing, Turn, PendingLiteral, is_idling, may_send}
+use Rattle.imap_session.specs.Happenings.{kept_behind, Happening, Heard, Line, Literal, LongLine, Turned, leads_to}
 use Rattle.imap_session.specs.Commands.{turn_of_long_line, with_bytes}
 use Rattle.laws_client.specs.Beliefs.{IsOf, Follows, Leads}
 use Rattle.laws_client.specs.ListLaws.{TalkIsFollowed}
 use Rattle.laws_client.specs.Talks.{MayHappen}
-use Rattle.imap_session.specs.Happenings.{Happening, Heard, Line, Literal, LongLine, Turned, leads_to}
 use Rattle.laws_client.specs.ListTurns.{AreTags, IsTag, SeesAll}
 use Rattle.laws_client.proofs.Commands.{answer_is_followed, long_line_tells_nothing, verdict_is_followed}
 use Rattle.laws_client.proofs.Ends.{leaves}

@@ -1,8 +1,7 @@
 -- Texts that are put stay as long as they are: of lanes, hands and mailboxes.
 use Rattle.std.proofs.Common.{◌≡◌, ℕ, ◌<◌, ◌^◌, List, [], ◌∷◌, length, sym, subst}
-use Rattle.shard_queue.specs.At.{set_at}
+use Rattle.shard_queue.specs.Lane.{set_at, Lane, put, took}
 use Rattle.shard_queue.proofs.AtLaws.{at_each}
-use Rattle.shard_queue.specs.Lane.{Lane, put, took}
 use Rattle.shard_queue.specs.declared.lane.Entry.{Entry}
 use Rattle.shard_queue.specs.declared.lane.Entry.TheVariants.{Item, End}
 use Rattle.delivery_token.specs.declared.Job.{Job}

@@ -22,7 +22,7 @@ use Rattle.imap_session.specs.Telling.{tells_uid}
 use Rattle.world.specs.Law.{StandsOnce, pairs}
 use Rattle.world.specs.World.{World}
 use Rattle.imap_session.specs.Folders.{folders_of}
-use Rattle.house_peers.specs.SeatedVisitor.{SeatedVisitor}
+use Rattle.house_peers.specs.Visitor.{SeatedVisitor}
 use Rattle.house.specs.Scene.{Scene, empty_scene}
 use Rattle.house.specs.Setup.{Setup, session_seat}
 use Rattle.exactly_once.specs.Promise.{Entry, IsRecord}

@@ -6,7 +6,7 @@ use Rattle.imap_grammar.specs.Reading.{read}
 use Rattle.imap_grammar.specs.Verbs.{verb_of}
 use Rattle.imap_grammar.specs.declared.command.Command.{Command}
 use Rattle.imap_session.specs.Exchange.{tagged}
-use Rattle.house_peers.specs.SeatedVisitor.{SeatedVisitor}
+use Rattle.house_peers.specs.Visitor.{SeatedVisitor}
 use Rattle.house.specs.Scene.{Scene, empty_scene, place_of, seat_of}
 use Rattle.house.specs.Setup.{Setup, session_seat}
 use Rattle.house.specs.declared.event.Event as house

@@ -1,18 +1,15 @@
 -- What the client of a house's session knows, over a record of all that happened in the house and was printed.
 use Rattle.std.specs.Prelude.{◌≡◌, ℕ, ◌+◌, ◌<◌, ◌^◌, ◌==◌, Bool, true, false, List, [], ◌∷◌, ◌++◌, flat_map, IfSome, Some, None, if◌then◌else◌}
-use Rattle.envelope.specs.Directory.{Home}
-use Rattle.envelope.specs.Names.{is_folder}
+use Rattle.envelope.specs.Names.{Home, is_folder}
 use Rattle.line_io.specs.Wire.{joined}
 use Rattle.world.specs.World.{Event as WorldEvent, IsWorld, Session, Steps, World, empty_world, pending}
 use Rattle.imap_session.specs.Commands.{greeting}
 use Rattle.imap_session.specs.Exchange.{Standing}
 use Rattle.imap_session.specs.Folders.{folders_of}
-use Rattle.house_peers.specs.Visitor.{greeted}
-use Rattle.house_peers.specs.SeatedVisitor.{SeatedVisitor}
+use Rattle.house_peers.specs.Visitor.{greeted, SeatedVisitor}
 use Rattle.house.specs.Scene.{LeavesMailbox, Scene, empty_scene, place_of}
-use Rattle.house.specs.Setup.{Setup, admitted_in}
+use Rattle.house.specs.Setup.{Setup, admitted_in, setup_of}
 use Rattle.settings.specs.declared.config.Config.{Config}
-use Rattle.house.specs.Setup.{setup_of}
 use Rattle.settings.specs.Settings.{IsInRange, config_fault}
 use Rattle.house.specs.declared.event.Event as house
 use Rattle.house.specs.declared.event.Event.TheVariants.{Enter, Leave, Say}

@@ -4,9 +4,9 @@ use Rattle.imap_grammar.specs.Reading.{read}
 use Rattle.imap_grammar.specs.declared.command.Command.{Command}
 use Rattle.imap_grammar.specs.declared.command.Command.TheVariants as commands
 use Rattle.imap_grammar.specs.declared.command.ImapFault.{ImapFault}
-use Rattle.imap_session.specs.Exchange.{Folder, Standing, kept_tag}
+use Rattle.imap_session.specs.Exchange.{Folder, Standing}
+use Rattle.imap_session.specs.Happenings.{kept_tag, whole_line}
 use Rattle.laws_client.specs.Fetches.{AreToldParts, IsNumbered}
-use Rattle.imap_session.specs.Happenings.{whole_line}
 use Rattle.laws_client.specs.ListTurns.{IsPlain, IsTag}
 
 -- The command stays in the mailbox that is selected. SELECT and EXAMINE enter one,

@@ -1,6 +1,6 @@
 -- What the client of a house's session believes of flags, over a record of all that happened in the house and was printed.
 use Rattle.std.specs.Prelude.{◌≡◌, ℕ, false, List, [], Some, None}
-use Rattle.house_peers.specs.SeatedVisitor.{SeatedVisitor}
+use Rattle.house_peers.specs.Visitor.{SeatedVisitor}
 use Rattle.house.specs.Scene.{Scene, empty_scene}
 use Rattle.house.specs.Setup.{Setup}
 use Rattle.house.specs.declared.event.Event as house

@@ -14,7 +14,8 @@ use Rattle.imap_answers.specs.Answers.{is_uid, literal, row_answer, flags_answer
 use Rattle.imap_grammar.specs.declared.items.FetchItem.{FetchItem}
 use Rattle.imap_grammar.specs.Reading.{read}
 use Rattle.imap_grammar.specs.declared.command.Command.{Command}
-use Rattle.imap_session.specs.Exchange.{Answer, Exchange, Standing, Turn, bye, kept_tag, played, refusal_text, tagged}
+use Rattle.imap_session.specs.Exchange.{Answer, Exchange, Standing, Turn, bye, played, refusal_text, tagged}
+use Rattle.imap_session.specs.Happenings.{kept_tag, Happening, IsPrinted}
 use Rattle.imap_session.specs.declared.standing.Profile.{Profile}
 use Rattle.imap_session.specs.Commands.{greeting, idle_turn, turn_of, turn_of_long_line, turn_of_verdict}
 use Rattle.delivery_token.specs.declared.Verdict.{Verdict}
@@ -23,7 +24,6 @@ use Rattle.laws_client.specs.Beliefs.{Each, Follows, HearsUid, IsKnownTo, IsOf, 
 use Rattle.laws_client.specs.Commands.{IsFollowed}
 use Rattle.laws_client.specs.Fetches.{AreToldParts, IsNumbered}
 use Rattle.laws_client.specs.Talks.{Talks}
-use Rattle.imap_session.specs.Happenings.{Happening, IsPrinted}
 use Rattle.laws_client.specs.ListTurns.{AreTags, IsPlain, IsRowOf, IsTag, Says, SeesAll}
 
 -- ---- bytes

@@ -19,9 +19,8 @@ use Rattle.imap_session.specs.Commands.{turn_of, unlimited}
 use Rattle.imap_session.specs.Texts.{response_text}
 use Rattle.imap_session.specs.Store.{Met}
 use Rattle.session_thread.specs.declared.locked_store.Entry.{Entry}
-use Rattle.session_thread.specs.ByHistory.{ByHistory}
+use Rattle.session_thread.specs.ByHistory.{ByHistory, WasShown}
 use Rattle.session_thread.specs.Locks.{HasItsText, LockedStore}
-use Rattle.session_thread.specs.SinceSelect.{WasShown}
 use Rattle.laws_client.specs.Beliefs.{IsRight}
 use Rattle.laws_client.specs.Client.{Client, Known, knowing}
 use Rattle.laws_client.specs.Clients.{IsRightAbout, has_ok, hears, hears_all}

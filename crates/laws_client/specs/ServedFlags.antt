@@ -9,9 +9,8 @@ use Rattle.house_history.specs.Legal.{Legal}
 use Rattle.imap_session.specs.Exchange.{Alter, Altered, Answer, Call, Found, Read, Standing, Turn}
 use Rattle.imap_session.specs.Store.{Met}
 use Rattle.session_thread.specs.declared.locked_store.Entry.{Entry}
-use Rattle.session_thread.specs.ByHistory.{ByHistory}
+use Rattle.session_thread.specs.ByHistory.{ByHistory, WasShown}
 use Rattle.session_thread.specs.Locks.{LockedStore}
-use Rattle.session_thread.specs.SinceSelect.{WasShown}
 use Rattle.laws_client.specs.Beliefs.{Each}
 use Rattle.laws_client.specs.Client.{Client, Known, knowing}
 use Rattle.laws_client.specs.Clients.{hears, hears_all}

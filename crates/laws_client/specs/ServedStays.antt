@@ -4,9 +4,8 @@ use Rattle.std.specs.List.{list_all}
 use Rattle.imap_session.specs.Exchange.{Answer, Entered, Event, Left}
 use Rattle.imap_session.specs.Store.{Met}
 use Rattle.session_thread.specs.declared.locked_store.Entry.{Entry}
-use Rattle.session_thread.specs.ByHistory.{ByHistory}
+use Rattle.session_thread.specs.ByHistory.{ByHistory, shown_since}
 use Rattle.session_thread.specs.Locks.{In, LockedStore}
-use Rattle.session_thread.specs.SinceSelect.{shown_since}
 
 -- the session neither entered a mailbox by it nor left one
 abbrev pub stays_by : Answer → Bool

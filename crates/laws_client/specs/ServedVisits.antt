@@ -10,8 +10,7 @@ use Rattle.session_thread.specs.ByHistory.{ByHistory}
 use Rattle.session_thread.specs.Locks.{Holds, LockedStore}
 use Rattle.imap_stream.specs.declared.client_slot.Parting.{Parting}
 use Rattle.imap_stream.specs.Attending.{Attended, Calls, HasCalled}
-use Rattle.imap_stream.specs.Living.{Beginning, HasLived}
-use Rattle.imap_stream.specs.Visits.{IsGreeted, Visit, is_over}
+use Rattle.imap_stream.specs.Visits.{Beginning, HasLived, IsGreeted, Visit, is_over}
 use Rattle.laws_client.specs.Clients.{IsRightAbout, hears_all}
 use Rattle.laws_client.specs.RecordTurns.{Stands}
 use Rattle.laws_client.specs.Served.{counted_by}

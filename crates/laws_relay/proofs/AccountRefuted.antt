@@ -5,7 +5,7 @@ use Rattle.std.proofs.lemmas.Bool.{false≢true}
 use Rattle.running_house.proofs.ListLaws.{contains_cases, contains_none, first_of, later_of}
 use Rattle.delivery_token.specs.Text.{Text, undated}
 use Rattle.delivery_token.specs.declared.CopyKey.{CopyKey}
-use Rattle.envelope.specs.Directory.{lookup}
+use Rattle.envelope.specs.Names.{lookup}
 use Rattle.envelope.specs.Reading.{read, forward_at}
 use Rattle.envelope.specs.Values.{Command, Path, Rcpt}
 use Rattle.envelope.specs.declared.command.CommandFault.{CommandFault}

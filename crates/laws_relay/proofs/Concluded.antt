@@ -10,7 +10,7 @@ use Rattle.delivery_token.specs.Text.{Text, undated}
 use Rattle.delivery_token.specs.declared.CopyKey.{CopyKey}
 use Rattle.delivery_token.specs.declared.Verdict.TheVariants.{Stored}
 use Rattle.delivery_token.specs.declared.log.Noted.{Noted}
-use Rattle.envelope.specs.Directory.{shard_of}
+use Rattle.envelope.specs.Names.{shard_of}
 use Rattle.lane_work.specs.Account.{closings_of, is_closed_by}
 use Rattle.lane_work.specs.Talk.{Judged}
 use Rattle.lmtp_machine.specs.Dialogue.{Submission}

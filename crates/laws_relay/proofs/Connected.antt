@@ -3,15 +3,14 @@ use Rattle.std.proofs.Common.{◌≡◌, ℕ, Bool, List, [], ◌∷◌, ◌++�
 use Rattle.std.specs.Prelude.{codes}
 use Rattle.std.proofs.lemmas.List.{map-append}
 use Rattle.delivery_token.specs.declared.Verdict.{Verdict}
-use Rattle.envelope.specs.Directory.{Directory, marked}
+use Rattle.envelope.specs.Names.{Directory, marked}
 use Rattle.line_io.specs.Wire.{IsCut, joined, wire_lines}
 use Rattle.line_io.specs.inner.WireLaws.{cut_none, wire_join, wire_joined}
 use Rattle.lmtp_machine.specs.declared.reply.Reply.{Reply}
 use Rattle.lmtp_machine.specs.declared.reply.Reply.TheVariants.{Greeting}
-use Rattle.lmtp_machine.specs.Replies.{wire}
+use Rattle.lmtp_machine.specs.Dialogue.{wire, Phase, Waiting, Setting, Standing, Submission, Event, Opened, Line, Starved, Answered, Shut, Turn, dialogue, fresh, on_event, on_verdicts, verdict_reply}
 use Rattle.lmtp_machine.specs.Conversation.{Conversation, EachMayBeHeard, Heard, MayHear, ◌⨾◌, led_by}
 use Rattle.lmtp_machine.specs.Conversation as conversation
-use Rattle.lmtp_machine.specs.Dialogue.{Phase, Waiting, Setting, Standing, Submission, Event, Opened, Line, Starved, Answered, Shut, Turn, dialogue, fresh, on_event, on_verdicts, verdict_reply}
 use Rattle.lmtp_machine.proofs.Pieces.{cut-append}
 use Rattle.laws_relay.specs.Fates.{MayHappen, answers_in, answers_of, lines_in, lines_of}
 use Rattle.laws_relay.specs.Moments.{Moment, EachMomentMayHappen, dialogue_over, events_of}

@@ -13,11 +13,10 @@ use Rattle.envelope.specs.Reading.{read, forward_at}
 use Rattle.house_history.specs.declared.event.Event.{Event}
 use Rattle.house_history.specs.declared.event.Event.TheVariants.{Sent, Judged as JudgedCopy}
 use Rattle.house_history.specs.Legal.{GivesUid, IsBefore, IsLife, Legal, WasJudged, judged as judged_once, unused}
-use Rattle.lane_work.specs.Copies.{told}
+use Rattle.lane_work.specs.Account.{told}
 use Rattle.lane_work.specs.Talk.{HasTaken, goes_on, greeted, submits}
 use Rattle.line_io.specs.inner.WireLaws.{reading_cut}
-use Rattle.lmtp_machine.specs.Calls.{IsQuiet}
-use Rattle.lmtp_machine.specs.Conversation.{Conversation, Leads, led_by, line, none, opened}
+use Rattle.lmtp_machine.specs.Conversation.{IsQuiet, Conversation, Leads, led_by, line, none, opened}
 use Rattle.lmtp_machine.specs.Dialogue.{Answered, Data, Event as Spoken, Line, Ready, Submission, Turn, Waiting, dialogue, verdict_reply}
 use Rattle.lmtp_machine.specs.declared.reply.Reply.{Reply}
 use Rattle.lmtp_machine.specs.declared.reply.Reply.TheVariants as say

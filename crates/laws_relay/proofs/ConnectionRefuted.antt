@@ -9,7 +9,7 @@ use mathlib.Core.List.{IsPrefix}
 use Rattle.delivery_token.specs.declared.Refusal.{Refusal}
 use Rattle.delivery_token.specs.declared.Verdict.TheVariants.{Stored, Refused as IsRefused}
 use Rattle.delivery_token.specs.Text.{Text}
-use Rattle.envelope.specs.Directory.{Directory}
+use Rattle.envelope.specs.Names.{Directory}
 use Rattle.envelope.specs.Reading.{read}
 use Rattle.house_history.specs.declared.event.Event.{Event}
 use Rattle.house_history.specs.declared.event.Event.TheVariants.{Judged as WasToldOf}
@@ -20,9 +20,8 @@ use Rattle.lane_work.specs.Talk.{HasTaken, Judged, goes_on, greeted, submits}
 use Rattle.line_io.specs.Wire.{IsCut}
 use Rattle.line_io.specs.inner.WireLaws.{cut_none, cut_same, reading_cut}
 use Rattle.lmtp_machine.specs.Conversation.{Conversation, Heard, Leads, line, none, opened, starved}
-use Rattle.lmtp_machine.specs.Dialogue.{Data, Ended, Event as Spoken, Line, Phase, Ready, Setting, Standing, Start, Transaction, Turn, Waiting, dialogue, fresh, verdict_reply}
+use Rattle.lmtp_machine.specs.Dialogue.{Data, Ended, Event as Spoken, Line, Phase, Ready, Setting, Standing, Start, Transaction, Turn, Waiting, dialogue, fresh, verdict_reply, wire}
 use Rattle.lmtp_machine.specs.Message.{stored_text}
-use Rattle.lmtp_machine.specs.Replies.{wire}
 use Rattle.lmtp_machine.specs.declared.reply.Reply.{Reply}
 use Rattle.lmtp_machine.specs.declared.reply.Reply.TheVariants.{Bye, Greeting, ShuttingDown}
 use Rattle.lmtp_machine.proofs.Pieces.{nil_back, nil_front}

@@ -7,9 +7,8 @@ use Rattle.delivery_token.specs.declared.CopyKey.{CopyKey}
 use Rattle.delivery_token.specs.declared.Job.{Job}
 use Rattle.delivery_token.specs.declared.Verdict.{Verdict}
 use Rattle.delivery_token.specs.declared.log.Noted.{Noted}
-use Rattle.envelope.specs.Directory.{Directory}
-use Rattle.delivery_token.specs.Copies.{copies}
-use Rattle.delivery_token.specs.Heard.{HeardFor}
+use Rattle.envelope.specs.Names.{Directory}
+use Rattle.delivery_token.specs.Copies.{copies, HeardFor}
 use Rattle.lmtp_machine.specs.Dialogue.{Setting, Submission, keys_from}
 use Rattle.house_peers.specs.Caller.{copies_of}
 use Rattle.laws_relay.specs.Fates.{AreNamed, Names}

@@ -3,7 +3,7 @@ use Rattle.std.proofs.Common.{◌≡◌, ℕ, Bool, true, false, ◌==◌, List,
 use Rattle.std.specs.Prelude.{Result, Ok, Err, nat_lt, replicate, if◌then◌else◌}
 use Rattle.dot_stuffing.specs.declared.Outcome.{Outcome}
 use Rattle.dot_stuffing.specs.declared.Outcome.TheVariants as outcomes
-use Rattle.envelope.specs.Directory.{Directory, is_shut, lookup, shard_of}
+use Rattle.envelope.specs.Names.{Directory, is_shut, lookup, shard_of}
 use Rattle.envelope.specs.Reading.{read}
 use Rattle.envelope.specs.Values.{Path, Command}
 use Rattle.envelope.specs.Values as say

@@ -11,7 +11,7 @@ use Rattle.delivery_token.specs.declared.Verdict.{Verdict}
 use Rattle.delivery_token.specs.declared.Verdict.TheVariants.{Stored, Refused}
 use Rattle.delivery_token.specs.declared.log.Noted.{Noted}
 use Rattle.delivery_token.specs.Keys.{Below, Precedes}
-use Rattle.delivery_token.specs.Log.{stored_for, stored_in, stored_pair}
+use Rattle.delivery_token.specs.Copies.{stored_for, stored_in, stored_pair}
 use Rattle.running_house.specs.Lists.{IsTold, Rise, keys_of, of_seat}
 use Rattle.running_house.specs.Walk.{is_key}
 use Rattle.laws_relay.specs.Entries.{with_key, with_uid}

@@ -5,7 +5,7 @@ use Rattle.std.proofs.lemmas.Bool.{false≢true}
 use Rattle.std.proofs.lemmas.List.{length-map}
 use Rattle.delivery_token.specs.declared.Verdict.{Verdict}
 use Rattle.delivery_token.specs.declared.Verdict.TheVariants.{Stored, Refused}
-use Rattle.envelope.specs.Directory.{Directory}
+use Rattle.envelope.specs.Names.{Directory}
 use Rattle.lmtp_machine.specs.Dialogue.{Submission, verdict_reply}
 use Rattle.laws_relay.specs.Relay.{is_code}
 use Rattle.laws_relay.specs.ReplyLaws.{is_stored, last_line}

@@ -2,11 +2,11 @@
 use Rattle.std.proofs.Common.{◌≡◌, ◌≢◌, ℕ, ◌+◌, ◌<◌, Bool, true, false, ◌&&◌, ◌||◌, List, [], ◌∷◌, ◌++◌, Contains, refl, ap, sym, subst, ◌∙◌, append-nil, append_assoc, arith, Option, Some, None}
 use Rattle.std.specs.Borrow.{Bor}
 use Rattle.delivery_token.specs.declared.log.Noted.{Noted}
-use Rattle.shard_queue.specs.At.{set_at}
+use Rattle.shard_queue.specs.Lane.{set_at}
 use Rattle.shard_queue.proofs.AtLaws.{at_cases, set_at-same}
 use Rattle.world.specs.World as world
 use Rattle.world.specs.World.{shard_of}
-use Rattle.lmtp_machine.specs.Replies.{wire}
+use Rattle.lmtp_machine.specs.Dialogue.{wire}
 use Rattle.house_peers.specs.Caller.{Caller, greeted, more_waits, unread}
 use Rattle.house.specs.Printing.{ConnectionGoes}
 use Rattle.house.specs.Scene.{connection_hears, connection_puts, goes_on, opens, place_of, seat_of, session_hears, session_puts}

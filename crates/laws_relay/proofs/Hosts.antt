@@ -4,8 +4,7 @@ use Rattle.std.specs.Prelude.{◌==◌, ◌&&◌, not, Result, Ok, Err, length, 
 use Rattle.std.specs.List.{list_all}
 use Rattle.std.proofs.lemmas.Bool.{false≢true}
 use Rattle.std.proofs.lemmas.Bool.Decides.{Decides-eqb}
-use Rattle.envelope.specs.Directory.{Home}
-use Rattle.envelope.specs.Names.{first_fault, has_length, home_of, homes_unless, is_name, is_name_byte, words_read}
+use Rattle.envelope.specs.Names.{Home, first_fault, has_length, home_of, homes_unless, is_name, is_name_byte, words_read}
 use Rattle.envelope.specs.declared.directory.DirectoryFault.{DirectoryFault}
 use Rattle.envelope.specs.declared.directory.DirectoryFault.TheVariants.{BadName, TooMany}
 use Rattle.laws_relay.specs.ReplyLaws.{IsInLine}

@@ -1,7 +1,7 @@
 -- The messages that a connection submitted have its numbers, one after the other.
 use Rattle.std.proofs.Common.{◌≡◌, ℕ, zero, suc, ◌+◌, ◌<◌, List, [], ◌∷◌, ◌++◌, length, refl, sym, subst, arith}
 use Rattle.std.specs.Prelude.{slice_index_or}
-use Rattle.envelope.specs.Directory.{Directory, marked}
+use Rattle.envelope.specs.Names.{Directory, marked}
 use Rattle.lmtp_machine.specs.Dialogue.{Setting, Standing, Submission, Turn, fresh, on_event}
 use Rattle.lmtp_machine.specs.Kept.{AreMessages, IsMessage, Kept, KeptAfter}
 use Rattle.lmtp_machine.proofs.Kept.{event_keeps, fresh_kept}

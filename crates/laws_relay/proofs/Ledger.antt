@@ -8,9 +8,8 @@ use Rattle.delivery_token.specs.declared.CopyKey.{CopyKey}
 use Rattle.delivery_token.specs.declared.Job.{Job}
 use Rattle.delivery_token.specs.declared.Verdict.{Verdict}
 use Rattle.delivery_token.specs.declared.log.Noted.{Noted}
-use Rattle.envelope.specs.Directory.{Directory}
-use Rattle.lane_work.specs.Account.{Premises, setting_at}
-use Rattle.lane_work.specs.Copies.{copies, copies_of}
+use Rattle.envelope.specs.Names.{Directory}
+use Rattle.lane_work.specs.Account.{Premises, setting_at, copies, copies_of}
 use Rattle.lane_work.specs.Talk.{Judged}
 use Rattle.lmtp_machine.specs.declared.reply.Reply.{Reply}
 use Rattle.lmtp_machine.specs.Dialogue.{Setting, Submission, dialogue, fresh, keys_from}

@@ -4,12 +4,11 @@ use Rattle.std.specs.Prelude.{codes, decimal, flat_map}
 use Rattle.std.specs.List.{list_all}
 use Rattle.std.proofs.lemmas.Bool.{false≢true}
 use Rattle.std.proofs.lemmas.List.Folds.{list_all-append}
-use Rattle.line_io.specs.Marks.{marked}
-use Rattle.line_io.specs.Wire.{joined, wire_lines}
+use Rattle.line_io.specs.Wire.{marked, joined, wire_lines}
 use Rattle.line_io.specs.inner.WireLaws.{wire_joined}
 use Rattle.lmtp_machine.specs.declared.reply.Reply.{Reply}
 use Rattle.lmtp_machine.specs.declared.reply.Reply.TheVariants.{Greeting, LineTooLong, CommandUnknown, NotImplemented, BadClientName, InvalidArguments, PathTooLong, ParameterUnknown, BadSequence, Extensions, SenderOk, DomainUnknown, MailboxUnknown, TooManyRecipients, RecipientOk, StartInput, Okay, CannotVerify, Bye, ShuttingDown, Delivered, ShardFull, ShardClosed, MailboxFull, OutOfMemory, NoUidLeft, MessageTooBig, NulByte}
-use Rattle.lmtp_machine.specs.Replies.{wire}
+use Rattle.lmtp_machine.specs.Dialogue.{wire}
 use Rattle.laws_relay.specs.ReplyLaws.{IsInLine}
 use Rattle.laws_relay.proofs.Cuts.{all_joined, all_lines, all_uncut, around, is_inner, lines_of}
 

@@ -3,8 +3,7 @@ use Rattle.std.proofs.Common.{◌≡◌, ◌≢◌, ℕ, ◌⊎◌, inl, inr, Bo
 use Rattle.std.specs.List.{list_all}
 use Rattle.std.proofs.lemmas.Bool.{false≢true}
 use Rattle.std.proofs.lemmas.Bool.Decides.{eqb_tells}
-use Rattle.envelope.specs.Directory.{Home}
-use Rattle.envelope.specs.Names.{has_length, is_name, is_name_byte}
+use Rattle.envelope.specs.Names.{Home, has_length, is_name, is_name_byte}
 use Rattle.envelope.specs.declared.directory.DirectoryFault.{DirectoryFault}
 use Rattle.envelope.specs.declared.directory.DirectoryFault.TheVariants.{TooMany, BadName}
 use Rattle.settings.specs.Settings.{fault_of_numbers, names_first}

@@ -2,7 +2,7 @@
 use Rattle.std.proofs.Common.{◌≡◌, ℕ, zero, suc, ◌<◌, true, false, List, [], ◌∷◌, length, map, refl, ap, arith}
 use Rattle.std.specs.Prelude.{slice_index_or}
 use Rattle.std.proofs.lemmas.Bool.{false≢true}
-use Rattle.envelope.specs.Directory.{Directory}
+use Rattle.envelope.specs.Names.{Directory}
 use Rattle.laws_relay.specs.ReplyLaws.{is_stored}
 use Rattle.laws_relay.specs.Handed.{Handed, no_message}
 use Rattle.laws_relay.specs.Fates.{Fate, Judged, Awaited, TurnedAway, Unheard, HaveFates, IsSubmitted, all_submitted, all_told, awaited, judged, none, turned_away, unheard, was_stored}

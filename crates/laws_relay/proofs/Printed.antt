@@ -9,7 +9,7 @@ use Rattle.lmtp_machine.specs.Calls.{Tells}
 use Rattle.lmtp_machine.specs.declared.connection.What.{What}
 use Rattle.lmtp_machine.specs.declared.connection.What.TheVariants.{More, Submit, Quit}
 use Rattle.lmtp_machine.specs.declared.reply.Reply.{Reply}
-use Rattle.lmtp_machine.specs.Replies.{wire}
+use Rattle.lmtp_machine.specs.Dialogue.{wire}
 use Rattle.house_peers.specs.Caller.{GoesOn, Caller, Proceeds, Terms, Works, answers, fades, lingers, stalls, talks, waits, with_unsaid, works}
 use Rattle.house.specs.Printing.{ConnectionGoes, Leaves, Prints, goes, marked_connection, of_connection, prints_all, prints_none, stays}
 use Rattle.house.proofs.Callers.{does_serial}

@@ -4,9 +4,9 @@ use Rattle.std.proofs.lemmas.List.Elements.{Contains-append_cases}
 use Rattle.delivery_token.specs.declared.Job.{Job}
 use Rattle.delivery_token.specs.declared.Verdict.{Verdict}
 use Rattle.delivery_token.specs.declared.log.Noted.{Noted}
-use Rattle.envelope.specs.Directory.{Directory}
-use Rattle.lane_work.specs.Copies.{Room, WerePut}
-use Rattle.lane_work.specs.Copies as were
+use Rattle.envelope.specs.Names.{Directory}
+use Rattle.lane_work.specs.Account.{Room, WerePut}
+use Rattle.lane_work.specs.Account as were
 use Rattle.lane_work.specs.Consuming.{item_of, items_of}
 use Rattle.shard_queue.specs.declared.lane.Entry.{Entry}
 use Rattle.shard_queue.specs.declared.lane.Entry.TheVariants.{Item, End}

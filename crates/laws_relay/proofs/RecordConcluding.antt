@@ -5,7 +5,7 @@ use Rattle.std.proofs.lemmas.Bool.{cases_lt}
 use Rattle.std.proofs.lemmas.Bool.Decides.{eqb_tells}
 use Rattle.delivery_token.specs.declared.Job.{Job}
 use Rattle.house_peers.specs.Caller.{Caller}
-use Rattle.lmtp_machine.specs.Replies.{wire}
+use Rattle.lmtp_machine.specs.Dialogue.{wire}
 use Rattle.shard_queue.specs.declared.lane.Entry.TheVariants.{Item}
 use Rattle.script.specs.Promise.{entries_of}
 use Rattle.script.proofs.Parts.{parts_record}

@@ -3,7 +3,7 @@ use Rattle.std.proofs.Common.{◌≡◌, ℕ, zero, suc, ◌<◌, true, List, []
 use Rattle.std.specs.Prelude.{slice_index_or}
 use Rattle.std.proofs.lemmas.Bool.{false≢true}
 use Rattle.std.proofs.lemmas.List.{length-map}
-use Rattle.envelope.specs.Directory.{Directory}
+use Rattle.envelope.specs.Names.{Directory}
 use Rattle.lmtp_machine.specs.Dialogue.{verdict_reply}
 use Rattle.laws_relay.specs.Fates.{AreCut, Fate, Judged, Awaited, TurnedAway, Unheard, HaveFates, all_submitted, all_told, awaited, cut, judged, none, same, turned_away, unheard, was_stored}
 use Rattle.laws_relay.specs.Handed.{Handed}

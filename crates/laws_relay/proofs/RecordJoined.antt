@@ -12,14 +12,13 @@ use Rattle.delivery_token.specs.declared.Job.{Job}
 use Rattle.delivery_token.specs.declared.Verdict.{Verdict}
 use Rattle.delivery_token.specs.declared.Verdict.TheVariants.{Stored, Refused}
 use Rattle.delivery_token.specs.declared.log.Noted.{Noted}
-use Rattle.envelope.specs.Directory.{Directory}
+use Rattle.envelope.specs.Names.{Directory}
 use Rattle.shard_queue.specs.declared.lane.Entry.{Entry}
 use Rattle.shard_queue.specs.declared.lane.Entry.TheVariants.{Item}
 use Rattle.lmtp_machine.specs.declared.reply.Reply.{Reply}
 use Rattle.lmtp_machine.specs.declared.reply.Reply.TheVariants.{Greeting}
-use Rattle.lmtp_machine.specs.Dialogue.{Setting, Submission}
+use Rattle.lmtp_machine.specs.Dialogue.{Setting, Submission, wire}
 use Rattle.lmtp_machine.specs.Message.{stored_text}
-use Rattle.lmtp_machine.specs.Replies.{wire}
 use Rattle.house_peers.specs.Caller.{Caller, Terms, copies_of, setting_of}
 use Rattle.laws_relay.specs.Conclusions.{MayForget}
 use Rattle.laws_relay.specs.Fates.{AreCut, Fate, HaveFates, IsSender, IsSubmitted, Names, all_submitted, all_told, was_stored}

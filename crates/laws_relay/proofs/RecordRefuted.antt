@@ -6,7 +6,7 @@ use Rattle.change_ring.specs.Log.{no_flags}
 use Rattle.delivery_token.specs.Text.{Text, undated}
 use Rattle.delivery_token.specs.declared.CopyKey.{CopyKey}
 use Rattle.delivery_token.specs.declared.Job.{Job}
-use Rattle.envelope.specs.Directory.{Directory}
+use Rattle.envelope.specs.Names.{Directory}
 use Rattle.envelope.specs.Reading.{read, forward_at}
 use Rattle.envelope.specs.Values.{To}
 use Rattle.lmtp_machine.specs.Message.{stored_text}

@@ -2,12 +2,11 @@
 use Rattle.std.proofs.Common.{◌≡◌, ℕ, zero, suc, ◌<◌, Bool, true, false, List, [], ◌∷◌, ◌++◌, length, map, take, drop, refl, ap, sym, subst, ◌∙◌, arith}
 use Rattle.std.specs.Prelude.{codes, slice_index_or, if◌then◌else◌}
 use Rattle.delivery_token.specs.declared.Verdict.{Verdict}
-use Rattle.envelope.specs.Directory.{Directory}
+use Rattle.envelope.specs.Names.{Directory}
 use Rattle.line_io.specs.Wire.{wire_lines, wire_rest}
 use Rattle.lmtp_machine.specs.declared.reply.Reply.{Reply}
 use Rattle.lmtp_machine.specs.declared.reply.Reply.TheVariants.{Greeting}
-use Rattle.lmtp_machine.specs.Dialogue.{Submission, dialogue, fresh}
-use Rattle.lmtp_machine.specs.Replies.{wire}
+use Rattle.lmtp_machine.specs.Dialogue.{Submission, dialogue, fresh, wire}
 use Rattle.laws_relay.specs.Relay.{is_code, last_lines, replies_of}
 use Rattle.laws_relay.specs.ReplyLaws.{IsInLine, last_line}
 use Rattle.laws_relay.specs.Handed.{Handed, Relay, Between, Begun, Sends, after_reply, ask_of, handed, handed_over, is_end, is_taken, no_message}

@@ -5,7 +5,7 @@ use Rattle.std.proofs.lemmas.Bool.{false≢true}
 use Rattle.delivery_token.specs.declared.Verdict.{Verdict}
 use Rattle.delivery_token.specs.declared.Verdict.TheVariants.{Stored, Refused}
 use Rattle.delivery_token.specs.declared.Refusal.TheVariants.{MailboxFull}
-use Rattle.envelope.specs.Directory.{lookup}
+use Rattle.envelope.specs.Names.{lookup}
 use Rattle.envelope.specs.Reading.{read, forward_at}
 use Rattle.envelope.specs.Values.{Command, Path, Rcpt}
 use Rattle.envelope.specs.declared.command.CommandFault.{CommandFault}

@@ -11,8 +11,7 @@ use Rattle.workers_sync.specs.Carried.{Carried, judged_of}
 use Rattle.delivery_token.specs.declared.CopyKey.{CopyKey}
 use Rattle.delivery_token.specs.declared.Job.{Job}
 use Rattle.delivery_token.specs.declared.Verdict.{Verdict}
-use Rattle.envelope.specs.Directory.{Home}
-use Rattle.envelope.specs.Names.{words_read}
+use Rattle.envelope.specs.Names.{Home, words_read}
 use Rattle.envelope.specs.declared.directory.DirectoryFault.{DirectoryFault}
 use Rattle.shard_queue.specs.declared.lane.Entry.TheVariants.{Item}
 use Rattle.shard_queue.specs.Lane.{of}
@@ -21,7 +20,7 @@ use Rattle.running_house.specs.Lists.{AreTold}
 use Rattle.settings.specs.Settings.{config_fault, fault_named, fault_of_numbers, names_first, words_of}
 use Rattle.settings.specs.declared.config.Config.{Config}
 use Rattle.settings.specs.declared.config.ConfigFault.{ConfigFault}
-use Rattle.lane_work.specs.Copies.{room_at}
+use Rattle.lane_work.specs.Account.{room_at}
 use Rattle.lane_work.specs.Consuming.{items_of}
 use Rattle.reckoning.proofs.Parts.{some_at}
 use Rattle.laws_relay.specs.ReplyLaws.{IsInLine}

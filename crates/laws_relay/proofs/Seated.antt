@@ -10,22 +10,20 @@ use Rattle.delivery_token.specs.declared.CopyKey.{CopyKey}
 use Rattle.delivery_token.specs.declared.Job.{Job}
 use Rattle.delivery_token.specs.declared.Verdict.{Verdict}
 use Rattle.delivery_token.specs.declared.log.Noted.{Noted}
-use Rattle.envelope.specs.Directory.{Directory, marked}
+use Rattle.envelope.specs.Names.{Directory, marked}
 use Rattle.shard_queue.specs.declared.lane.Entry.{Entry}
 use Rattle.shard_queue.specs.declared.lane.Entry.TheVariants.{Item, End}
-use Rattle.delivery_token.specs.Copies.{copies}
-use Rattle.delivery_token.specs.Heard.{HeardFor}
+use Rattle.delivery_token.specs.Copies.{copies, HeardFor}
 use Rattle.world.proofs.Base.{Every, every_append, every_weaker}
 use Rattle.world.proofs.Mails.{every_in_itself, is_in_contains}
 use Rattle.lmtp_machine.specs.declared.connection.What.{What}
 use Rattle.lmtp_machine.specs.declared.connection.What.TheVariants.{More, Submit, Quit}
 use Rattle.lmtp_machine.specs.declared.reply.Reply.{Reply}
 use Rattle.lmtp_machine.specs.declared.reply.Reply.TheVariants.{Greeting}
-use Rattle.lmtp_machine.specs.Replies.{wire}
+use Rattle.lmtp_machine.specs.Dialogue.{wire, Phase, Start, Ready, Waiting, Ended, Answered, Setting, Submission, Turn, keys_from, on_verdicts, verdict_reply}
 use Rattle.lmtp_machine.specs.Calls.{Tells}
 use Rattle.lmtp_machine.specs.Conversation.{Conversation, IsListening}
 use Rattle.lmtp_machine.specs.Dialogue as dialogue
-use Rattle.lmtp_machine.specs.Dialogue.{Phase, Start, Ready, Waiting, Ended, Answered, Setting, Submission, Turn, keys_from, on_verdicts, verdict_reply}
 use Rattle.lmtp_machine.specs.Kept.{IsMessage}
 use Rattle.house_peers.specs.ConnectionStands.{IsAwaited}
 use Rattle.house_peers.specs.Caller.{GoesOn, Caller, IsAnswered, Proceeds, Terms, Works, answers, copies_of, fades, greeted, keys_of, lingers, more_waits, setting_of, stalls, talks, unread, waits, works}

@@ -9,17 +9,15 @@ use Rattle.delivery_token.specs.declared.CopyKey.{CopyKey}
 use Rattle.delivery_token.specs.declared.Job.{Job}
 use Rattle.delivery_token.specs.declared.Verdict.{Verdict}
 use Rattle.delivery_token.specs.declared.Verdict.TheVariants.{Stored}
-use Rattle.envelope.specs.Directory.{Directory, is_shut}
+use Rattle.envelope.specs.Names.{Directory, is_shut}
 use Rattle.house_history.specs.declared.event.Event.{Event}
 use Rattle.house_history.specs.Legal.{Legal, Stands, WasJudged}
 use Rattle.house_history.proofs.Standing.{alone_there, keys_in_order}
-use Rattle.lane_work.specs.Account.{IsMarkedBy, Premises, closings_of, is_closed_by, setting_at}
+use Rattle.lane_work.specs.Account.{IsMarkedBy, Premises, closings_of, is_closed_by, setting_at, told}
 use Rattle.lane_work.specs.declared.desk.Closing.{Closing}
-use Rattle.lane_work.specs.Copies.{told}
 use Rattle.lane_work.specs.Talk.{Judged}
-use Rattle.lmtp_machine.specs.Dialogue.{Submission}
+use Rattle.lmtp_machine.specs.Dialogue.{Submission, wire}
 use Rattle.lmtp_machine.specs.Kept.{IsMessage}
-use Rattle.lmtp_machine.specs.Replies.{wire}
 use Rattle.running_house.specs.Conversing.{IsConnection}
 use Rattle.running_house.specs.Laws.{TalkIsOfLines}
 use Rattle.laws_relay.specs.AccountLaws.{ConnectionsAreKnown}

@@ -10,7 +10,7 @@ use Rattle.delivery_token.specs.declared.CopyKey.{CopyKey}
 use Rattle.delivery_token.specs.declared.Job.{Job}
 use Rattle.delivery_token.specs.declared.Refusal.{Refusal}
 use Rattle.delivery_token.specs.declared.Verdict.TheVariants.{Stored, Refused}
-use Rattle.envelope.specs.Directory.{lookup}
+use Rattle.envelope.specs.Names.{lookup}
 use Rattle.envelope.specs.Reading.{read, forward_at}
 use Rattle.envelope.specs.Values.{Command, Path, Rcpt}
 use Rattle.envelope.specs.declared.command.CommandFault.{CommandFault}

@@ -4,14 +4,12 @@ use Rattle.std.specs.Prelude.{if◌then◌else◌, slice_index_or}
 use mathlib.Core.List.{IsPrefix}
 use Rattle.house_history.specs.declared.event.Event.{Event}
 use Rattle.lane_work.specs.Account.{Premises}
-use Rattle.envelope.specs.Directory.{Directory}
+use Rattle.envelope.specs.Names.{Directory}
 use Rattle.lane_work.specs.Talk.{HasTaken, Judged, goes_on, greeted, submits}
 use Rattle.lmtp_machine.specs.Conversation.{Conversation}
-use Rattle.lmtp_machine.specs.Dialogue.{Phase, Setting, Start, verdict_reply}
+use Rattle.lmtp_machine.specs.Dialogue.{Phase, Setting, Start, verdict_reply, wire}
 use Rattle.lmtp_machine.specs.declared.reply.Reply.{Reply}
-use Rattle.lmtp_machine.specs.Replies.{wire}
-use Rattle.serving_workers.specs.Leaving.{AreWritten, HaveConversed, all_written, next, none, passed}
-use Rattle.serving_workers.specs.Lines.{AreRead, Spoken, Told, WereOver}
+use Rattle.serving_workers.specs.Leaving.{AreWritten, HaveConversed, all_written, next, none, passed, AreRead, Spoken, Told, WereOver}
 use Rattle.laws_relay.specs.Handed.{handed_over}
 use Rattle.laws_relay.specs.Served.{AreReplies, nothing_said, replied, ConnectionConcludes, LineConcludes, LinesConclude, ServedConcludes, ServersConclude, WorkerConcludes, bytes_on, replies_on}
 use Rattle.laws_relay.proofs.ServedWorkers.{earlier, is_this}

@@ -7,21 +7,18 @@ use Rattle.std.proofs.lemmas.List.Elements.{All-weaker, Contains-append_cases}
 use Rattle.delivery_token.specs.declared.Job.{Job}
 use Rattle.delivery_token.specs.declared.Verdict.{Verdict}
 use Rattle.delivery_token.specs.declared.Verdict.TheVariants.{Stored}
-use Rattle.envelope.specs.Directory.{Directory}
+use Rattle.envelope.specs.Names.{Directory}
 use Rattle.house_history.specs.declared.event.Event.{Event}
-use Rattle.house_history.specs.Legal.{Legal, WasJudged}
-use Rattle.house_history.specs.Laws.{StandsAlone}
+use Rattle.house_history.specs.Legal.{Legal, WasJudged, StandsAlone}
 use Rattle.house_history.proofs.Standing.{alone_there, keys_in_order}
-use Rattle.lane_work.specs.Account.{Premises, setting_at}
-use Rattle.lane_work.specs.Copies.{told}
+use Rattle.lane_work.specs.Account.{Premises, setting_at, told}
 use Rattle.lane_work.specs.Talk.{HasTaken, Judged}
 use Rattle.line_io.specs.Wire.{wire_lines}
 use Rattle.lmtp_machine.specs.declared.reply.Reply.{Reply}
 use Rattle.lmtp_machine.specs.Conversation.{Conversation}
-use Rattle.lmtp_machine.specs.Replies.{wire}
+use Rattle.lmtp_machine.specs.Dialogue.{wire}
 use Rattle.running_house.specs.Laws.{TalkIsOfLines}
-use Rattle.serving_workers.specs.Leaving.{HaveConversed, next, none, passed}
-use Rattle.serving_workers.specs.Lines.{Spoken}
+use Rattle.serving_workers.specs.Leaving.{HaveConversed, next, none, passed, Spoken}
 use Rattle.laws_relay.specs.Handed.{Between, handed, handed_over}
 use Rattle.laws_relay.specs.ReplyLaws.{IsInLine}
 use Rattle.laws_relay.specs.Served.{ClientSlotsConclude, ConnectionStands, ServedConcludes, ServedRelaysConclude, ServersConclude, WorkersConclude, bytes_on, replies_on}

@@ -2,15 +2,14 @@
 use Rattle.std.proofs.Common.{◌≡◌, ℕ, Bool, List, [], ◌∷◌, ◌++◌, map, refl, ap, sym, subst, ◌∙◌, append_assoc}
 use Rattle.std.specs.Prelude.{codes}
 use Rattle.delivery_token.specs.declared.Verdict.{Verdict}
-use Rattle.envelope.specs.Directory.{Directory, marked}
+use Rattle.envelope.specs.Names.{Directory, marked}
 use Rattle.lane_work.specs.Account.{setting_at}
 use Rattle.lane_work.specs.Talk.{Judged}
 use Rattle.line_io.specs.Wire.{wire_lines, wire_rest}
 use Rattle.lmtp_machine.specs.declared.reply.Reply.{Reply}
 use Rattle.lmtp_machine.specs.declared.reply.Reply.TheVariants.{Greeting}
 use Rattle.lmtp_machine.specs.Conversation.{MayHear}
-use Rattle.lmtp_machine.specs.Dialogue.{Phase, Setting, Standing, Event, Opened, Line, Starved, Answered, Shut, Turn, dialogue, fresh, on_event}
-use Rattle.lmtp_machine.specs.Replies.{wire}
+use Rattle.lmtp_machine.specs.Dialogue.{Phase, Setting, Standing, Event, Opened, Line, Starved, Answered, Shut, Turn, dialogue, fresh, on_event, wire}
 use Rattle.running_house.specs.Laws.{LinesAreTold}
 use Rattle.running_house.specs.Woven.{IsWholeDialogue, Woven, line, none, submits}
 use Rattle.running_house.specs.Woven as woven

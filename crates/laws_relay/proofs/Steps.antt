@@ -7,7 +7,7 @@ use Rattle.delivery_token.specs.Text.{undated}
 use Rattle.delivery_token.specs.declared.Verdict.{Verdict}
 use Rattle.dot_stuffing.specs.declared.Outcome.{Outcome}
 use Rattle.dot_stuffing.specs.declared.Outcome.TheVariants as outcomes
-use Rattle.envelope.specs.Directory.{Directory}
+use Rattle.envelope.specs.Names.{Directory}
 use Rattle.lmtp_machine.specs.declared.reply.Reply.{Reply}
 use Rattle.lmtp_machine.specs.declared.reply.Reply.TheVariants.{MessageTooBig, NulByte, OutOfMemory}
 use Rattle.lmtp_machine.specs.Message.{outcome, plain, stored_text}

@@ -2,9 +2,8 @@
 use Rattle.std.proofs.Common.{ℕ, Bool, ◌+◌, List, Option}
 use Rattle.delivery_token.specs.declared.log.Noted.{Noted}
 use Rattle.world.specs.World.{World}
-use Rattle.house.specs.AnyPrinting.{Speaks}
+use Rattle.house.specs.AnyScene.{Speaks, lingers, parts, remains, talks}
 use Rattle.house.specs.AnyScene as any
-use Rattle.house.specs.AnyScene.{lingers, parts, remains, talks}
 use Rattle.house.specs.Setup.{Setup, session_seat}
 use Rattle.house_peers.specs.AnyVisitor.{GoesOn, SeatedVisitor, Works, answers, rests, stalls, told, waits, works}
 use Rattle.laws_relay.specs.Sessions.{AreStill, IsStill, Sessions, peers_of}

@@ -7,8 +7,8 @@ use Rattle.delivery_token.specs.Text.{Text}
 use Rattle.delivery_token.specs.declared.CopyKey.{CopyKey}
 use Rattle.delivery_token.specs.declared.Job.{Job}
 use Rattle.delivery_token.specs.declared.Verdict.{Verdict}
-use Rattle.envelope.specs.Directory.{Directory}
-use Rattle.lane_work.specs.Copies.{copies, copies_of, told}
+use Rattle.envelope.specs.Names.{Directory}
+use Rattle.lane_work.specs.Account.{copies, copies_of, told}
 use Rattle.lane_work.specs.Talk.{HasTaken, Judged}
 use Rattle.lmtp_machine.specs.declared.reply.Reply.{Reply}
 use Rattle.lmtp_machine.specs.Conversation.{Conversation}

@@ -1,7 +1,7 @@
 -- What one event comes to: where the relay stands behind it, and what it knows then.
 use Rattle.std.proofs.Common.{◌≡◌, ℕ, suc, Bool, true, false, List, [], ◌∷◌, ◌++◌, length, take, drop, refl, ap, sym, subst, ◌∙◌}
 use Rattle.std.specs.Prelude.{nat_lt, Result, Ok, Err, ◌==◌, if◌then◌else◌}
-use Rattle.envelope.specs.Directory.{Directory, is_shut, lookup, shard_of}
+use Rattle.envelope.specs.Names.{Directory, is_shut, lookup, shard_of}
 use Rattle.envelope.specs.Reading.{read}
 use Rattle.envelope.specs.Values.{Path, Command}
 use Rattle.envelope.specs.Values as say

@@ -8,14 +8,13 @@ use Rattle.delivery_token.specs.declared.CopyKey.{CopyKey}
 use Rattle.delivery_token.specs.declared.Job.{Job}
 use Rattle.delivery_token.specs.declared.Verdict.TheVariants.{Stored}
 use Rattle.delivery_token.specs.declared.log.Noted.{Noted}
-use Rattle.envelope.specs.Directory.{is_shut, shard_of}
+use Rattle.envelope.specs.Names.{is_shut, shard_of}
 use Rattle.envelope.specs.Reading.{read, forward_at}
 use Rattle.lane_work.specs.Account.{Premises, setting_at}
 use Rattle.lane_work.specs.Talk.{Judged}
 use Rattle.lmtp_machine.specs.declared.reply.Reply.{Reply}
 use Rattle.lmtp_machine.specs.declared.reply.Reply.TheVariants.{Greeting, Extensions, SenderOk, RecipientOk, StartInput, Bye, Delivered}
-use Rattle.lmtp_machine.specs.Dialogue.{Ended, Line, Answered}
-use Rattle.lmtp_machine.specs.Replies.{wire}
+use Rattle.lmtp_machine.specs.Dialogue.{Ended, Line, Answered, wire}
 use Rattle.shard_queue.specs.declared.lane.Entry.{Entry}
 use Rattle.shard_queue.specs.declared.lane.Entry.TheVariants.{Item, End}
 use Rattle.running_house.specs.Accounting.{AccountOfLines}

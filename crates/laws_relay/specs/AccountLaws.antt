@@ -6,7 +6,7 @@ use Rattle.delivery_token.specs.Text.{Text}
 use Rattle.delivery_token.specs.declared.CopyKey.{CopyKey}
 use Rattle.delivery_token.specs.declared.Job.{Job}
 use Rattle.delivery_token.specs.declared.log.Noted.{Noted}
-use Rattle.envelope.specs.Directory.{shard_of}
+use Rattle.envelope.specs.Names.{shard_of}
 use Rattle.lane_work.specs.Account.{Premises, closings_of, is_closed_by}
 use Rattle.lane_work.specs.Talk.{Judged}
 use Rattle.shard_queue.specs.declared.lane.Entry.{Entry}

@@ -5,11 +5,11 @@ use Rattle.change_ring.specs.Log.{no_flags}
 use Rattle.delivery_token.specs.Keys.{Below}
 use Rattle.delivery_token.specs.declared.CopyKey.{CopyKey}
 use Rattle.delivery_token.specs.declared.Job.{Job}
-use Rattle.envelope.specs.Directory.{Directory}
+use Rattle.envelope.specs.Names.{Directory}
 use Rattle.lmtp_machine.specs.declared.reply.Reply.{Reply}
 use Rattle.lmtp_machine.specs.declared.reply.Reply.TheVariants.{Greeting}
 use Rattle.lmtp_machine.specs.Message.{stored_text}
-use Rattle.lmtp_machine.specs.Replies.{wire}
+use Rattle.lmtp_machine.specs.Dialogue.{wire}
 use Rattle.laws_relay.specs.Fates.{Fate, Unheard, HaveFates, IsSender, Names}
 use Rattle.laws_relay.specs.Handed.{Handed, handed_over, is_taken, no_message}
 use Rattle.laws_relay.specs.Numbers.{number_of, was_submitted}

@@ -3,7 +3,7 @@ use Rattle.std.specs.Prelude.{◌≡◌, ◌<◌, ℕ, true, false, List, [], �
 use Rattle.delivery_token.specs.Text.{Text, undated}
 use Rattle.delivery_token.specs.declared.CopyKey.{CopyKey}
 use Rattle.delivery_token.specs.Keys.{Below}
-use Rattle.envelope.specs.Directory.{Directory}
+use Rattle.envelope.specs.Names.{Directory}
 use Rattle.lmtp_machine.specs.Message.{stored_text}
 use Rattle.laws_relay.specs.Handed.{Handed, handed_over, is_taken, no_message}
 use Rattle.laws_relay.specs.Fates.{IsSender, Names}

@@ -1,11 +1,10 @@
 -- What a relay may conclude of the messages that it handed over.
 use Rattle.std.specs.Prelude.{◌≡◌, ℕ, ◌<◌, true, List, [], ◌∷◌, ◌++◌, length, map, slice_index_or}
 use Rattle.delivery_token.specs.declared.Verdict.{Verdict}
-use Rattle.envelope.specs.Directory.{Directory}
+use Rattle.envelope.specs.Names.{Directory}
 use Rattle.line_io.specs.Wire.{wire_lines}
 use Rattle.lmtp_machine.specs.declared.reply.Reply.TheVariants.{Greeting}
-use Rattle.lmtp_machine.specs.Dialogue.{Setting, Submission, Event, dialogue, fresh}
-use Rattle.lmtp_machine.specs.Replies.{wire}
+use Rattle.lmtp_machine.specs.Dialogue.{Setting, Submission, Event, dialogue, fresh, wire}
 use Rattle.laws_relay.specs.ReplyLaws.{IsInLine, last_line}
 use Rattle.laws_relay.specs.Handed.{Handed, Between, handed, handed_over, is_taken, no_message}
 use Rattle.laws_relay.specs.Moments.{Moment, EachMomentMayHappen, dialogue_over, ends_over, events_of}

@@ -2,14 +2,13 @@
 -- that.
 use Rattle.std.specs.Prelude.{◌≡◌, ℕ, ◌<◌, Bool, List, [], ◌∷◌, ◌++◌, length, map, slice_index_or}
 use Rattle.delivery_token.specs.declared.Verdict.{Verdict}
-use Rattle.envelope.specs.Directory.{Directory, marked}
+use Rattle.envelope.specs.Names.{Directory, marked}
 use Rattle.line_io.specs.Wire.{IsCut}
 use Rattle.lmtp_machine.specs.declared.reply.Reply.{Reply}
 use Rattle.lmtp_machine.specs.declared.reply.Reply.TheVariants.{Greeting, ShuttingDown}
 use Rattle.lmtp_machine.specs.Conversation.{Conversation, IsListening, Leads, led_by, opened}
-use Rattle.lmtp_machine.specs.Dialogue.{Waiting, Setting, Submission, Answered, Shut, Turn, fresh, verdict_reply}
+use Rattle.lmtp_machine.specs.Dialogue.{Waiting, Setting, Submission, Answered, Shut, Turn, fresh, verdict_reply, wire}
 use Rattle.lmtp_machine.specs.Kept.{IsMessage}
-use Rattle.lmtp_machine.specs.Replies.{wire}
 use Rattle.laws_relay.specs.ReplyLaws.{IsInLine}
 use Rattle.laws_relay.specs.Handed.{handed_over}
 use Rattle.laws_relay.specs.Fates.{answers_of, lines_of}

@@ -4,7 +4,7 @@ use Rattle.std.specs.List.{list_all}
 use Rattle.delivery_token.specs.Text.{undated}
 use Rattle.delivery_token.specs.declared.Verdict.{Verdict}
 use Rattle.envelope.specs.Values.{Path, Mail, Rcpt}
-use Rattle.envelope.specs.Directory.{Directory, lookup}
+use Rattle.envelope.specs.Names.{Directory, lookup}
 use Rattle.envelope.specs.Reading.{read}
 use Rattle.lmtp_machine.specs.Conversation.{IsInData, IsListening}
 use Rattle.lmtp_machine.specs.Dialogue.{Phase, Data, Waiting, Standing, Setting, Submission, Event, Opened, Line, Starved, Answered, Shut, Turn, is_dot, on_event, verdict_reply}

@@ -1,6 +1,6 @@
 -- A dialogue during which shards are shut: the directory is the same but for its marks.
 use Rattle.std.specs.Prelude.{Bool, List, [], ◌∷◌, ◌++◌, map}
-use Rattle.envelope.specs.Directory.{Directory, marked}
+use Rattle.envelope.specs.Names.{Directory, marked}
 use Rattle.lmtp_machine.specs.Dialogue.{Standing, Setting, Submission, Event, Turn, on_event, turn}
 use Rattle.laws_relay.specs.Fates.{MayHappen, ends_in}
 

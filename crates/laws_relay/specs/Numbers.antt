@@ -1,7 +1,7 @@
 -- Which of the messages that were handed over is which of those that were submitted: the ones that were turned away aren't counted there.
 use Rattle.std.specs.Prelude.{◌≡◌, ℕ, ◌<◌, Bool, true, false, List, [], length, map, take, slice_index_or}
 use Rattle.delivery_token.specs.Text.{undated}
-use Rattle.envelope.specs.Directory.{Directory}
+use Rattle.envelope.specs.Names.{Directory}
 use Rattle.lmtp_machine.specs.Dialogue.{Submission}
 use Rattle.laws_relay.specs.ReplyLaws.{is_stored}
 use Rattle.laws_relay.specs.Handed.{Handed, no_message}

@@ -7,7 +7,7 @@ use Rattle.house.specs.AnyScene.{seat_of}
 use Rattle.house.specs.Setup.{Setup}
 use Rattle.house.specs.declared.event.Event as house
 use Rattle.house.specs.declared.event.Event.TheVariants.{Bytes, Vanish}
-use Rattle.lmtp_machine.specs.Replies.{wire}
+use Rattle.lmtp_machine.specs.Dialogue.{wire}
 use Rattle.exactly_once.specs.AnyPromise as promised
 use Rattle.exactly_once.specs.AnyPromise.{Replies}
 use Rattle.laws_relay.specs.Sessions.{Sessions, peers_of}

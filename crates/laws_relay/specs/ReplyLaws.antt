@@ -3,11 +3,10 @@ use Rattle.std.specs.Prelude.{◌≡◌, ◌⊎◌, ℕ, Bool, true, false, not,
 use Rattle.std.specs.List.{list_all}
 use Rattle.delivery_token.specs.declared.Verdict.{Verdict}
 use Rattle.delivery_token.specs.declared.Verdict.TheVariants.{Stored, Refused}
-use Rattle.envelope.specs.Directory.{Directory}
+use Rattle.envelope.specs.Names.{Directory}
 use Rattle.lmtp_machine.specs.declared.reply.Reply.{Reply}
 use Rattle.lmtp_machine.specs.declared.reply.Reply.TheVariants.{Extensions}
-use Rattle.lmtp_machine.specs.Dialogue.{Phase, Start, Ready, Transaction, Data, Waiting, Setting, Turn, is_dot, on_line, on_starved, on_verdicts, verdict_reply}
-use Rattle.lmtp_machine.specs.Replies.{reply_text, wire}
+use Rattle.lmtp_machine.specs.Dialogue.{Phase, Start, Ready, Transaction, Data, Waiting, Setting, Turn, is_dot, on_line, on_starved, on_verdicts, verdict_reply, reply_text, wire}
 use Rattle.laws_relay.specs.Relay.{is_code, replies_of}
 
 -- a server's name that can stand in a line

@@ -5,24 +5,20 @@ use Rattle.delivery_token.specs.declared.CopyKey.{CopyKey}
 use Rattle.delivery_token.specs.declared.Job.{Job}
 use Rattle.delivery_token.specs.declared.Verdict.{Verdict}
 use Rattle.delivery_token.specs.declared.Verdict.TheVariants.{Stored}
-use Rattle.envelope.specs.Directory.{Directory}
+use Rattle.envelope.specs.Names.{Directory}
 use Rattle.house_history.specs.declared.event.Event.{Event}
 use Rattle.house_history.specs.Events.{accepted_in, keys_of_seat}
-use Rattle.house_history.specs.Laws.{StandsAlone}
-use Rattle.house_history.specs.Legal.{Legal, Stands, WasJudged}
-use Rattle.lane_work.specs.Account.{Premises, closings_of, setting_at}
+use Rattle.house_history.specs.Legal.{StandsAlone, Legal, Stands, WasJudged}
+use Rattle.lane_work.specs.Account.{Premises, closings_of, setting_at, told}
 use Rattle.lane_work.specs.Backing.{HaveStood, StandAsTold}
-use Rattle.lane_work.specs.Copies.{told}
 use Rattle.lane_work.specs.Talk.{HasTaken, Judged}
 use Rattle.lmtp_machine.specs.declared.reply.Reply.{Reply}
 use mathlib.Core.List.{IsPrefix}
 use Rattle.lmtp_machine.specs.Conversation.{Conversation}
-use Rattle.lmtp_machine.specs.Dialogue.{Phase, Start}
-use Rattle.lmtp_machine.specs.Replies.{wire}
+use Rattle.lmtp_machine.specs.Dialogue.{Phase, Start, wire}
 use Rattle.settings.specs.declared.config.Config.{Config}
 use Rattle.serving_workers.specs.Finished.{Finished}
-use Rattle.serving_workers.specs.Leaving.{AreWritten, HaveConversed, next, none, passed}
-use Rattle.serving_workers.specs.Lines.{Spoken}
+use Rattle.serving_workers.specs.Leaving.{AreWritten, HaveConversed, next, none, passed, Spoken}
 use Rattle.serving.specs.Kept.{HasKept}
 use Rattle.laws_relay.specs.Concluding.{IsTextOf, key_at, message_at}
 use Rattle.laws_relay.specs.Fates.{Names}

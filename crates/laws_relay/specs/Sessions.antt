@@ -1,8 +1,8 @@
 -- A house whose connections speak LMTP, whatever its sessions speak; and all that a relay asks of these.
 use Rattle.std.specs.Prelude.{◌≡◌, ℕ, List}
 use Rattle.delivery_token.specs.declared.Verdict.{Verdict}
-use Rattle.house.specs.Peers.{Peers}
-use Rattle.house_peers.specs.Guest.{Guest}
+use Rattle.house.specs.Setup.{Peers}
+use Rattle.house_peers.specs.Speech.{Guest}
 use Rattle.house_peers.specs.Lmtp.{lmtp}
 use Rattle.world.specs.World.{Config, World}
 

@@ -1,5 +1,6 @@
--- Wire lines: a byte string is cut at each CRLF (RFC 5321, section 2.3.8). A CR or an LF alone is a byte like any other.
-use Rattle.std.specs.Prelude.{◌≡◌, ℕ, List, [], ◌∷◌, ◌++◌, drop, flat_map, All, Bool, false, ◌&&◌, ◌==◌, if◌then◌else◌}
+-- Wire lines: a byte string is cut at each CRLF (RFC 5321, section 2.3.8). A CR or an LF alone is a byte like any other. And
+-- lines with a mark that tells who said them.
+use Rattle.std.specs.Prelude.{◌≡◌, ℕ, List, [], ◌∷◌, ◌++◌, drop, flat_map, All, Bool, false, ◌&&◌, ◌==◌, if◌then◌else◌, codes, decimal}
 
 abbrev pub crlf : List ℕ
 crlf = 13 ∷ 10 ∷ []
@@ -55,3 +56,9 @@ wire_lines stream = (reading stream).lines
 
 abbrev pub wire_rest : List ℕ → List ℕ
 wire_rest stream = (reading stream).rest
+
+-- ---- lines with a mark that tells who said them
+
+-- each wire line of what was said, with a letter and a number before it and LF for its CRLF
+abbrev pub marked : ℕ → ℕ → List ℕ → List ℕ
+marked letter n said = flat_map (λ line. letter ∷ decimal n ++ codes " " ++ line ++ 10 ∷ []) (wire_lines said)

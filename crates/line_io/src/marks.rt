@@ -2,8 +2,7 @@
 
 ghost use Rattle.std.specs.Prelude.{◌≡◌, ◌++◌, ◌+◌, ◌<◌, ◌≤◌, ℕ, length, codes, decimal, slice_index, IfSome, IfNone, OnOk, OnErr, ◌∷◌, []};
 ghost use Rattle.std.specs.Io.{StartsWith};
-ghost use Rattle.line_io.specs.Marks.{marked};
-ghost use Rattle.line_io.specs.Wire.{wire_lines};
+ghost use Rattle.line_io.specs.Wire.{marked, wire_lines};
 
 use crate::append_parts;
 use itoa::Buffer;

@@ -1,6 +1,6 @@
 -- Lines between commands are answered.
 use Rattle.std.proofs.Common.{◌≡◌, ℕ, List, length}
-use Rattle.envelope.specs.Directory.{Directory}
+use Rattle.envelope.specs.Names.{Directory}
 use Rattle.lmtp_machine.specs.Dialogue.{Phase, Start, Ready, Transaction, Data, Waiting, Ended, Setting, Opened, Line, Starved, Answered, Shut, on_line}
 use Rattle.lmtp_machine.specs.Conversation.{IsInData, IsListening}
 use Rattle.lmtp_machine.specs.Laws.{AnswersLines}

@@ -2,13 +2,12 @@
 use Rattle.std.proofs.Common.{◌≡◌, inl, inr, ℕ, zero, suc, ◌+◌, ◌-◌, ◌≤◌, List, [], ◌∷◌, ◌++◌, length, take, drop, refl, ap, sym, subst, ◌∙◌, append_assoc, arith, length-drop}
 use Rattle.std.proofs.lemmas.List.{append-nil}
 use Rattle.line_io.specs.Wire.{IsUncut, crlf}
-use Rattle.envelope.specs.Directory.{Directory}
+use Rattle.envelope.specs.Names.{Directory}
 use Rattle.lmtp_machine.specs.declared.reply.Reply.{Reply}
 use Rattle.lmtp_machine.specs.declared.connection.Fed.{Fed}
 use Rattle.lmtp_machine.specs.declared.connection.What.{What}
 use Rattle.lmtp_machine.specs.declared.connection.What.TheVariants.{More, Submit, Quit}
-use Rattle.lmtp_machine.specs.Replies.{wire, reply_text}
-use Rattle.lmtp_machine.specs.Dialogue.{Setting, Submission, Turn, turn}
+use Rattle.lmtp_machine.specs.Dialogue.{wire, reply_text, Setting, Submission, Turn, turn}
 use Rattle.lmtp_machine.specs.Conversation.{Conversation, Leads, ◌⨾◌, none}
 use Rattle.lmtp_machine.specs.Calls.{Follows, Tells}
 use Rattle.lmtp_machine.specs.inner.Calls.{Taken}

@@ -7,29 +7,26 @@ use Rattle.std.proofs.lemmas.List.Elements.{All-nil, All-append, All-head, All-t
 use Rattle.std.proofs.lemmas.List.Concat.{flat_map-append}
 use Rattle.line_io.specs.Wire.{crlf, IsCut, IsUncut, EndsInCr, joined, wire_lines, wire_rest}
 use Rattle.line_io.specs.inner.WireLaws.{reading_cut, lines_are, wire_join, wire_joined, uncut_nil}
-use Rattle.line_io.specs.Cutting.{LineCutter, EndsLine}
-use Rattle.line_io.specs.Cutting.{StandsFor as HasTaken}
+use Rattle.line_io.specs.Cutting.{LineCutter, EndsLine, StandsFor as HasTaken}
 use Rattle.dot_stuffing.specs.Data.{dot, Plain}
-use Rattle.dot_stuffing.specs.Unstuffing.{IsBehind, Unstuffer, Tells as TellsData}
-use Rattle.dot_stuffing.specs.Unstuffing.{StandsFor as HasUnstuffed}
+use Rattle.dot_stuffing.specs.Unstuffing.{IsBehind, Unstuffer, Tells as TellsData, StandsFor as HasUnstuffed}
 use Rattle.dot_stuffing.specs.declared.Outcome.{Outcome}
 use Rattle.dot_stuffing.specs.declared.Outcome.TheVariants as outcomes
 use Rattle.dot_stuffing.specs.declared.Progress.TheVariants.{Done}
-use Rattle.envelope.specs.Directory.{Directory}
+use Rattle.envelope.specs.Names.{Directory}
 use Rattle.lmtp_machine.specs.declared.commands.Stage.{Stage}
 use Rattle.lmtp_machine.specs.declared.commands.Stage.TheVariants as stages
 use Rattle.lmtp_machine.specs.declared.connection.What.{What}
 use Rattle.lmtp_machine.specs.declared.connection.What.TheVariants.{More, Quit}
 use Rattle.lmtp_machine.specs.declared.reply.Reply.{Reply}
 use Rattle.lmtp_machine.specs.declared.reply.Reply.TheVariants.{LineTooLong, OutOfMemory, MessageTooBig, NulByte}
-use Rattle.lmtp_machine.specs.Replies.{wire}
+use Rattle.lmtp_machine.specs.Dialogue.{wire, Phase, Start, Ready, Transaction, Data, Waiting, Ended, Standing, Setting, Submission, Event, Line, Starved, Turn, turn, dialogue, on_event, on_line, on_command_line, on_outcome, at_end, is_dot}
 use Rattle.lmtp_machine.specs.Message.{plain, outcome, return_path}
 use Rattle.lmtp_machine.specs.Standing.{Commands, standing_of, phase_of, IsOpen, Takes}
-use Rattle.lmtp_machine.specs.Dialogue.{Phase, Start, Ready, Transaction, Data, Waiting, Ended, Standing, Setting, Submission, Event, Line, Starved, Turn, turn, dialogue, on_event, on_line, on_command_line, on_outcome, at_end, is_dot}
-use Rattle.lmtp_machine.specs.Conversation.{Conversation, Heard, none, line, starved, IsListening, MayHear, EachMayBeHeard, ◌⨾◌}
+use Rattle.lmtp_machine.specs.Conversation.{Conversation, Heard, none, line, starved, IsListening, MayHear, EachMayBeHeard, ◌⨾◌, IsQuiet}
 use Rattle.lmtp_machine.specs.LmtpMachine.{LmtpMachine, BetweenLines, WithinData, IsHere, StandsFor}
 use Rattle.lmtp_machine.specs.inner.LmtpMachine.{IsPending}
-use Rattle.lmtp_machine.specs.Calls.{Follows, Tells, IsQuiet}
+use Rattle.lmtp_machine.specs.Calls.{Follows, Tells}
 use Rattle.lmtp_machine.specs.inner.Ending.{Becomes, Does, IsBetween, what_of}
 use Rattle.lmtp_machine.proofs.Pieces.{goes_on, heard-append, may-append}
 use Rattle.lmtp_machine.proofs.Turns.{IsGoing, Spoken, line_spoken, too_long, outcome_is, is_refused}

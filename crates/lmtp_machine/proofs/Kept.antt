@@ -8,7 +8,7 @@ use Rattle.std.proofs.lemmas.Bool.Decides.{nat_tests}
 use Rattle.std.proofs.lemmas.List.Elements.{All-push, All-nil}
 use Rattle.std.proofs.lemmas.List.Quantifiers.{position-Some}
 use Rattle.delivery_token.specs.declared.Verdict.{Verdict}
-use Rattle.envelope.specs.Directory.{Directory, Home, is_shut, shard_of, lookup, numbered, wanted, value_of, is_home}
+use Rattle.envelope.specs.Names.{Directory, Home, is_shut, shard_of, lookup, numbered, wanted, value_of, is_home}
 use Rattle.envelope.specs.Reading.{read}
 use Rattle.envelope.specs.Values.{Path, Null, Postmaster, To, Command}
 use Rattle.envelope.specs.Values as say

@@ -1,7 +1,7 @@
 -- The conversation at a position among bytes that lead somewhere.
 use Rattle.std.proofs.Common.{◌≡◌, ◌⊎◌, inl, inr, ℕ, List, [], ◌∷◌, ◌++◌, refl, ap, sym, subst, ◌∙◌}
 use Rattle.std.specs.Prelude.{codes}
-use Rattle.envelope.specs.Directory.{Directory}
+use Rattle.envelope.specs.Names.{Directory}
 use Rattle.line_io.specs.Wire.{IsCut, joined, wire_lines, wire_rest}
 use Rattle.line_io.specs.inner.WireLaws.{lines_are, reading_cut}
 use Rattle.lmtp_machine.specs.Dialogue.{Standing, Setting, Event, Line, Starved, Turn, dialogue, on_event}

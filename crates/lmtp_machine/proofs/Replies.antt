@@ -6,8 +6,7 @@ use Rattle.line_io.specs.Wire.{crlf}
 use Rattle.delivery_token.specs.declared.CopyKey.{CopyKey}
 use Rattle.delivery_token.specs.declared.Verdict.{Verdict}
 use Rattle.lmtp_machine.specs.declared.reply.Reply.{Reply}
-use Rattle.lmtp_machine.specs.Replies.{wire, reply_text}
-use Rattle.lmtp_machine.specs.Dialogue.{Setting, keys_from, verdict_reply}
+use Rattle.lmtp_machine.specs.Dialogue.{wire, reply_text, Setting, keys_from, verdict_reply}
 use Rattle.lmtp_machine.proofs.Calls.{wire-append}
 
 pub told_more : (host : List ℕ) (r : Reply) (i : ℕ) → wire host (replicate (i + 1) r) ≡ wire host (replicate i r) ++ wire host (r ∷ [])

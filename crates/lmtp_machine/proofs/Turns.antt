@@ -5,7 +5,7 @@ use Rattle.std.specs.List.{list_any}
 use Rattle.std.proofs.lemmas.Bool.{eqb-true, eq-eqb}
 use Rattle.std.proofs.lemmas.Bool.Decides.{nat_tests}
 use Rattle.std.proofs.lemmas.List.Folds.{list_any_at, Any-from_list_any}
-use Rattle.envelope.specs.Directory.{Directory, is_shut, lookup, shard_of}
+use Rattle.envelope.specs.Names.{Directory, is_shut, lookup, shard_of}
 use Rattle.envelope.specs.Reading.{read}
 use Rattle.envelope.specs.Values.{Path, Command}
 use Rattle.envelope.specs.Values as say

@@ -1,13 +1,12 @@
 -- What the calls of a connection answer.
 use Rattle.std.specs.Prelude.{◌≡◌, ℕ, List, [], ◌∷◌, ◌++◌, length, take, ◌<◌, ◌⊎◌}
-use Rattle.envelope.specs.Directory.{Directory}
+use Rattle.envelope.specs.Names.{Directory}
 use Rattle.lmtp_machine.specs.declared.connection.What.{What}
 use Rattle.lmtp_machine.specs.declared.connection.What.TheVariants.{More, Submit, Quit}
 use Rattle.lmtp_machine.specs.declared.connection.Fed.{Fed}
 use Rattle.lmtp_machine.specs.declared.connection.Submission as code
-use Rattle.lmtp_machine.specs.Replies.{wire}
-use Rattle.lmtp_machine.specs.Dialogue.{Waiting, Ended, Setting, Submission, Event, Turn, dialogue, on_event}
-use Rattle.lmtp_machine.specs.Conversation.{Conversation, IsListening, Leads, led_by}
+use Rattle.lmtp_machine.specs.Dialogue.{wire, Waiting, Ended, Setting, Submission, Event, Turn, dialogue, on_event}
+use Rattle.lmtp_machine.specs.Conversation.{Conversation, IsListening, Leads, led_by, IsQuiet}
 
 -- a submission of the code, as one of the dialogue
 abbrev pub submission_of : code.Submission → Submission
@@ -40,9 +39,6 @@ abbrev pub Moves : ℕ → What → List ℕ → Type 0
 Moves used More piece = 0 < length piece → 0 < used
 Moves used Submit piece = 0 < used
 Moves used Quit piece = Unit {0}
-
-abbrev pub IsQuiet : Turn → Type 0
-IsQuiet turn = (turn.replies ≡ []) × (turn.submissions ≡ [])
 
 -- The bytes used lead from the conversation before the call to one for which the connection stands now,
 -- and what was written is what is said on the way.

@@ -1,6 +1,6 @@
 -- A connection's bytes and what comes of them, in whatever pieces they come.
 use Rattle.std.specs.Prelude.{◌≡◌, ◌⊎◌, ℕ, codes, List, [], ◌∷◌, ◌++◌}
-use Rattle.envelope.specs.Directory.{Directory}
+use Rattle.envelope.specs.Names.{Directory}
 use Rattle.line_io.specs.Wire.{IsCut}
 use Rattle.lmtp_machine.specs.Dialogue.{Phase, Start, Ready, Transaction, Data, Waiting, Ended, Standing, Setting, Event, Opened, Line, Starved, Answered, Shut, Turn, dialogue, on_event, fresh}
 
@@ -78,3 +78,7 @@ led_by setting directory c event = record { standing = (on_event setting directo
 -- a new connection
 abbrev pub opened : Conversation
 opened = record { standing = fresh; unfinished = [] }
+
+-- nothing is said and nothing submitted
+abbrev pub IsQuiet : Turn → Type 0
+IsQuiet turn = (turn.replies ≡ []) × (turn.submissions ≡ [])

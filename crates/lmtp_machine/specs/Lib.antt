@@ -1,4 +1,3 @@
-pub mod Replies
 pub mod Message
 pub mod Dialogue
 pub mod Standing

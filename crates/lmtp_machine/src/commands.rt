@@ -4,8 +4,7 @@
 ghost use Rattle.std.specs.Prelude.{◌≡◌, ◌+◌, ◌<◌, ◌≤◌, length, IfOk, false, vec_len, vec_capacity};
 ghost use Rattle.envelope.specs.Values.{Path, Mail, forward_path, reverse_path, said};
 ghost use Rattle.envelope.specs.Grammar.{has_long_part};
-ghost use Rattle.lmtp_machine.specs.Replies.{IsBrief};
-ghost use Rattle.lmtp_machine.specs.Dialogue.{on_command_line, on_command, on_mail, on_rcpt, on_data, fault_reply, fresh};
+ghost use Rattle.lmtp_machine.specs.Dialogue.{IsBrief, on_command_line, on_command, on_mail, on_rcpt, on_data, fault_reply, fresh};
 ghost use Rattle.lmtp_machine.specs.Message.{sender_text};
 ghost use Rattle.lmtp_machine.specs.Standing.{standing_of, IsOpen, Takes};
 

@@ -5,14 +5,13 @@
 ghost use Rattle.std.specs.Prelude.{All, ◌≡◌, ◌+◌, ◌*◌, ◌++◌, ◌≤◌, ◌<◌, take, replicate, true, false, Some, List, [], ◌∷◌, length, IfOk, OnOk, OnErr, ℕ, vec_len, vec_capacity};
 ghost use Rattle.lmtp_machine.specs.Dialogue as dialogue;
 ghost use Rattle.lmtp_machine.specs.Conversation.{Conversation, opened};
-ghost use Rattle.envelope.specs.Directory.{Directory};
+ghost use Rattle.envelope.specs.Names.{Directory};
 ghost use Rattle.lmtp_machine.specs.LmtpMachine.{StandsFor, is_data};
 ghost use Rattle.lmtp_machine.specs.Standing.{IsOpen};
 ghost use Rattle.delivery_token.specs.Text.{undated};
 ghost use Rattle.lmtp_machine.specs.Message.{plain, return_path};
 ghost use Rattle.dot_stuffing.specs.Unstuffing.{IsBehind};
-ghost use Rattle.lmtp_machine.specs.Dialogue.{keys_from, on_outcome};
-ghost use Rattle.lmtp_machine.specs.Replies.{wire, IsBrief};
+ghost use Rattle.lmtp_machine.specs.Dialogue.{keys_from, on_outcome, wire, IsBrief};
 ghost use Rattle.lmtp_machine.specs.inner.Ending.{Becomes, Does, what_of};
 ghost use Rattle.lmtp_machine.specs.Calls.{Awaits, Follows, Happens, Moves, submission_of};
 

@@ -4,8 +4,7 @@
 ghost use Rattle.std.specs.Prelude.{◌≡◌, ◌+◌, ◌*◌, ◌++◌, [], ◌≤◌, ℕ, length, map, replicate, IfOk, None, vec_len, vec_capacity};
 ghost use Rattle.dot_stuffing.specs.Unstuffing.{IsBehind, StandsFor};
 ghost use Rattle.lmtp_machine.specs.Message.{return_path};
-ghost use Rattle.lmtp_machine.specs.Replies.{wire, IsBrief};
-ghost use Rattle.lmtp_machine.specs.Dialogue.{keys_from, verdict_reply, refusal_reply};
+ghost use Rattle.lmtp_machine.specs.Dialogue.{wire, IsBrief, keys_from, verdict_reply, refusal_reply};
 
 use crate::commands::{Commands, Stage};
 use crate::reply::{BRIEF_ROOM, Reply, say};

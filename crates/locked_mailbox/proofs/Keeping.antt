@@ -7,8 +7,7 @@ use Rattle.std.proofs.lemmas.List.Elements.{All-filter, All-map, All-push, All-w
 use Rattle.change_ring.specs.declared.change.Change.{Change}
 use Rattle.change_ring.specs.declared.change.Flags.{Flags}
 use Rattle.change_ring.specs.declared.flag_op.FlagOp.{FlagOp}
-use Rattle.change_ring.specs.Log.{IsLegalLog, rows_of}
-use Rattle.change_ring.specs.Logged.{arrival, discards, flags_after, flags_logged, removals, removals_if, seen_logged}
+use Rattle.change_ring.specs.Log.{IsLegalLog, rows_of, arrival, discards, flags_after, flags_logged, removals, removals_if, seen_logged}
 use Rattle.cursor_set.specs.Cursors.{CursorHandle}
 use Rattle.delivery_token.specs.Text.{Text}
 use Rattle.delivery_token.specs.declared.CopyKey.{CopyKey}
@@ -24,8 +23,7 @@ use Rattle.mailbox.specs.declared.clients.Opening.{Opening}
 use Rattle.mailbox.specs.declared.clients.Row.{Row}
 use Rattle.mailbox.specs.declared.mailbox.Receipt.{Receipt}
 use Rattle.mailbox.specs.Events.{in_set, mark, seen_after}
-use Rattle.mailbox.specs.Mailbox.{Mailbox, Message, flagged, message_with, next_uid, remaining, row_of, rows, without}
-use Rattle.mailbox.specs.Stands.{Stands}
+use Rattle.mailbox.specs.Mailbox.{Mailbox, Message, flagged, message_with, next_uid, remaining, row_of, rows, without, Stands}
 use Rattle.mailbox.proofs.StandsLaws.{Stands-legal}
 use Rattle.workers_sync.specs.Holds.{Discards, DoesAlter, DoesDeliver, DoesDiscard, DoesEnter, DoesExpunge, DoesFeed, DoesLeave, DoesRead, IsEvent}
 use Rattle.house_history.specs.declared.event.Event.{Event}

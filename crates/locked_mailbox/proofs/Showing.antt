@@ -8,8 +8,7 @@ use Rattle.cursor_set.specs.Cursors.{CursorHandle}
 use Rattle.cursor_set.specs.Lines.{lines}
 use Rattle.delivery_token.specs.declared.CopyKey.{CopyKey}
 use Rattle.mailbox.specs.declared.clients.MailFault.{MailFault}
-use Rattle.mailbox.specs.Mailbox.{Mailbox}
-use Rattle.mailbox.specs.Stands.{Stands, next_of}
+use Rattle.mailbox.specs.Mailbox.{Mailbox, Stands, next_of}
 use Rattle.workers_sync.specs.Holds.{DoesFeed}
 use Rattle.house_history.specs.declared.event.Event.{Event}
 use Rattle.house_history.specs.Events.{changes_in, concerns}

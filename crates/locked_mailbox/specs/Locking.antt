@@ -12,8 +12,7 @@ use Rattle.delivery_token.specs.declared.Verdict.TheVariants.{Refused}
 use Rattle.delivery_token.specs.Keys.{Below, Precedes}
 use Rattle.mailbox.specs.Answers.{verdict_of}
 use Rattle.mailbox.specs.declared.mailbox.Receipt.{Receipt}
-use Rattle.mailbox.specs.Mailbox.{Mailbox, Message}
-use Rattle.mailbox.specs.Stands.{Stands}
+use Rattle.mailbox.specs.Mailbox.{Mailbox, Message, Stands}
 use Rattle.workers_sync.specs.Holds.{DoesDeliver}
 use Rattle.shared_history.specs.Pages.{part}
 use Rattle.house_history.specs.declared.event.Event.{Event}

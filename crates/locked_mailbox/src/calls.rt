@@ -6,7 +6,7 @@ ghost use Rattle.std.specs.Vec.{vec_capacity};
 ghost use mathlib.Core.List.{IsPrefix};
 ghost use Rattle.change_ring.specs.Log.{view_at};
 ghost use Rattle.cursor_set.specs.Lines.{lines};
-ghost use Rattle.mailbox.specs.Stands.{next_of};
+ghost use Rattle.mailbox.specs.Mailbox.{next_of};
 ghost use Rattle.workers_sync.specs.Holds.{Counts, DoesAlter, DoesDiscard, DoesEnter, DoesExpunge, DoesFeed, DoesLeave, DoesLook, DoesRead};
 ghost use Rattle.house_history.specs.declared.event.Event.{Event};
 ghost use Rattle.house_history.specs.declared.event.Event.TheVariants as events;

@@ -1,6 +1,6 @@
 //! What lies under a mailbox's lock, and the delivery of a copy.
 ghost use Rattle.std.specs.Prelude.{◌≡◌, ◌↔◌, ◌∷◌, [], IfOk, IsTrue, None, replicate};
-ghost use Rattle.mailbox.specs.Stands.{Stands};
+ghost use Rattle.mailbox.specs.Mailbox.{Stands};
 ghost use Rattle.house_history.specs.declared.event.Event.TheVariants as events;
 ghost use mathlib.Core.List.{IsPrefix};
 ghost use Rattle.shared_history.specs.Pages.{part};

@@ -7,14 +7,11 @@ use Rattle.std.proofs.lemmas.Bool.Decides.{nat_tests}
 use Rattle.change_ring.specs.declared.change.Change.{Change}
 use Rattle.change_ring.specs.declared.change.Flags.{Flags}
 use Rattle.change_ring.specs.declared.flag_op.FlagOp.TheVariants.{Set}
-use Rattle.change_ring.specs.Log.{no_flags}
-use Rattle.change_ring.specs.Logged.{arrival, flags_logged, new_flags}
-use Rattle.change_ring.specs.Window.{total}
+use Rattle.change_ring.specs.Log.{no_flags, arrival, flags_logged, new_flags, total}
 use Rattle.cursor_set.proofs.Positions.{Rises, Rises-from}
 use Rattle.delivery_token.specs.Text.{Text}
 use Rattle.mailbox.specs.Events.{Logs}
-use Rattle.mailbox.specs.Mailbox.{Mailbox, Message, flagged, is_spent, message_with, next_uid, row_of, uids_of}
-use Rattle.mailbox.specs.Stands.{Stands}
+use Rattle.mailbox.specs.Mailbox.{Mailbox, Message, flagged, is_spent, message_with, next_uid, row_of, uids_of, Stands}
 use Rattle.mailbox.proofs.MessageLaws.{eqb_less, logged_with}
 
 -- the message before its flags are set

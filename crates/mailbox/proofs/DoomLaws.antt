@@ -5,8 +5,7 @@ use Rattle.std.specs.List.{list_any}
 use Rattle.std.proofs.lemmas.Bool.Decides.{eqb_tells}
 use Rattle.change_ring.specs.declared.change.Change.{Change}
 use Rattle.change_ring.specs.declared.change.Change.TheVariants.{Gone}
-use Rattle.change_ring.specs.Log.{Row}
-use Rattle.change_ring.specs.Logged.{discards, flags_after, removals}
+use Rattle.change_ring.specs.Log.{Row, discards, flags_after, removals}
 use Rattle.mailbox.specs.Mailbox.{Message, remaining, row_of, uids_of, without}
 use Rattle.mailbox.specs.inner.Marks.{doom, doomed}
 use Rattle.mailbox.proofs.RemovalLaws.{gone_no, gone_yes, left_no, left_yes}

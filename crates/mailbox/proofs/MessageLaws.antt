@@ -6,8 +6,7 @@ use Rattle.std.proofs.lemmas.Bool.Decides.{eqb_tells}
 use Rattle.change_ring.specs.declared.change.Flags.{Flags}
 use Rattle.change_ring.specs.declared.change.Change.TheVariants.{Flags as SetFlags}
 use Rattle.change_ring.specs.declared.flag_op.FlagOp.{FlagOp}
-use Rattle.change_ring.specs.Log.{Row, FitsView, with_flags, rows_after}
-use Rattle.change_ring.specs.Logged.{seen_logged, differ, flags_differ, flags_after, flags_logged, new_flags}
+use Rattle.change_ring.specs.Log.{Row, FitsView, with_flags, rows_after, seen_logged, differ, flags_differ, flags_after, flags_logged, new_flags}
 use Rattle.cursor_set.proofs.Positions.{Rises}
 use Rattle.mailbox.specs.Events.{mark, seen_after}
 use Rattle.mailbox.specs.inner.Letters.{reflagged}

@@ -5,9 +5,7 @@ use Rattle.std.specs.List.{AllByRecursion, list_any}
 use Rattle.std.proofs.lemmas.Bool.Decides.{eqb_tells}
 use Rattle.change_ring.specs.declared.change.Change.{Change}
 use Rattle.change_ring.specs.declared.change.Change.TheVariants.{Gone}
-use Rattle.change_ring.specs.Log.{Row, FitsView, without, without_row, rows_after, added}
-use Rattle.change_ring.specs.Logged.{discards, removals}
-use Rattle.change_ring.specs.Window.{Window, IsWindowOf, total}
+use Rattle.change_ring.specs.Log.{Row, FitsView, without, without_row, rows_after, added, discards, removals, Window, IsWindowOf, total}
 use Rattle.cursor_set.specs.Cursors.{CursorSet}
 use Rattle.cursor_set.proofs.Positions.{Rises}
 use Rattle.mailbox.specs.Events.{Moves}

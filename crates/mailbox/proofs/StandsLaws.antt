@@ -9,8 +9,7 @@ use Rattle.std.proofs.lemmas.List.Elements.{All-from_recursion}
 use Rattle.std.proofs.Math.Seq.{take-add}
 use Rattle.change_ring.specs.declared.change.Change.{Change}
 use Rattle.change_ring.specs.declared.change.Change.TheVariants.{Add}
-use Rattle.change_ring.specs.Log.{Row, IsLegalLog, no_flags, FitsView, rows_after, replay, view_at, added}
-use Rattle.change_ring.specs.Window.{changes_from, total}
+use Rattle.change_ring.specs.Log.{Row, IsLegalLog, no_flags, FitsView, rows_after, replay, view_at, added, changes_from, total}
 use Rattle.change_ring.proofs.LogLaws.{FitsView-append, rows_after-append, added-append, replay-append, uids-rows_after}
 use Rattle.change_ring.proofs.RangeLaws.{range-push}
 use Rattle.change_ring.proofs.WindowLaws.{changes_from-log}
@@ -24,8 +23,7 @@ use Rattle.delivery_token.specs.declared.CopyKey.{CopyKey}
 use Rattle.delivery_token.specs.Text.{Text}
 use Rattle.mailbox.specs.Events.{Logs}
 use Rattle.mailbox.specs.inner.Events.{GoesOn}
-use Rattle.mailbox.specs.Mailbox.{Mailbox, Message, row_of, uids_of, accepted_uids, next_uid}
-use Rattle.mailbox.specs.Stands.{Stands, IsShown, next_of}
+use Rattle.mailbox.specs.Mailbox.{Mailbox, Message, row_of, uids_of, accepted_uids, next_uid, Stands, IsShown, next_of}
 
 -- ---- what a log that a mailbox stands for is
 

@@ -6,8 +6,7 @@ use Rattle.std.proofs.lemmas.List.{length-map}
 use Rattle.std.proofs.lemmas.List.Sums.{length-filter}
 use Rattle.change_ring.specs.declared.change.Change.{Change}
 use Rattle.change_ring.specs.declared.change.Change.TheVariants.{Gone}
-use Rattle.change_ring.specs.Log.{Row}
-use Rattle.change_ring.specs.Logged.{removals}
+use Rattle.change_ring.specs.Log.{Row, removals}
 use Rattle.cursor_set.proofs.Positions.{Rises}
 use Rattle.mailbox.specs.inner.Letters.{without_message}
 use Rattle.mailbox.specs.Mailbox.{Message, remaining, row_of, uids_of}

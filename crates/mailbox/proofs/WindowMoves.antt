@@ -3,7 +3,7 @@ use Rattle.std.proofs.Common.{◌≡◌, ℕ, suc, ◌+◌, ◌*◌, ◌<◌, �
 use Rattle.std.specs.Prelude.{option_to_list}
 use Rattle.std.proofs.lemmas.Bool.{cases_lt, eq-eqb, ne_eqb}
 use Rattle.change_ring.specs.declared.change.Change.{Change}
-use Rattle.change_ring.specs.Window.{Window, BaseAfter, capacity_after, total}
+use Rattle.change_ring.specs.Log.{Window, BaseAfter, capacity_after, total}
 use Rattle.change_ring.proofs.WindowLaws.{BaseAfter-less}
 use Rattle.cursor_set.specs.Cursors.{CursorSet, open_numbers}
 use Rattle.mailbox.specs.Events.{Takes, has_room, grows, drops, Moves}

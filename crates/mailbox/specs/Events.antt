@@ -2,13 +2,11 @@
 use Rattle.std.specs.Prelude.{◌≡◌, ℕ, ◌+◌, ◌*◌, ◌<◌, ◌≤◌, ◌==◌, min, Bool, true, false, List, [], ◌∷◌, ◌++◌, length, Option, Some, None, IsSome, Contains}
 use Rattle.std.specs.List.{list_any}
 use Rattle.change_ring.specs.declared.change.Change.{Change}
-use Rattle.change_ring.specs.Log.{no_flags}
-use Rattle.change_ring.specs.Window.{Window, total}
+use Rattle.change_ring.specs.Log.{no_flags, Window, total}
 use Rattle.change_ring.specs.declared.flag_op.FlagOp.{FlagOp}
 use Rattle.change_ring.specs.declared.flag_op.FlagOp.TheVariants.{Insert}
 use Rattle.cursor_set.specs.Cursors.{CursorSet, CursorHandle, held, open_numbers}
-use Rattle.mailbox.specs.Mailbox.{Mailbox, Message, flagged}
-use Rattle.mailbox.specs.Stands.{Stands}
+use Rattle.mailbox.specs.Mailbox.{Mailbox, Message, flagged, Stands}
 
 -- the call logged these changes, on every log for which the mailbox stood
 abbrev pub Logs : Mailbox → Mailbox → List Change → Type 0

@@ -1,6 +1,5 @@
 pub mod Accepted
 pub mod Mailbox
-pub mod Stands
 pub mod Events
 pub mod Counts
 pub mod Answers

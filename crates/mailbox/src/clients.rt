@@ -3,15 +3,12 @@
 
 ghost use Rattle.std.specs.Prelude.{◌≡◌, ◌≢◌, ◌+◌, ◌-◌, ◌^◌, ◌<◌, ◌≤◌, ◌↔◌, ◌⊎◌, List, ◌++◌, length, min, Some, None, Err, OnOk, OnErr, IfOk, IfErr, IfSome, IsErr, IsSome, IsTrue, option_map, if◌then◌else◌, vec_capacity, vec_len};
 ghost use Rattle.std.specs.List.Sorted.{IsStrictlyIncreasing};
-ghost use Rattle.change_ring.specs.Log.{view_at};
-ghost use Rattle.change_ring.specs.Logged.{flags_logged, seen_logged};
-ghost use Rattle.change_ring.specs.Window.{total};
+ghost use Rattle.change_ring.specs.Log.{view_at, flags_logged, seen_logged, total};
 ghost use Rattle.cursor_set.specs.Cursors.{Updates, after_showing, held, in_slot, next_changes};
 ghost use Rattle.cursor_set.specs.Lines.{lines};
 ghost use Rattle.mailbox.specs.Events.{IsCurrent, IsLapped, IsStranger, IsTooMany, KeepsLog, Logs, Moves, seen_after, was_logged};
 ghost use Rattle.mailbox.specs.inner.Letters.{message_of};
-ghost use Rattle.mailbox.specs.Mailbox.{Message as Kept, flagged, message_with, next_uid, rows, uids_of};
-ghost use Rattle.mailbox.specs.Stands.{Stands, next_of};
+ghost use Rattle.mailbox.specs.Mailbox.{Message as Kept, flagged, message_with, next_uid, rows, uids_of, Stands, next_of};
 
 use crate::logging::log_change;
 use crate::mailbox::Mailbox;

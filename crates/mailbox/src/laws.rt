@@ -1,6 +1,6 @@
 //! What holds of every mailbox, as the contract of a function that anybody may call.
 
-ghost use Rattle.mailbox.specs.Stands.{IsKept};
+ghost use Rattle.mailbox.specs.Mailbox.{IsKept};
 
 use crate::mailbox::Mailbox;
 

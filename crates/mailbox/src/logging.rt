@@ -2,7 +2,7 @@
 //! as far as it may. Messages and UIDs are not told here.
 
 ghost use Rattle.std.specs.Prelude.{◌≡◌, ◌^◌, ◌<◌, ◌≤◌, ◌↔◌, [], ◌∷◌, length, Contains, OnOk, OnErr, IsErr};
-ghost use Rattle.change_ring.specs.Window.{total};
+ghost use Rattle.change_ring.specs.Log.{total};
 ghost use Rattle.cursor_set.specs.Cursors.{open_numbers};
 ghost use Rattle.mailbox.specs.Events.{Moves};
 ghost use Rattle.mailbox.specs.inner.Events.{GoesOn};

@@ -2,15 +2,12 @@
 //! which it stands; the log itself is kept nowhere. What its clients do is told in `clients`.
 
 ghost use Rattle.std.specs.Prelude.{◌≡◌, ◌^◌, ◌⊎◌, ◌<◌, ◌↔◌, [], ◌∷◌, ◌++◌, length, map, max, true, false, Err, OnOk, OnErr, IfOk, IfErr};
-ghost use Rattle.change_ring.specs.Log.{no_flags};
-ghost use Rattle.change_ring.specs.Logged.{arrival};
-ghost use Rattle.change_ring.specs.Window.{total};
+ghost use Rattle.change_ring.specs.Log.{no_flags, arrival, total};
 ghost use Rattle.mailbox.specs.Accepted.{kept_of};
 ghost use Rattle.mailbox.specs.Counts.{unseen_count, deleted_count, bytes_in_all};
 ghost use Rattle.mailbox.specs.Events.{Logs, Moves};
-ghost use Rattle.mailbox.specs.Mailbox.{SameMailbox, next_uid, is_spent, is_full, texts_of, uids_of};
+ghost use Rattle.mailbox.specs.Mailbox.{SameMailbox, next_uid, is_spent, is_full, texts_of, uids_of, Stands};
 ghost use Rattle.std.specs.List.Sorted.{IsStrictlyIncreasing};
-ghost use Rattle.mailbox.specs.Stands.{Stands};
 
 use crate::history::{Accepted, History};
 use crate::logging::log_change;

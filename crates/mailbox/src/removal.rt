@@ -3,17 +3,14 @@
 //! are passed: whatever else is to go is given it first, which is neither logged nor shown.
 
 ghost use Rattle.std.specs.Prelude.{◌≡◌, ◌+◌, ◌^◌, ◌≤◌, ◌<◌, ◌↔◌, ◌⊎◌, ◌==◌, true, List, ◌++◌, length, count_by, None, Err, OnOk, OnErr, IfOk, IfErr, IsTrue, option_map, drop, Some, IsSome, IfSome, if◌then◌else◌, vec_capacity, vec_len};
-ghost use Rattle.change_ring.specs.Log.{view_at};
-ghost use Rattle.change_ring.specs.Logged.{discards, removals, removals_if};
-ghost use Rattle.change_ring.specs.Window.{changes_from, total};
+ghost use Rattle.change_ring.specs.Log.{view_at, discards, removals, removals_if, changes_from, total};
 ghost use Rattle.cursor_set.specs.Cursors.{Updates, after_showing, held};
 ghost use Rattle.cursor_set.specs.Lines.{lines};
 ghost use Rattle.mailbox.specs.inner.Choices.{IsFound, passes};
 ghost use Rattle.mailbox.specs.Events.{IsCurrent, IsLapped, IsStranger, IsTooMany, KeepsLog, Logs, Moves, in_set};
 ghost use Rattle.mailbox.specs.inner.Events.{GoesOn};
-ghost use Rattle.mailbox.specs.Mailbox.{remaining, rows, without};
+ghost use Rattle.mailbox.specs.Mailbox.{remaining, rows, without, Stands};
 ghost use Rattle.mailbox.specs.inner.Marks.{gone_of};
-ghost use Rattle.mailbox.specs.Stands.{Stands};
 
 use crate::choice::Choice;
 use crate::clients::MailFault;

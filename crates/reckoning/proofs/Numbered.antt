@@ -1,8 +1,7 @@
 -- What a mailbox kept of its copies is numbered as they are.
 use Rattle.std.proofs.Common.{[], refl}
 use Rattle.mailbox.specs.Accepted.{kept_of}
-use Rattle.mailbox.specs.Mailbox.{Mailbox}
-use Rattle.mailbox.specs.Stands.{IsKept}
+use Rattle.mailbox.specs.Mailbox.{Mailbox, IsKept}
 use Rattle.mailbox.specs.declared.history.History.{History}
 use Rattle.mailbox.specs.declared.history.History.TheVariants.{Kept, Unkept}
 use Rattle.reckoning.specs.Shelves.{AreNumbered}

@@ -2,7 +2,7 @@
 use Rattle.std.proofs.Common.{◌≡◌, ◌≢◌, ℕ, List, [], ◌∷◌, ◌++◌, length, refl, ap, sym, ◌∙◌}
 use Rattle.std.specs.Prelude.{codes}
 use Rattle.delivery_token.specs.declared.Verdict.{Verdict}
-use Rattle.envelope.specs.Directory.{Directory}
+use Rattle.envelope.specs.Names.{Directory}
 use Rattle.envelope.specs.Reading.{read, forward_at}
 use Rattle.lane_work.specs.Talk.{Judged}
 use Rattle.lmtp_machine.specs.declared.reply.Reply.TheVariants.{Greeting, Okay, Bye}

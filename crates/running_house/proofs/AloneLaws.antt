@@ -5,7 +5,7 @@ use Rattle.std.proofs.lemmas.List.{length-drop, length-replicate, take-append-dr
 use Rattle.change_ring.specs.Log.{no_flags}
 use Rattle.delivery_token.specs.Text.{undated}
 use Rattle.delivery_token.specs.declared.Job.{Job}
-use Rattle.lane_work.specs.Copies.{FilledAlone, Room}
+use Rattle.lane_work.specs.Account.{FilledAlone, Room}
 use Rattle.lane_work.proofs.FullLaws.{found_full}
 use Rattle.running_house.specs.Alone.{CanBeFull, FilledAloneIsAll}
 use Rattle.shard_queue.specs.declared.lane.Entry.{Entry}

@@ -10,8 +10,7 @@ use Rattle.house_history.specs.declared.event.Event.{Event}
 use Rattle.imap_session.specs.Folders.{folders_of}
 use Rattle.imap_session.specs.Commands.{greeting}
 use Rattle.imap_session.specs.declared.standing.Profile.TheVariants.{Standard}
-use Rattle.lane_work.specs.Account.{AreAccountedFor, AreBooksOf, HaveEnded, notes_tell}
-use Rattle.lane_work.specs.Copies.{rooms_of}
+use Rattle.lane_work.specs.Account.{AreAccountedFor, AreBooksOf, HaveEnded, notes_tell, rooms_of}
 use Rattle.lane_work.specs.Couriers.{HasCarried}
 use Rattle.lane_work.specs.Speaking.{premises_of}
 use Rattle.lane_work.specs.declared.desk.Desk.{Desk}

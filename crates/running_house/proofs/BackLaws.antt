@@ -5,15 +5,14 @@ use Rattle.std.proofs.lemmas.List.Elements.{All-cons, All-head, All-nil, All-tai
 use Rattle.delivery_token.specs.declared.Verdict.{Verdict}
 use Rattle.dot_stuffing.specs.declared.Outcome.{Outcome}
 use Rattle.dot_stuffing.specs.declared.Outcome.TheVariants as outcomes
-use Rattle.envelope.specs.Directory.{Directory}
+use Rattle.envelope.specs.Names.{Directory}
 use Rattle.lane_work.specs.Talk.{Judged, HasTaken, WholeTalk}
 use Rattle.lane_work.specs.Talk as talk
 use Rattle.line_io.specs.Wire.{IsUncut, crlf, joined, wire_rest}
 use Rattle.line_io.specs.inner.WireLaws.{reading_cut, uncut_nil}
 use Rattle.lmtp_machine.specs.declared.reply.Reply.{Reply}
 use Rattle.lmtp_machine.specs.declared.reply.Reply.TheVariants.{Greeting}
-use Rattle.lmtp_machine.specs.Calls.{IsQuiet}
-use Rattle.lmtp_machine.specs.Conversation.{Conversation, Heard, IsListening, Leads, MayHear}
+use Rattle.lmtp_machine.specs.Conversation.{IsQuiet, Conversation, Heard, IsListening, Leads, MayHear}
 use Rattle.lmtp_machine.specs.Conversation as heard
 use Rattle.lmtp_machine.specs.Message.{outcome, plain}
 use Rattle.lmtp_machine.specs.Dialogue.{Phase, Start, Ready, Transaction, Data, Waiting, Ended, Standing, Setting, Submission, Event, Opened, Line, Starved, Answered, Shut, Turn, turn, at_end, dialogue, fresh, is_dot, on_event, on_line, on_outcome, on_starved, on_verdicts, verdict_reply}

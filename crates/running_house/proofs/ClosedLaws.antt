@@ -2,7 +2,7 @@
 use Rattle.std.proofs.Common.{◌≡◌, ◌∙◌, ℕ, ◌<◌, Bool, true, false, ap, sym, subst, arith, All, ◌||◌}
 use Rattle.std.specs.List.{list_any}
 use Rattle.std.proofs.lemmas.List.Elements.{All-weaker}
-use Rattle.envelope.specs.Directory.{Directory, is_shut, shard_of}
+use Rattle.envelope.specs.Names.{Directory, is_shut, shard_of}
 use Rattle.lane_work.specs.Account.{closings_of, is_closed_by, setting_at}
 use Rattle.lane_work.specs.Talk.{Judged}
 use Rattle.lane_work.proofs.ClosedLaws.{AreOpen, IsOpen, judged_open}

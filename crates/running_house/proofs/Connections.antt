@@ -2,12 +2,12 @@
 use Rattle.std.proofs.Common.{◌≡◌, inl, inr, ℕ, ◌+◌, List, [], ◌∷◌, ◌++◌, length, refl, ap, sym, subst, ◌∙◌, append-nil, length-append, arith}
 use Rattle.std.specs.Prelude.{flat_map}
 use Rattle.std.proofs.lemmas.List.Concat.{flat_map-append}
-use Rattle.envelope.specs.Directory.{Directory}
+use Rattle.envelope.specs.Names.{Directory}
 use Rattle.lane_work.specs.Account.{HaveTalked, IsMarkedBy, Premises, closings_of, setting_at}
 use Rattle.lane_work.specs.Account as account
 use Rattle.lane_work.specs.Talk.{Judged}
 use Rattle.lmtp_machine.specs.declared.reply.Reply.{Reply}
-use Rattle.lmtp_machine.specs.Replies.{wire}
+use Rattle.lmtp_machine.specs.Dialogue.{wire}
 use Rattle.running_house.specs.Conversing.{AreDialogues, HaveConversed, IsConnection, none, next}
 use Rattle.running_house.specs.Laws.{ConnectionsHaveTalked, EachIsADialogue, TalksAreOfLines}
 use Rattle.running_house.specs.Woven.{IsWholeDialogue}

@@ -3,14 +3,11 @@ use Rattle.std.proofs.Common.{map, ◌≡◌, ◌+◌, ◌∙◌, ℕ, List, [],
 use Rattle.std.proofs.lemmas.List.Elements.{All-head, All-tail, All-weaker}
 use Rattle.settings.specs.Settings.{directory_for}
 use Rattle.delivery_token.specs.declared.Job.{Job}
-use Rattle.envelope.specs.Directory.{Directory}
-use Rattle.shard_queue.specs.Reply.{ReplyChannel}
+use Rattle.envelope.specs.Names.{Directory}
+use Rattle.shard_queue.specs.Reply.{ReplyChannel, senders_of}
 use Rattle.delivery_token.specs.declared.log.Noted.{Noted}
-use Rattle.shard_queue.specs.Permits.{ShardQueue}
-use Rattle.shard_queue.specs.Reply.{senders_of}
-use Rattle.shard_queue.specs.Permits.{capacity_of, producers_of}
-use Rattle.lane_work.specs.Account.{Premises}
-use Rattle.lane_work.specs.Copies.{Room, rooms_of}
+use Rattle.shard_queue.specs.Permits.{ShardQueue, capacity_of, producers_of}
+use Rattle.lane_work.specs.Account.{Premises, Room, rooms_of}
 use Rattle.house_shared.specs.Crew.{IsHouse}
 use Rattle.house_shared.specs.Opening.{IsHouseShared}
 use Rattle.house_shared.specs.declared.shared.HouseShared.{HouseShared}

@@ -6,7 +6,7 @@ use Rattle.std.proofs.lemmas.List.Elements.{All-append, All-cons, All-head, All-
 use Rattle.std.proofs.lemmas.List.Kept.{AllPairs-cons}
 use Rattle.delivery_token.specs.declared.CopyKey.{CopyKey}
 use Rattle.delivery_token.specs.Keys.{Precedes}
-use Rattle.envelope.specs.Directory.{Directory}
+use Rattle.envelope.specs.Names.{Directory}
 use Rattle.lane_work.specs.Account.{Premises, setting_at}
 use Rattle.lane_work.specs.Talk.{Judged}
 use Rattle.lmtp_machine.specs.Dialogue.{Setting, keys_from}

@@ -10,10 +10,9 @@ use Rattle.delivery_token.specs.declared.Verdict.{Verdict}
 use Rattle.delivery_token.specs.declared.Verdict.TheVariants.{Stored}
 use Rattle.delivery_token.specs.declared.log.Noted.{Noted}
 use Rattle.delivery_token.specs.Keys.{Precedes}
-use Rattle.envelope.specs.Directory.{Directory, shard_of}
-use Rattle.lane_work.specs.Account.{AreAccountedFor, Premises}
-use Rattle.lane_work.specs.Copies.{IsHeard, Room, WerePut, copies, copies_of, note_of, room_at, told}
-use Rattle.lane_work.specs.Copies as were
+use Rattle.envelope.specs.Names.{Directory, shard_of}
+use Rattle.lane_work.specs.Account.{AreAccountedFor, Premises, IsHeard, Room, WerePut, copies, copies_of, note_of, room_at, told}
+use Rattle.lane_work.specs.Account as were
 use Rattle.lane_work.specs.Talk.{Judged}
 use Rattle.lane_work.proofs.HistoryLaws.{stored_was_put}
 use Rattle.shard_queue.specs.declared.lane.Entry.{Entry}

@@ -6,7 +6,7 @@ use Rattle.delivery_token.specs.declared.CopyKey.{CopyKey}
 use Rattle.delivery_token.specs.declared.Job.{Job}
 use Rattle.delivery_token.specs.declared.Refusal.TheVariants as why
 use Rattle.delivery_token.specs.declared.Verdict.TheVariants.{Refused}
-use Rattle.envelope.specs.Directory.{Directory}
+use Rattle.envelope.specs.Names.{Directory}
 use Rattle.settings.specs.declared.config.Config.{Config}
 use Rattle.running_house.specs.Refusals.{Allows, AreTogether, CameBehind, HadNoRoom, IsNotLater, MayWait, MayWaitTogether, StandAmong, WasFilled}
 use Rattle.shard_queue.specs.declared.lane.Entry.{Entry}

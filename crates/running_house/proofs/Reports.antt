@@ -2,10 +2,10 @@
 use Rattle.std.proofs.Common.{◌≡◌, ◌<◌, ◌+◌, ◌==◌, ◌∙◌, ℕ, zero, suc, Bool, List, [], ◌∷◌, All, Some, Vec, take, drop, length, map, slice_get, slice_index_or, sym, ap, subst, arith}
 use Rattle.std.specs.Global.{Global}
 use Rattle.std.proofs.lemmas.List.{length-map, length-take-le}
-use Rattle.std.proofs.lemmas.List.Elements.{All-weaker}
+use Rattle.std.proofs.lemmas.List.Elements.{All-weaker, All-cons, All-head, All-nil, All-tail}
 use Rattle.running_house.specs.Lists.{ListsAgree}
 use Rattle.running_house.specs.Walk.{ListsMet}
-use Rattle.envelope.specs.Directory.{Directory, shard_of}
+use Rattle.envelope.specs.Names.{Directory, shard_of}
 use Rattle.lane_work.specs.Answering.{WereAnswered}
 use Rattle.shard_queue.specs.declared.lane.Entry.TheVariants.{End}
 use Rattle.shard_queue.specs.declared.lane.Entry.{Entry}
@@ -35,14 +35,11 @@ use Rattle.house_history.specs.Events.{accepted_in}
 use Rattle.reckoning.specs.Histories.{IsKnownIn}
 use Rattle.reckoning.specs.Shelves.{HasAccepted}
 use Rattle.reckoning.proofs.Histories.{accepted_at}
-use Rattle.running_house.proofs.Accounts.{account_of, backed_by, only_of, session_account_of}
+use Rattle.running_house.proofs.Accounts.{account_of, backed_by, only_of, session_account_of, seats_of}
 use Rattle.reckoning.proofs.Accounts.{all_taken, answers_of, mapped_at}
-use Rattle.running_house.proofs.Accounts.{seats_of}
 use Rattle.reckoning.proofs.Parts.{some_at}
 use Rattle.running_house.specs.Agree as report
-use Rattle.running_house.specs.Agree.{Agrees}
-use Rattle.running_house.specs.Agree.{IsEmptied, WasAnswered}
-use Rattle.std.proofs.lemmas.List.Elements.{All-cons, All-head, All-nil, All-tail}
+use Rattle.running_house.specs.Agree.{Agrees, IsEmptied, WasAnswered}
 use Rattle.running_house.specs.Order.{AreInLaneOrder}
 use Rattle.running_house.specs.inner.Agree.{AreTexts, IsHouseSharedFor, IsNumbered}
 use Rattle.running_house.specs.Plan.{connections_of, premises_for, producers_in}

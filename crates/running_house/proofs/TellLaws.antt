@@ -10,8 +10,8 @@ use Rattle.delivery_token.specs.declared.Job.{Job}
 use Rattle.delivery_token.specs.declared.Verdict.{Verdict}
 use Rattle.delivery_token.specs.declared.Verdict.TheVariants.{Stored}
 use Rattle.delivery_token.specs.declared.log.Noted.{Noted}
-use Rattle.delivery_token.specs.Log.{stored_for, stored_pair}
-use Rattle.envelope.specs.Directory.{shard_of}
+use Rattle.delivery_token.specs.Copies.{stored_for, stored_pair}
+use Rattle.envelope.specs.Names.{shard_of}
 use Rattle.shard_queue.specs.declared.lane.Entry.{Entry}
 use Rattle.shard_queue.specs.declared.lane.Entry.TheVariants.{Item}
 use Rattle.shard_queue.specs.Closing.{IsWhole}
@@ -20,8 +20,7 @@ use Rattle.shard_queue.specs.Permits.{history, numbers}
 use Rattle.running_house.proofs.ListLaws.{contains_cases, contains_none, first_of, later_of}
 use Rattle.running_house.proofs.LogLaws.{account_is_of_lines, stored_is_there}
 use Rattle.workers_sync.specs.Carried.{judged_of}
-use Rattle.lane_work.specs.Account.{AreAccountedFor}
-use Rattle.lane_work.specs.Copies.{told}
+use Rattle.lane_work.specs.Account.{AreAccountedFor, told}
 use Rattle.reckoning.proofs.Parts.{some_at}
 use Rattle.running_house.specs.Agree.{Agrees, accepted_of, answers, histories, notes_of, replies_of}
 use Rattle.running_house.specs.Plan.{connections_of, premises_for, producers_in}

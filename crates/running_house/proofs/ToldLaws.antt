@@ -1,7 +1,7 @@
 -- What the events of some lines tell: no line is dropped, and each answer stands where it is awaited.
 use Rattle.std.proofs.Common.{◌≡◌, ℕ, ◌+◌, List, [], ◌∷◌, ◌++◌, length, map, refl, ap, sym, subst, ◌∙◌, arith}
 use Rattle.delivery_token.specs.declared.Verdict.{Verdict}
-use Rattle.envelope.specs.Directory.{Directory}
+use Rattle.envelope.specs.Names.{Directory}
 use Rattle.lane_work.specs.Talk.{Judged}
 use Rattle.lmtp_machine.specs.Dialogue.{Waiting, Standing, Setting, Event, Opened, Line, Starved, Answered, Shut, dialogue, on_event}
 use Rattle.running_house.specs.Laws.{LinesAreTold}

@@ -2,10 +2,9 @@
 use Rattle.std.proofs.Common.{◌≡◌, ℕ, List, [], ◌∷◌, ◌++◌, length, map, refl, ap, sym, ◌∙◌, append-nil}
 use Rattle.std.specs.Prelude.{codes}
 use Rattle.delivery_token.specs.declared.Verdict.{Verdict}
-use Rattle.envelope.specs.Directory.{Directory}
+use Rattle.envelope.specs.Names.{Directory}
 use Rattle.lane_work.specs.Talk.{Judged}
-use Rattle.lmtp_machine.specs.Calls.{IsQuiet}
-use Rattle.lmtp_machine.specs.Conversation.{Heard, MayHear, EachMayBeHeard}
+use Rattle.lmtp_machine.specs.Conversation.{IsQuiet, Heard, MayHear, EachMayBeHeard}
 use Rattle.lmtp_machine.specs.Conversation as heard
 use Rattle.lmtp_machine.specs.Dialogue.{Waiting, Standing, Setting, Submission, Event, Line, Starved, Answered, Turn, dialogue, on_event}
 use Rattle.running_house.specs.Woven.{IsHeardAs, Woven, none, line, submits}

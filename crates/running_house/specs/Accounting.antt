@@ -3,7 +3,7 @@ use Rattle.std.specs.Prelude.{◌≡◌, ℕ, ◌<◌, List, [], Contains, lengt
 use Rattle.delivery_token.specs.declared.Job.{Job}
 use Rattle.delivery_token.specs.declared.Verdict.TheVariants.{Stored}
 use Rattle.delivery_token.specs.declared.log.Noted.{Noted}
-use Rattle.envelope.specs.Directory.{shard_of}
+use Rattle.envelope.specs.Names.{shard_of}
 use Rattle.lane_work.specs.Account.{Premises}
 use Rattle.lane_work.specs.Talk.{Judged}
 use Rattle.shard_queue.specs.declared.lane.Entry.{Entry}

@@ -1,7 +1,7 @@
 -- What a full lane can tell the producer that finds it so.
 use Rattle.std.specs.Prelude.{ℕ, ◌<◌, ◌↔◌, List, map}
 use Rattle.delivery_token.specs.declared.Job.{Job}
-use Rattle.lane_work.specs.Copies.{FilledAlone, Room}
+use Rattle.lane_work.specs.Account.{FilledAlone, Room}
 use Rattle.shard_queue.specs.declared.lane.Entry.{Entry}
 use Rattle.shard_queue.specs.declared.lane.Entry.TheVariants.{Item}
 use Rattle.shard_queue.specs.Permits.{WasFull}

@@ -1,10 +1,10 @@
 -- All connections of a worker, each by the whole lines of its whole string.
 use Rattle.std.specs.Prelude.{◌≡◌, ℕ, ◌<◌, List, [], ◌∷◌, ◌++◌, length, flat_map, slice_index_or}
-use Rattle.envelope.specs.Directory.{Directory}
+use Rattle.envelope.specs.Names.{Directory}
 use Rattle.lane_work.specs.Account.{IsMarkedBy, Premises, closings_of, setting_at}
 use Rattle.lane_work.specs.Talk.{Judged}
 use Rattle.lmtp_machine.specs.declared.reply.Reply.{Reply}
-use Rattle.lmtp_machine.specs.Replies.{wire}
+use Rattle.lmtp_machine.specs.Dialogue.{wire}
 use Rattle.running_house.specs.Woven.{IsWholeDialogue}
 
 -- Connections one after another: these bytes came, these were the replies, and these messages were judged. Each goes by the closings before it.

@@ -4,7 +4,7 @@ use Rattle.std.specs.List.{list_any}
 use Rattle.delivery_token.specs.declared.Job.{Job}
 use Rattle.delivery_token.specs.declared.Verdict.TheVariants.{Stored}
 use Rattle.delivery_token.specs.declared.log.Noted.{Noted}
-use Rattle.envelope.specs.Directory.{Directory, shard_of}
+use Rattle.envelope.specs.Names.{Directory, shard_of}
 use Rattle.lane_work.specs.Account.{Account, Premises, HaveTalked, closings_of, is_closed_by}
 use Rattle.lane_work.specs.Talk.{Judged, WholeTalk}
 use Rattle.lmtp_machine.specs.declared.reply.Reply.{Reply}

@@ -6,8 +6,8 @@ use Rattle.delivery_token.specs.declared.CopyKey.{CopyKey}
 use Rattle.delivery_token.specs.declared.Job.{Job}
 use Rattle.delivery_token.specs.declared.log.Noted.{Noted}
 use Rattle.delivery_token.specs.Keys.{Precedes}
-use Rattle.delivery_token.specs.Log.{stored_in}
-use Rattle.envelope.specs.Directory.{Directory, shard_of}
+use Rattle.delivery_token.specs.Copies.{stored_in}
+use Rattle.envelope.specs.Names.{Directory, shard_of}
 
 -- ---- lists of accepted copies: each with its key and its UID
 

@@ -2,7 +2,7 @@
 use Rattle.std.specs.Prelude.{◌≡◌, ◌⊎◌, ◌==◌, ◌+◌, ℕ, Bool, List, length, map, filter, replicate, nat_lt, nat_le, Vec, Option, Some, None, is_none, if◌then◌else◌}
 use Rattle.std.specs.Global.{Global}
 use Rattle.std.specs.List.{list_any}
-use Rattle.envelope.specs.Directory.{Home}
+use Rattle.envelope.specs.Names.{Home}
 use Rattle.settings.specs.Settings.{config_fault, directory_for}
 use Rattle.settings.specs.declared.config.ConfigFault.{ConfigFault}
 use Rattle.settings.specs.declared.config.ConfigFault.TheVariants as settings

@@ -4,8 +4,8 @@ use Rattle.delivery_token.specs.declared.Job.{Job}
 use Rattle.delivery_token.specs.declared.Verdict.{Verdict}
 use Rattle.delivery_token.specs.declared.log.Noted.{Noted}
 use Rattle.delivery_token.specs.Keys.{Precedes}
-use Rattle.envelope.specs.Directory.{Directory, shard_of}
-use Rattle.lane_work.specs.Copies.{IsHeard, copies_of, note_of}
+use Rattle.envelope.specs.Names.{Directory, shard_of}
+use Rattle.lane_work.specs.Account.{IsHeard, copies_of, note_of}
 use Rattle.lane_work.specs.Talk.{Judged}
 use Rattle.shard_queue.specs.declared.lane.Entry.{Entry}
 use Rattle.shard_queue.specs.declared.lane.Entry.TheVariants.{Item}

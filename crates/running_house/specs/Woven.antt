@@ -2,7 +2,7 @@
 -- pieces.
 use Rattle.std.specs.Prelude.{◌≡◌, ◌⊎◌, ℕ, codes, List, [], ◌∷◌, ◌++◌, ◌+◌, length, map}
 use Rattle.delivery_token.specs.declared.Verdict.{Verdict}
-use Rattle.envelope.specs.Directory.{Directory}
+use Rattle.envelope.specs.Names.{Directory}
 use Rattle.lane_work.specs.Talk.{Judged}
 use Rattle.line_io.specs.Wire.{IsCut, wire_lines}
 use Rattle.lmtp_machine.specs.declared.reply.Reply.{Reply}

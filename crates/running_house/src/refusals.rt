@@ -3,7 +3,7 @@
 
 ghost use Rattle.std.specs.Prelude.{◌≡◌, ◌≢◌, ◌<◌, ◌≤◌, ◌+◌, ◌⊎◌, ◌↔◌, ◌++◌, ◌∷◌, [], All, IsTrue, List, drop, length, map, slice_index_or, take, true};
 ghost use Rattle.delivery_token.specs.Keys.{Precedes};
-ghost use Rattle.envelope.specs.Directory.{shard_of};
+ghost use Rattle.envelope.specs.Names.{shard_of};
 ghost use Rattle.running_house.specs.Refusals.{AreTogether, CameBehind, HadNoRoom, IsCopyFor, IsNotLater, MayCome, MayWait, MayWaitTogether, StandAmong};
 ghost use Rattle.running_house.specs.inner.Refusals.{HasKey};
 ghost use Rattle.shard_queue.specs.Lane.{producer};

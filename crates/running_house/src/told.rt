@@ -2,7 +2,7 @@
 //! texts do not belong here.
 
 ghost use Rattle.std.specs.Prelude.{◌≡◌, ◌<◌, ◌↔◌, All, IfOk, IsTrue, map};
-ghost use Rattle.delivery_token.specs.Log.{stored_in};
+ghost use Rattle.delivery_token.specs.Copies.{stored_in};
 ghost use Rattle.running_house.specs.Lists.{AreTold, IsTold, Rise, keys_of, of_seat};
 
 use delivery_token::{CopyKey, WorkerLog, precedes};

@@ -1,7 +1,7 @@
 -- What a line of a script comes to that asks for an event of the house, by how the house answered it.
 use Rattle.std.proofs.Common.{◌≡◌, ℕ, ◌++◌, List, refl, sym, ap, ◌∙◌, arith}
 use Rattle.std.specs.Prelude.{codes, false, true}
-use Rattle.envelope.specs.Directory.{Directory, is_shut}
+use Rattle.envelope.specs.Names.{Directory, is_shut}
 use Rattle.house.specs.declared.event.Event.{Event}
 use Rattle.house.specs.declared.event.Event.TheVariants.{Bytes, Vanish, Put, Take, Deliver, Answer, Hear, End, Close, Enter, Say, Idle, Leave}
 use Rattle.house.specs.House.{House}
@@ -10,8 +10,7 @@ use Rattle.house.specs.Scene.{Plays, Scene}
 use Rattle.house.specs.Stands.{StandsFor}
 use Rattle.house.specs.Steps.{IsBusy, IsNobody, Led, MayFindNothing}
 use Rattle.script.specs.Leaving.{LineBegins}
-use Rattle.script.specs.Script.{asks, asks_lingering, asks_nobody, closes, closes_again, closes_nobody, enters, enters_nowhere, enters_taken, leaves, leaves_again, leaves_nobody, refusal, sends, sends_to_nobody, sends_to_owing, vanishes, vanishes_again, vanishes_away}
-use Rattle.script.specs.Script.{LineDoes}
+use Rattle.script.specs.Script.{asks, asks_lingering, asks_nobody, closes, closes_again, closes_nobody, enters, enters_nowhere, enters_taken, leaves, leaves_again, leaves_nobody, refusal, sends, sends_to_nobody, sends_to_owing, vanishes, vanishes_again, vanishes_away, LineDoes}
 use Rattle.script.specs.inner.Running.{LineDone, line_for}
 use Rattle.script.proofs.RunLaws.{away, nobody_there, owing}
 use Rattle.script.proofs.SessionLaws.{known, lingering, nowhere, unvisited, visited}

@@ -9,8 +9,8 @@ use Rattle.delivery_token.specs.Text.{Text}
 use Rattle.delivery_token.specs.declared.CopyKey.{CopyKey}
 use Rattle.delivery_token.specs.declared.Job.{Job}
 use Rattle.delivery_token.specs.declared.Verdict.{Verdict}
-use Rattle.envelope.specs.Directory.{Home}
-use Rattle.lane_work.specs.Copies.{copies}
+use Rattle.envelope.specs.Names.{Home}
+use Rattle.lane_work.specs.Account.{copies}
 use Rattle.lane_work.proofs.CopyLaws.{copies_length, copies_next, take_next}
 use Rattle.server_report.specs.Lines.{call_number, copy_line, mail_line, mail_lines}
 use Rattle.server_report.specs.declared.line.Caller.TheVariants.{Mail}

@@ -3,7 +3,7 @@ use Rattle.std.specs.Prelude.{ℕ, ◌+◌, ◌*◌, ◌++◌, codes, decimal, f
 use Rattle.delivery_token.specs.declared.Job.{Job}
 use Rattle.delivery_token.specs.declared.Verdict.{Verdict}
 use Rattle.delivery_token.specs.declared.Verdict.TheVariants.{Stored, Refused}
-use Rattle.envelope.specs.Directory.{Home}
+use Rattle.envelope.specs.Names.{Home}
 use Rattle.server_report.specs.declared.line.Caller.{Caller}
 use Rattle.server_report.specs.declared.line.Caller.TheVariants.{Mail, Client}
 use Rattle.server_report.specs.declared.line.Happened.{Happened}

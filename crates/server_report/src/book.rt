@@ -3,7 +3,7 @@
 
 ghost use Rattle.std.specs.Prelude.{◌≡◌, ◌+◌, ◌-◌, length, true, zip, vec_len};
 ghost use Rattle.lmtp_machine.specs.Calls.{submission_of};
-ghost use Rattle.lane_work.specs.Copies.{copies_of};
+ghost use Rattle.lane_work.specs.Account.{copies_of};
 ghost use Rattle.server_report.specs.Lines.{call_number, copy_line, mail_lines};
 ghost use Rattle.server_report.specs.declared.line.Caller.{Caller};
 

@@ -2,7 +2,7 @@
 
 ghost use Rattle.std.specs.Prelude.{◌≡◌, ◌++◌, ◌+◌, ◌<◌, codes, decimal, length, slice_get, zip, None, OnOk, Some, Option, vec_len};
 ghost use Rattle.lmtp_machine.specs.Calls.{submission_of};
-ghost use Rattle.lane_work.specs.Copies.{copies_of};
+ghost use Rattle.lane_work.specs.Account.{copies_of};
 ghost use Rattle.server_report.specs.Lines.{call_line, call_number, caller_words, copy_line, happened_words, mail_lines, mail_line, mailbox_words, size_words, verdict_words};
 
 use crate::refused::reason_words;

@@ -8,22 +8,13 @@ use Rattle.delivery_token.specs.declared.Job.{Job}
 use Rattle.delivery_token.specs.declared.log.Noted.{Noted}
 use Rattle.shard_queue.specs.Closing.{IsWhole}
 use Rattle.shard_queue.specs.Lane.{of}
-use Rattle.shard_queue.specs.Permits.{history, said}
-use Rattle.shard_queue.specs.Reply.{received, reply_history}
+use Rattle.shard_queue.specs.Permits.{history, said, Closed, ConsumerPermit, Ended, ShardQueue}
+use Rattle.shard_queue.specs.Reply.{received, reply_history, ReplyChannel, ReceiverPermit, ReplyClosed, SenderEnded}
 use Rattle.shard_queue.specs.Shared.{IsStartOf}
-use Rattle.shard_queue.specs.Reply.{ReplyChannel}
 use Rattle.shard_queue.specs.declared.lane.Entry.{Entry}
-use Rattle.shard_queue.specs.Permits.{Closed}
-use Rattle.shard_queue.specs.Permits.{ConsumerPermit}
-use Rattle.shard_queue.specs.Permits.{Ended}
-use Rattle.shard_queue.specs.Permits.{ShardQueue}
-use Rattle.shard_queue.specs.Reply.{ReceiverPermit}
-use Rattle.shard_queue.specs.Reply.{ReplyClosed}
-use Rattle.shard_queue.specs.Reply.{SenderEnded}
 use Rattle.house_history.specs.declared.event.Event.{Event}
-use Rattle.lane_work.specs.Account.{Premises}
+use Rattle.lane_work.specs.Account.{Premises, room_at}
 use Rattle.lane_work.specs.Backing.{IsBacked}
-use Rattle.lane_work.specs.Copies.{room_at}
 use Rattle.lane_work.specs.Speaking.{premises_of}
 use Rattle.lane_work.specs.declared.consumer.Consumed.{Consumed}
 use Rattle.lane_work.proofs.CopyLaws.{were_put_later}
@@ -33,7 +24,7 @@ use Rattle.lane_work.specs.LanePermits.{AreClosed}
 use Rattle.lane_work.specs.SharedLanes as closings
 use Rattle.shared_consumers.specs.ConsumerSet.{IsService}
 use Rattle.shared_consumers.specs.declared.consumer_set.Dismissed.{Dismissed}
-use Rattle.envelope.specs.Directory.{Directory}
+use Rattle.envelope.specs.Names.{Directory}
 use Rattle.settings.specs.Settings.{directory_for}
 use Rattle.settings.specs.declared.config.Config.{Config}
 use Rattle.house_shared.specs.Crew.{AllAt}
@@ -45,10 +36,9 @@ use Rattle.reckoning.proofs.Accounts.{answers_of, at_position, in_at}
 use Rattle.reckoning.proofs.Parts.{some_at}
 use Rattle.reckoning.specs.Histories.{AreBacked}
 use Rattle.serving_workers.specs.Closing.{GoOn, WasClosed}
-use Rattle.serving_workers.specs.Leaving.{HasServedClients, HasServedMail, IsServed}
+use Rattle.serving_workers.specs.Leaving.{HasServedClients, HasServedMail, IsServed, Told}
 use Rattle.serving_workers.specs.declared.accepting.Served.{Served}
 use Rattle.serving_workers.specs.Finished.{Finished, told_of}
-use Rattle.serving_workers.specs.Lines.{Told}
 use Rattle.serving.specs.Left.{HasLeft, IsWorkerOf, WasAnswered, answers, histories}
 use Rattle.serving.specs.declared.fault.ServeFault.{ServeFault}
 use Rattle.serving.specs.inner.Ending.{CameTo, FirstTakeMail, WereEmptied, WereHeardOut}

@@ -6,16 +6,15 @@ use Rattle.change_ring.specs.declared.change.Change.{Change}
 use Rattle.change_ring.specs.Log.{rows_of}
 use Rattle.delivery_token.specs.declared.Job.{Job}
 use Rattle.delivery_token.specs.declared.Verdict.{Verdict}
-use Rattle.envelope.specs.Directory.{Directory}
+use Rattle.envelope.specs.Names.{Directory}
 use Rattle.house_history.specs.declared.event.Event.{Event}
 use Rattle.house_history.specs.Events.{concerns}
 use Rattle.house_history.specs.Legal.{HasText}
 use Rattle.house_history.proofs.Follow.{accepted_own, changes_own}
 use Rattle.house_history.proofs.Standing.{text_in_whole}
 use Rattle.house_shared.specs.Crew.{AllAt}
-use Rattle.lane_work.specs.Account.{AreBooksOf, HaveEnded}
+use Rattle.lane_work.specs.Account.{AreBooksOf, HaveEnded, told}
 use Rattle.lane_work.specs.Backing.{StandAsTold}
-use Rattle.lane_work.specs.Copies.{told}
 use Rattle.lane_work.proofs.BackingLaws.{words_stand}
 use Rattle.locked_mailbox.specs.Locking.{LockedMailbox}
 use Rattle.mailbox.specs.Mailbox.{Message}

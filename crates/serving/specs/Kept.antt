@@ -7,15 +7,13 @@ use Rattle.house_history.specs.declared.event.Event.{Event}
 use Rattle.house_history.specs.Events.{accepted_in, changes_in}
 use Rattle.house_history.specs.Legal.{HasText, Legal}
 use Rattle.house_shared.specs.Crew.{AllAt}
-use Rattle.lane_work.specs.Account.{Premises}
+use Rattle.lane_work.specs.Account.{Premises, told}
 use Rattle.lane_work.specs.Backing.{StandAsTold}
-use Rattle.lane_work.specs.Copies.{told}
 use Rattle.lane_work.specs.Talk.{Judged}
 use Rattle.locked_mailbox.specs.Locking.{LockedMailbox}
 use Rattle.mailbox.specs.Mailbox.{Message, row_of}
 use Rattle.serving_workers.specs.Finished.{Finished}
-use Rattle.serving_workers.specs.Leaving.{HaveAppended, HaveConversed}
-use Rattle.serving_workers.specs.Lines.{Spoken, Told, WereOver}
+use Rattle.serving_workers.specs.Leaving.{HaveAppended, HaveConversed, Spoken, Told, WereOver}
 use Rattle.settings.specs.Settings.{directory_for}
 use Rattle.settings.specs.declared.config.Config.{Config}
 

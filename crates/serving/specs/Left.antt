@@ -13,11 +13,10 @@ use Rattle.lane_work.specs.Answering.{WereAnswered}
 use Rattle.lane_work.specs.Backing.{IsBacked}
 use Rattle.settings.specs.Settings.{directory_for}
 use Rattle.settings.specs.declared.config.Config.{Config}
-use Rattle.serving_workers.specs.Leaving.{HasServedClients, HasServedMail}
+use Rattle.serving_workers.specs.Leaving.{HasServedClients, HasServedMail, Told}
 use Rattle.house_shared.specs.Crew.{AllAt}
 use Rattle.reckoning.specs.Shelves.{IsRecorded}
 use Rattle.serving_workers.specs.Finished.{Finished}
-use Rattle.serving_workers.specs.Lines.{Told}
 use Rattle.serving.specs.Kept.{IsSetAs}
 
 -- of each shard, all that was taken from its lane

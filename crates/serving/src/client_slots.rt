@@ -1,7 +1,7 @@
 //! The client slots of a server: for each user so many sessions at a time. Who serves them stands in `sessions`.
 
 ghost use Rattle.std.specs.Prelude.{ℕ, ◌≡◌, ◌≢◌, ◌≤◌, ◌+◌, ◌*◌, All, IfOk, List, None, OnOk, length, vec_len};
-ghost use Rattle.envelope.specs.Directory.{Home};
+ghost use Rattle.envelope.specs.Names.{Home};
 ghost use Rattle.house_shared.specs.Users.{user_numbered};
 ghost use Rattle.serving.specs.Announcing.{users_of};
 ghost use Rattle.serving.specs.Producers.{client_slots_of_user};

@@ -1,8 +1,7 @@
 //! What the threads of a server use, made before the first of them. What they do with it stands elsewhere.
 
 ghost use Rattle.std.specs.Prelude.{◌≡◌, ◌≤◌, ◌<◌, ◌+◌, [], All, IfOk, length, vec_len, vec_capacity};
-ghost use Rattle.serving_workers.specs.Leaving.{IsOutfit};
-ghost use Rattle.serving_workers.specs.Lines.{IsFresh};
+ghost use Rattle.serving_workers.specs.Leaving.{IsOutfit, IsFresh};
 
 use crate::sessions::Ear;
 use crate::visiting::{Sign, signs_of};

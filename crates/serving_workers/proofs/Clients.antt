@@ -3,11 +3,9 @@ use Rattle.std.proofs.Common.{◌≡◌, ◌+◌, ℕ, List, [], All, map, refl,
 use Rattle.workers_sync.specs.Carried.{Carried}
 use Rattle.delivery_token.specs.declared.Job.{Job}
 use Rattle.delivery_token.specs.declared.log.Noted.{Noted}
-use Rattle.shard_queue.specs.Reply.{received}
+use Rattle.shard_queue.specs.Reply.{received, ReceiverPermit}
 use Rattle.shard_queue.specs.declared.lane.Entry.{Entry}
-use Rattle.shard_queue.specs.Reply.{ReceiverPermit}
-use Rattle.lane_work.specs.Account.{HaveEnded, Premises}
-use Rattle.lane_work.specs.Copies.{rooms_of}
+use Rattle.lane_work.specs.Account.{HaveEnded, Premises, rooms_of}
 use Rattle.lane_work.specs.inner.Couriers.{CarriesOn}
 use Rattle.lane_work.specs.Permits.{IsNew, put_by}
 use Rattle.lane_work.specs.Speaking.{premises_of}

@@ -2,16 +2,14 @@
 use Rattle.std.proofs.Common.{◌≡◌, ◌<◌, ◌∙◌, ℕ, true, false, map, sym, ap, subst, List, Some, length, slice_get, slice_index_or}
 use Rattle.std.proofs.lemmas.Option.{slice_get-get_or}
 use Rattle.delivery_token.specs.declared.log.Noted.{Noted}
-use Rattle.shard_queue.specs.Reply.{ReplyChannel}
-use Rattle.shard_queue.specs.Reply.{IsReceiver, received}
+use Rattle.shard_queue.specs.Reply.{ReplyChannel, IsReceiver, received}
 use Rattle.lane_work.specs.Backing.{IsBackedBy}
 use Rattle.lane_work.specs.Permits.{AreEnded}
 use Rattle.house_shared.specs.declared.shared.HouseShared.{HouseShared}
-use Rattle.serving_workers.specs.Lines.{Told}
+use Rattle.serving_workers.specs.Leaving.{Told, HasServedClients, HasServedMail, IsServed}
 use Rattle.serving_workers.specs.declared.accepting.Served.{Served}
 use Rattle.shard_queue.specs.Permits.{said}
 use Rattle.lane_work.specs.Speaking.{premises_of}
-use Rattle.serving_workers.specs.Leaving.{HasServedClients, HasServedMail, IsServed}
 use Rattle.house_shared.proofs.Finding.{found_at}
 
 pub here_at : {A : Type 0} (xs : List A) (i n : ℕ) (d : A) → i ≡ n → n < length xs → slice_get xs n ≡ Some (slice_index_or xs i d)

@@ -3,11 +3,9 @@ use Rattle.std.proofs.Common.{◌≡◌, ◌≢◌, ◌+◌, ◌++◌, ◌∷◌
 use mathlib.Core.List.{IsPrefix}
 use Rattle.delivery_token.specs.declared.Job.{Job}
 use Rattle.delivery_token.specs.declared.log.Noted.{Noted}
-use Rattle.shard_queue.specs.Reply.{received}
+use Rattle.shard_queue.specs.Reply.{received, ReceiverPermit}
 use Rattle.shard_queue.specs.declared.lane.Entry.{Entry}
-use Rattle.shard_queue.specs.Reply.{ReceiverPermit}
-use Rattle.lane_work.specs.Account.{HaveEnded, Premises, setting_at}
-use Rattle.lane_work.specs.Copies.{rooms_of}
+use Rattle.lane_work.specs.Account.{HaveEnded, Premises, setting_at, rooms_of}
 use Rattle.lane_work.specs.Permits.{IsNew, put_by}
 use Rattle.lane_work.specs.Speaking.{premises_of}
 use Rattle.lane_work.specs.Streaming.{IsPlayed}
@@ -19,8 +17,7 @@ use Rattle.lane_work.specs.declared.outcome.TalkFault.TheVariants.{Torn}
 use Rattle.lane_work.specs.declared.desk.LanePermit.{LanePermit}
 use Rattle.lane_work.specs.declared.desk.Intake.{Intake}
 use Rattle.lane_work.proofs.ServedLaws.{books_begin}
-use Rattle.serving_workers.specs.Leaving.{AreServed, AreWritten, HasServedMail, all_written, cut_short, never_greeted, next, none, passed, with_last_words}
-use Rattle.serving_workers.specs.Lines.{Closed, IsFresh, IsUnwritten, Spoken, Told, Took}
+use Rattle.serving_workers.specs.Leaving.{AreServed, AreWritten, HasServedMail, all_written, cut_short, never_greeted, next, none, passed, with_last_words, Closed, IsFresh, IsUnwritten, Spoken, Told, Took}
 use Rattle.serving_workers.proofs.Spoken.{front_of, none_over, nothing_read, over_more, what_was_written, written_of}
 
 nothing_of : (a b : List ℕ) → a ++ b ≡ [] → a ≡ []

@@ -4,16 +4,14 @@ use mathlib.Core.List.{IsPrefix}
 use Rattle.std.specs.Io.KnownBytes.{Appends, Consumes}
 use Rattle.std.proofs.lemmas.List.{append-nil, append_assoc, map-append, take-append-drop}
 use Rattle.lmtp_machine.specs.declared.reply.Reply.{Reply}
-use Rattle.lmtp_machine.specs.Dialogue.{Phase}
-use Rattle.lmtp_machine.specs.Replies.{wire}
+use Rattle.lmtp_machine.specs.Dialogue.{Phase, wire}
 use Rattle.lmtp_machine.proofs.Calls.{wire-append}
 use Rattle.lane_work.specs.declared.outcome.Ending.{Ending}
 use Rattle.lane_work.specs.declared.outcome.Ending.TheVariants.{Quit, Gone, Stopped}
 use Rattle.lane_work.specs.declared.outcome.TalkFault.{TalkFault}
 use Rattle.lane_work.specs.declared.outcome.TalkFault.TheVariants.{Read, Write, NoMemory, Torn}
 use Rattle.lane_work.specs.Streaming.{AreCutShort, AreSent, EndsBy, last_words}
-use Rattle.serving_workers.specs.Leaving.{AreWritten, all_written, cut_short, never_greeted, with_last_words}
-use Rattle.serving_workers.specs.Lines.{AreRead, Closed, IsUnwritten, OneMore, Spoken, Told, Took, WereOver, with_end}
+use Rattle.serving_workers.specs.Leaving.{AreWritten, all_written, cut_short, never_greeted, with_last_words, AreRead, Closed, IsUnwritten, OneMore, Spoken, Told, Took, WereOver, with_end}
 
 same_some : {A : Type 0} {a b : A} → Some a ≡ Some b → a ≡ b
 same_some e = cc

@@ -4,10 +4,9 @@ use Rattle.std.specs.Global.{Global}
 use Rattle.std.specs.List.{list_any}
 use Rattle.delivery_token.specs.declared.Job.{Job}
 use Rattle.delivery_token.specs.declared.log.Noted.{Noted}
-use Rattle.shard_queue.specs.Reply.{ReplyChannel}
-use Rattle.shard_queue.specs.Reply.{received}
+use Rattle.shard_queue.specs.Reply.{ReplyChannel, received, reply_history}
 use Rattle.shard_queue.specs.declared.lane.Entry.{Entry}
-use Rattle.shard_queue.specs.Permits.{ShardQueue}
+use Rattle.shard_queue.specs.Permits.{ShardQueue, Ended}
 use Rattle.lane_work.specs.declared.consumer.Consumed.{Consumed}
 use Rattle.lane_work.specs.declared.worker.Worked.{Worked}
 use Rattle.lane_work.specs.ChannelPermits.{AreReceivers}
@@ -19,13 +18,11 @@ use Rattle.house_history.specs.declared.event.Event.{Event}
 use Rattle.house_history.specs.Legal.{Legal}
 use Rattle.locked_mailbox.specs.Locking.{LockedMailbox}
 use Rattle.house_shared.specs.Crew.{AllAt}
-use Rattle.shard_queue.specs.Reply.{reply_history}
-use Rattle.shard_queue.specs.Permits.{Ended}
 use Rattle.reckoning.specs.Histories.{AreBacked}
 use Rattle.reckoning.specs.Shelves.{IsRecorded}
 use Rattle.serving_workers.specs.Closing.{GoOn, WasClosed}
 use Rattle.serving_workers.specs.Finished.{Finished, told_of}
-use Rattle.serving_workers.specs.Lines.{Told}
+use Rattle.serving_workers.specs.Leaving.{Told}
 use Rattle.serving_workers.specs.declared.accepting.Served.{Served}
 
 got_twice : {B : Type 0} (ws : List (Worked B)) → map received (map (λ (w : Worked B). w.receiver) ws) ≡ map (λ (w : Worked B). received w.receiver) ws

@@ -5,10 +5,9 @@ use Rattle.delivery_token.specs.declared.Job.{Job}
 use Rattle.delivery_token.specs.declared.log.Noted.{Noted}
 use Rattle.house_history.specs.Legal.{Legal}
 use Rattle.shard_queue.specs.Permits.{Ended}
-use Rattle.shard_queue.specs.Reply.{received, reply_history}
+use Rattle.shard_queue.specs.Reply.{received, reply_history, ReceiverPermit}
 use Rattle.shard_queue.specs.Shared.{IsStartOf}
 use Rattle.shard_queue.specs.declared.lane.Entry.{Entry}
-use Rattle.shard_queue.specs.Reply.{ReceiverPermit}
 use Rattle.lane_work.specs.ChannelPermits.{AreReceivers}
 use Rattle.shared_consumers.specs.declared.consumer_set.Dismissed.{Dismissed}
 use Rattle.house_shared.specs.declared.shared.HouseShared.{HouseShared}
@@ -18,7 +17,7 @@ use Rattle.reckoning.specs.Shelves.{IsRecorded}
 use Rattle.house_shared.specs.Crew.{AllAt}
 use Rattle.serving_workers.specs.declared.accepting.Served.{Served}
 use Rattle.serving_workers.specs.Finished.{Finished, told_of}
-use Rattle.serving_workers.specs.Lines.{Told}
+use Rattle.serving_workers.specs.Leaving.{Told}
 
 -- each of these lists goes on from the one at its position
 abbrev pub GoOn : (before after : List (List (Entry Noted))) → Type 0

@@ -5,7 +5,7 @@ use Rattle.delivery_token.specs.declared.Job.{Job}
 use Rattle.delivery_token.specs.declared.log.Noted.{Noted}
 use Rattle.house_history.specs.declared.event.Event.{Event}
 use Rattle.locked_mailbox.specs.Locking.{LockedMailbox}
-use Rattle.serving_workers.specs.Lines.{Told}
+use Rattle.serving_workers.specs.Leaving.{Told}
 use Rattle.shard_queue.specs.Permits.{Closed}
 use Rattle.shard_queue.specs.Reply.{ReplyClosed}
 

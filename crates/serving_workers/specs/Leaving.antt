@@ -1,5 +1,5 @@
--- What the producers of a server leave.
-use Rattle.std.specs.Prelude.{◌≡◌, ℕ, ◌<◌, ◌+◌, ◌++◌, ◌∷◌, Bool, true, false, List, [], Some, length, map, slice_get}
+-- What the producers of a server leave, and what the line tells of a worker's connections.
+use Rattle.std.specs.Prelude.{◌≡◌, ℕ, ◌<◌, ◌+◌, ◌++◌, ◌∷◌, Bool, true, false, List, [], Some, length, map, slice_get, Option, None, IfSome}
 use Rattle.std.specs.Mem.{manually_drop_value}
 use Rattle.workers_sync.specs.Carried.{Carried, judged_of}
 use Rattle.delivery_token.specs.declared.Job.{Job}
@@ -8,12 +8,10 @@ use Rattle.delivery_token.specs.declared.log.Noted.{Noted}
 use Rattle.lmtp_machine.specs.declared.reply.Reply.{Reply}
 use mathlib.Core.List.{IsPrefix}
 use Rattle.lmtp_machine.specs.Conversation.{Conversation}
-use Rattle.lmtp_machine.specs.Dialogue.{Phase}
-use Rattle.lmtp_machine.specs.Replies.{wire}
-use Rattle.shard_queue.specs.Reply.{ReplyChannel}
+use Rattle.lmtp_machine.specs.Dialogue.{Phase, wire}
+use Rattle.shard_queue.specs.Reply.{ReplyChannel, IsReceiver, received}
 use Rattle.shard_queue.specs.declared.lane.Entry.{Entry}
 use Rattle.shard_queue.specs.Permits.{said}
-use Rattle.shard_queue.specs.Reply.{IsReceiver, received}
 use Rattle.lane_work.specs.Backing.{IsBackedBy}
 use Rattle.lane_work.specs.Account.{AreBooks, AreBooksOf, HaveEnded, Premises, setting_at}
 use Rattle.lane_work.specs.Permits.{AreEnded}
@@ -21,11 +19,67 @@ use Rattle.lane_work.specs.Speaking.{premises_of}
 use Rattle.lane_work.specs.Streaming.{last_words}
 use Rattle.lane_work.specs.Talk.{HasTaken, Judged}
 use Rattle.house_shared.specs.declared.shared.HouseShared.{HouseShared}
-use Rattle.serving_workers.specs.Lines.{IsFresh, Spoken, Told, WereOver}
 use Rattle.serving_workers.specs.declared.accepting.Outfit.{Outfit}
 use Rattle.serving_workers.specs.declared.accepting.Served.{Served}
 use Rattle.serving_workers.specs.declared.threads.Spawned.{Spawned}
 use Rattle.serving_workers.specs.declared.threads.Spawned.TheVariants.{There, Here}
+
+-- ---- what a line tells
+
+-- Of each connection that came, in their order, all that its peer sends; and of each that is over, all that was written to it, and whether its output
+-- had failed. A line tells that of its connections, or nothing.
+pub record Told : Type 0 where
+  pub came : Option (List (List ℕ))
+  pub said : Option (List (List ℕ × Bool))
+
+-- one more stands behind these, where they are told
+abbrev pub OneMore : {A : Type 0} → (before after : Option (List A)) → (one : Option A) → Type 0
+OneMore None after one = after ≡ None
+OneMore {A} (Some all) after one = (x : A) × (one ≡ Some x) × (after ≡ Some (all ++ x ∷ []))
+
+-- a connection came, whose peer sends this
+pub record Took (before after : Told) (stream : Option (List ℕ)) : Type 0 where
+  pub came : OneMore before.came after.came stream
+  pub said : after.said ≡ before.said
+
+-- what was written to an output, and whether it had failed
+abbrev pub with_end : Option (List ℕ) → Bool → Option (List ℕ × Bool)
+with_end None failed = None
+with_end (Some bytes) failed = Some (bytes, failed)
+
+-- a connection is over, to whose output this was written
+pub record Closed (before after : Told) (output : Option (List ℕ)) (failed : Bool) : Type 0 where
+  pub came : after.came ≡ before.came
+  pub said : OneMore before.said after.said (with_end output failed)
+
+-- no connection came there yet
+pub record IsFresh (line : Told) : Type 0 where
+  pub came : IfSome line.came (λ all. all ≡ [])
+  pub said : IfSome line.said (λ all. all ≡ [])
+
+-- Where the line tells what was said, the output of its connection tells it too, and nothing was written there yet.
+abbrev pub IsUnwritten : Told → (output : Option (List ℕ)) → Type 0
+IsUnwritten line output = IfSome line.said (λ all. output ≡ Some [])
+
+-- ---- what was spoken
+
+-- what was read of a connection's peer, what was written to it, and whether its output had failed at last
+pub record Spoken : Type 0 where
+  pub read : List ℕ
+  pub written : List ℕ
+  pub failed : Bool
+
+-- each of these was read from the front of what its peer sends
+abbrev pub AreRead : List Spoken → (came : List (List ℕ)) → Type 0
+AreRead [] [] = Unit {0}
+AreRead [] (bytes ∷ came) = ⊥
+AreRead (one ∷ spoken) [] = ⊥
+AreRead (one ∷ spoken) (bytes ∷ came) = IsPrefix one.read bytes × AreRead spoken came
+
+-- It was spoken on the connections that came in at this line, in their order: no more of them and no fewer.
+pub record WereOver (line : Told) (spoken : List Spoken) : Type 0 where
+  pub read : IfSome line.came (AreRead spoken)
+  pub written : IfSome line.said (λ all. all ≡ map (λ s. (s.written, s.failed)) spoken)
 
 -- ---- mail
 

@@ -7,8 +7,7 @@ ghost use Rattle.shard_queue.specs.Reply.{IsReceiver, received};
 ghost use Rattle.lane_work.specs.Backing.{IsBackedBy, KeepsBacked};
 ghost use Rattle.lane_work.specs.Permits.{AreEnded, AreInForce, IsNew, put_by};
 ghost use Rattle.lane_work.specs.Speaking.{premises_of};
-ghost use Rattle.serving_workers.specs.Leaving.{AreServed, HasServedMail};
-ghost use Rattle.serving_workers.specs.Lines.{Closed, IsFresh, IsUnwritten, Told, Took};
+ghost use Rattle.serving_workers.specs.Leaving.{AreServed, HasServedMail, Closed, IsFresh, IsUnwritten, Told, Took};
 
 use crate::acceptor::Acceptor;
 use crate::line::{Call, Line};

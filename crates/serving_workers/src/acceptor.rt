@@ -2,7 +2,7 @@
 //! a connection stands elsewhere.
 
 ghost use Rattle.std.specs.Prelude.{◌≡◌, false, IfSome, None};
-ghost use Rattle.serving_workers.specs.Lines.{IsUnwritten, Took};
+ghost use Rattle.serving_workers.specs.Leaving.{IsUnwritten, Took};
 
 use crate::line::{Call, Line};
 use crate::mark::Mark;

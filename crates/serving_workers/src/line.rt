@@ -1,7 +1,7 @@
 //! Where a worker's connections come from, one after another, and how each is left. What is said on a connection stands in `lane_work`.
 
 ghost use Rattle.std.specs.Prelude.{◌≡◌, false, IfSome, None};
-ghost use Rattle.serving_workers.specs.Lines.{Closed, IsUnwritten, Took};
+ghost use Rattle.serving_workers.specs.Leaving.{Closed, IsUnwritten, Took};
 
 use line_io::{Sink, Watched};
 use std::alloc::{AllocError, Global};
@@ -25,7 +25,7 @@ pub struct Call<I, O> {
 /// A line that tells what comes and what is said keeps account of all its connections: one that it handed out stands there, whatever becomes of it.
 pub trait Line: Drop {
     ghost use Rattle.std.specs.Prelude.{None};
-    ghost use Rattle.serving_workers.specs.Lines.{Told};
+    ghost use Rattle.serving_workers.specs.Leaving.{Told};
 
     /// What its connections' peers say.
     type Input: Read + Drop + Send;
@@ -65,7 +65,7 @@ pub trait Line: Drop {
 /// Who gives the workers of a server their lines, once: so these are all that there are.
 pub trait Lines<L: Line> {
     ghost use Rattle.std.specs.Prelude.{◌≡◌, All, IfOk, vec_len};
-    ghost use Rattle.serving_workers.specs.Lines.{IsFresh};
+    ghost use Rattle.serving_workers.specs.Leaving.{IsFresh};
 
     /// So many lines of the connections that come in there, at which nobody came yet; or of others, which stand in for them.
     ///

@@ -7,8 +7,7 @@ ghost use Rattle.std.specs.Thread.{IsSend};
 ghost use Rattle.house_shared.specs.Crew.{AllAt, IsHouse, IsPost};
 ghost use Rattle.std.specs.List.{list_all};
 ghost use Rattle.shared_consumers.specs.Keeping.{parts_of};
-ghost use Rattle.serving_workers.specs.Leaving.{IsSpawned, IsOutfit, IsServed, has_thread, serves_mail};
-ghost use Rattle.serving_workers.specs.Lines.{IsFresh};
+ghost use Rattle.serving_workers.specs.Leaving.{IsSpawned, IsOutfit, IsServed, has_thread, serves_mail, IsFresh};
 
 use crate::accepting::{Outfit, Served, serve_until_stopped};
 use crate::line::Line;

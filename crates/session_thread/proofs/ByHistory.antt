@@ -8,15 +8,12 @@ use mathlib.Core.List.{IsPrefix}
 use Rattle.change_ring.specs.declared.change.Change.{Change}
 use Rattle.change_ring.specs.declared.change.Flags.{Flags}
 use Rattle.change_ring.specs.Log as change
-use Rattle.change_ring.specs.Log.{rows_of}
-use Rattle.change_ring.specs.Logged.{removals, removals_if, seen_logged}
-use Rattle.change_ring.specs.Window.{total}
+use Rattle.change_ring.specs.Log.{rows_of, removals, removals_if, seen_logged, total}
 use Rattle.cursor_set.specs.Cursors.{CursorHandle}
 use Rattle.mailbox.specs.declared.clients.Opening.{Opening}
 use Rattle.mailbox.specs.declared.clients.Row.{Row}
 use Rattle.mailbox.specs.Events.{in_set, was_logged}
-use Rattle.mailbox.specs.Mailbox.{Mailbox, Message, message_with, row_of}
-use Rattle.mailbox.specs.Stands.{IsKept, Stands}
+use Rattle.mailbox.specs.Mailbox.{Mailbox, Message, message_with, row_of, IsKept, Stands}
 use Rattle.house_history.specs.declared.event.Event as house
 use Rattle.house_history.specs.declared.event.Step.TheVariants as steps
 use Rattle.house_history.specs.Events.{changes_in, concerns}
@@ -25,8 +22,7 @@ use Rattle.locked_mailbox.specs.Locking.{Knows, LockedMailbox}
 use Rattle.imap_session.specs.Exchange.{Answer, Call, Enter, Look, Read, Count, Alter, Expunge, Feed, Leave, Discard, Entered, Looked, Found, Counted, Altered, Expunged, Fed, Left, Discarded, Refused, Starved}
 use Rattle.session_thread.specs.declared.locked_store.Entry.{Entry}
 use Rattle.session_thread.specs.Locks.{HasItsText, Holds, LockedStore, entered_at, says, says_nothing, seeing}
-use Rattle.session_thread.specs.SinceSelect.{Opens, Shows, WasShown, WasShownIn, shown_then}
-use Rattle.session_thread.specs.ByHistory.{ByHistory, Comes, HoldsAreByHistory, Logs, Moves, ShownByHistory, flags_in}
+use Rattle.session_thread.specs.ByHistory.{Opens, Shows, WasShown, WasShownIn, shown_then, ByHistory, Comes, HoldsAreByHistory, Logs, Moves, ShownByHistory, flags_in}
 use Rattle.session_thread.proofs.SinceSelect.{at_entry, by_call, further_on, grows, of_number, rests, shown_at, trans}
 
 -- ---- a hold

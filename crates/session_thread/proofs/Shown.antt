@@ -12,8 +12,7 @@ use Rattle.mailbox.specs.declared.clients.MailFault.{MailFault}
 use Rattle.mailbox.specs.declared.clients.MailFault.TheVariants.{Lapped, NoMemory, Spent, Stranger}
 use Rattle.mailbox.specs.declared.clients.Row.{Row}
 use Rattle.mailbox.specs.declared.mailbox.Status.{Status}
-use Rattle.mailbox.specs.Mailbox.{Mailbox}
-use Rattle.mailbox.specs.Stands.{Stands, next_of}
+use Rattle.mailbox.specs.Mailbox.{Mailbox, Stands, next_of}
 use Rattle.workers_sync.specs.Holds.{DoesAlter, DoesDiscard, DoesExpunge, DoesFeed, DoesRead, Expunges as DidExpunge, Feeds as DidFeed, HasCursor}
 use Rattle.house_history.specs.declared.event.Event.{Event}
 use Rattle.house_history.specs.declared.event.Event.TheVariants.{Changed}

@@ -8,8 +8,7 @@ use Rattle.change_ring.specs.Log.{replay, view_at}
 use Rattle.cursor_set.specs.Cursors.{CursorHandle, if_of, in_slot, Open}
 use Rattle.mailbox.specs.declared.clients.Opening.{Opening}
 use Rattle.mailbox.specs.declared.clients.Row.{Row}
-use Rattle.mailbox.specs.Mailbox.{Mailbox, row_of}
-use Rattle.mailbox.specs.Stands.{IsKept, Stands, next_of}
+use Rattle.mailbox.specs.Mailbox.{Mailbox, row_of, IsKept, Stands, next_of}
 use Rattle.workers_sync.specs.Holds.{HasCursor, Reads}
 use Rattle.house_history.specs.declared.event.Event as house
 use Rattle.house_history.specs.declared.event.Step.TheVariants as steps
@@ -21,7 +20,7 @@ use Rattle.imap_session.specs.Exchange.{Answer, Enter, Look, Read, Count, Alter,
 use Rattle.session_thread.specs.declared.locked_store.Entry.{Entry}
 use Rattle.session_thread.specs.Locks.{HasItsText, Held, Holds, In, LockedStore, entered_at, outside, says, says_nothing, seeing}
 use Rattle.session_thread.proofs.Shown.{seen_view}
-use Rattle.session_thread.specs.SinceSelect.{IsUpToCursor, Opens, ShownByCall, ShownSinceSelect, Shows, Tells, WasShown, WasShownIn, shown_then}
+use Rattle.session_thread.specs.ByHistory.{IsUpToCursor, Opens, ShownByCall, ShownSinceSelect, Shows, Tells, WasShown, WasShownIn, shown_then}
 
 -- ---- pieces of lists
 

@@ -10,11 +10,12 @@ use Rattle.workers_sync.specs.declared.courier.Lost.TheVariants as lost
 use Rattle.imap_session.specs.declared.standing.After.{After}
 use Rattle.imap_session.specs.declared.standing.After.TheVariants.{Bye, Go, Idle, Literal, Submit}
 use Rattle.imap_session.specs.declared.standing.Append.{Append}
-use Rattle.imap_session.specs.Exchange.{PendingLiteral, Sent, Standing, kept_tag, may_send, waits_begun, waits_idling, waits_sent}
+use Rattle.imap_session.specs.Exchange.{PendingLiteral, Sent, Standing, may_send, waits_begun, waits_idling, waits_sent}
+use Rattle.imap_session.specs.Happenings.{kept_tag, answer_room, tag_len}
 use Rattle.imap_session.specs.Store.{AnswersVerdict, Follows, to_follow}
 use Rattle.imap_session.specs.declared.connection.Progress.{Progress}
 use Rattle.imap_session.specs.Dialogue as dialogue
-use Rattle.imap_session.specs.Dialogue.{Dialogue, ImapConnection, StandsFor, Took, answer_room, may_follow, tag_len}
+use Rattle.imap_session.specs.Dialogue.{Dialogue, ImapConnection, StandsFor, Took, may_follow}
 use Rattle.house_history.specs.Legal.{HasUid}
 use Rattle.session_thread.specs.Locks.{Holds, LockedStore}
 use Rattle.session_thread.specs.Life.{Says, SaysInPart, Speaks, TellsVerdict, carried_of, hears, moment, short, takes, takes_more, unheard}

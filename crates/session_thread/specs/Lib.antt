@@ -1,5 +1,4 @@
 pub mod Locks
 pub mod Life
-pub mod SinceSelect
 pub mod ByHistory
 pub mod inner

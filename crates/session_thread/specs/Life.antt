@@ -6,16 +6,17 @@ use Rattle.workers_sync.specs.declared.courier.Lost.{Lost}
 use Rattle.workers_sync.specs.declared.courier.Lost.TheVariants as lost
 use Rattle.mailbox.specs.declared.clients.MailFault.TheVariants.{NoMemory}
 use Rattle.mailbox.specs.Events.{IsStranger}
-use Rattle.mailbox.specs.Stands.{IsKept}
+use Rattle.mailbox.specs.Mailbox.{IsKept}
 use Rattle.workers_sync.specs.Holds.{UnderLock}
 use Rattle.imap_session.specs.declared.standing.After.{After}
 use Rattle.imap_session.specs.declared.standing.After.TheVariants.{Submit}
 use Rattle.imap_session.specs.declared.standing.Append.{Append}
 use Rattle.imap_session.specs.declared.standing.Profile.TheVariants.{Standard}
-use Rattle.imap_session.specs.Exchange.{Admission, Feed, Folder, Leave, Left, Refused, Sent, Standing, begun_with, is_idling, kept_tag, may_send}
+use Rattle.imap_session.specs.Exchange.{Admission, Feed, Folder, Leave, Left, Refused, Sent, Standing, begun_with, is_idling, may_send}
+use Rattle.imap_session.specs.Happenings.{kept_tag, answer_room, tag_len}
 use Rattle.imap_session.specs.Commands.{most_changes}
 use Rattle.imap_session.specs.Store.{AnswersVerdict, IdleTurns}
-use Rattle.imap_session.specs.Dialogue.{Answered, Dialogue, answer_room, may_follow, tag_len}
+use Rattle.imap_session.specs.Dialogue.{Answered, Dialogue, may_follow}
 use Rattle.house_history.specs.Legal.{HasUid}
 use Rattle.settings.specs.declared.step.Step.{Step}
 use Rattle.settings.specs.declared.step.Step.TheVariants.{Say, Await}

@@ -2,15 +2,12 @@
 -- did, and lets go.
 use Rattle.std.specs.Prelude.{◌≡◌, ◌≢◌, ℕ, ◌-◌, ◌^◌, ◌<◌, ◌≤◌, ◌⊎◌, Bool, true, List, [], ◌∷◌, length, drop, min, Option, Some, None, IfSome, IsSome, Result, Ok, Err}
 use Rattle.change_ring.specs.declared.change.Change.{Change}
-use Rattle.change_ring.specs.Log.{view_at}
-use Rattle.change_ring.specs.Logged.{flags_logged, removals, removals_if, seen_logged}
-use Rattle.change_ring.specs.Window.{total}
+use Rattle.change_ring.specs.Log.{view_at, flags_logged, removals, removals_if, seen_logged, total}
 use Rattle.cursor_set.specs.Cursors.{CursorHandle}
 use Rattle.imap_grammar.specs.Sets.{names_one}
 use Rattle.imap_grammar.specs.declared.set.SeqRange.{SeqRange}
 use Rattle.mailbox.specs.Events.{IsStranger, IsTooMany, in_set}
-use Rattle.mailbox.specs.Mailbox.{Mailbox, message_with, rows}
-use Rattle.mailbox.specs.Stands.{IsKept, Stands, next_of}
+use Rattle.mailbox.specs.Mailbox.{Mailbox, message_with, rows, IsKept, Stands, next_of}
 use Rattle.mailbox.specs.declared.clients.MailFault.{MailFault}
 use Rattle.mailbox.specs.declared.clients.MailFault.TheVariants.{Stranger, Lapped, Spent, NoMemory}
 use Rattle.mailbox.specs.declared.clients.Opening.{Opening}

@@ -1,8 +1,7 @@
 //! What holds of every session over locks, as the contract of a function that anybody may call. No
 //! code of a session stands here.
 
-ghost use Rattle.session_thread.specs.ByHistory.{HoldsAreByHistory, ShownByHistory};
-ghost use Rattle.session_thread.specs.SinceSelect.{ShownByCall, ShownSinceSelect};
+ghost use Rattle.session_thread.specs.ByHistory.{HoldsAreByHistory, ShownByHistory, ShownByCall, ShownSinceSelect};
 
 /// What a session was shown since its SELECT is exactly its mailbox's changes in the house's history, up to its cursor, in order,
 /// whatever others do between two holds of a lock: nothing is left out, and nothing is shown twice. What it is told of the mailbox

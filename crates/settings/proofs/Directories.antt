@@ -2,8 +2,7 @@
 use Rattle.std.proofs.Common.{◌≡◌, ℕ, Bool, true, false, List, [], ◌∷◌, length, map, ap, ◌∙◌, Option, Some, None, Ok, Err}
 use Rattle.std.specs.Prelude.{nat_lt, not, if◌then◌else◌}
 use Rattle.std.specs.List.{list_all}
-use Rattle.envelope.specs.Directory.{Directory, Home, none_shut}
-use Rattle.envelope.specs.Names.{is_name, home_of, words_read, first_fault, homes_unless}
+use Rattle.envelope.specs.Names.{Directory, Home, none_shut, is_name, home_of, words_read, first_fault, homes_unless}
 use Rattle.envelope.specs.declared.directory.DirectoryFault.{DirectoryFault}
 use Rattle.envelope.specs.declared.directory.DirectoryFault.TheVariants.{TooMany, BadName}
 use Rattle.settings.specs.declared.config.Config.{Config}

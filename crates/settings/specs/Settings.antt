@@ -1,8 +1,7 @@
 -- The settings of a house: those that stand where none are given, their ranges, what may be wrong with them, and the directory of their mailboxes.
 use Rattle.std.specs.Prelude.{◌≡◌, ◌≢◌, ℕ, ◌+◌, ◌*◌, ◌<◌, ◌≤◌, ◌==◌, ◌&&◌, ◌||◌, not, Bool, false, nat_lt, List, [], ◌∷◌, length, map, count_by, codes, Option, Some, None, Result, Ok, Err, if◌then◌else◌}
 use Rattle.std.specs.List.{list_any}
-use Rattle.envelope.specs.Directory.{Directory, Home, none_shut}
-use Rattle.envelope.specs.Names.{home_of, words_read}
+use Rattle.envelope.specs.Names.{Directory, Home, none_shut, home_of, words_read}
 use Rattle.envelope.specs.declared.directory.DirectoryFault.{DirectoryFault}
 use Rattle.envelope.specs.declared.directory.DirectoryFault.TheVariants as names
 use Rattle.settings.specs.declared.config.Config.{Config}

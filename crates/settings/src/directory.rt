@@ -2,8 +2,7 @@
 //! and their ranges stand in `config`.
 
 ghost use Rattle.std.specs.Prelude.{◌≡◌, ◌<◌, ◌⊎◌, [], ◌∷◌, length, map, IfOk, IfErr, IfSome, IsOk, IsOkUnless, Ok, Err, None};
-ghost use Rattle.envelope.specs.Directory.{none_shut};
-ghost use Rattle.envelope.specs.Names.{texts, words_read};
+ghost use Rattle.envelope.specs.Names.{none_shut, texts, words_read};
 ghost use Rattle.settings.specs.Settings.{IsInRange, are_ports_wrong, config_fault, directory_for, fault_named, fault_of_numbers, has_slash, is_ring_wrong, users_in, words_of};
 
 use crate::config::{Config, ConfigFault};

@@ -1,8 +1,15 @@
 -- A lane by its history: producers put entries in at the back, one consumer takes them at the front, and a producer's last entry is its end.
-use Rattle.std.specs.Prelude.{◌≡◌, ℕ, ◌<◌, ◌≤◌, ◌==◌, Bool, true, false, List, [], ◌∷◌, ◌++◌, length, filter}
+use Rattle.std.specs.Prelude.{◌≡◌, ℕ, ◌<◌, ◌≤◌, ◌==◌, Bool, true, false, List, [], ◌∷◌, ◌++◌, length, filter, if◌then◌else◌}
 use Rattle.shard_queue.specs.declared.lane.Entry.{Entry}
 use Rattle.shard_queue.specs.declared.lane.Entry.TheVariants.{Item, End}
-use Rattle.shard_queue.specs.At.{set_at}
+
+-- ---- functions from numbers that are changed at one position
+
+-- f, with x at i
+abbrev pub set_at : {A : Type 0} → (ℕ → A) → ℕ → A → ℕ → A
+set_at f i x j = if j == i then x else f j
+
+-- ---- a lane
 
 -- who put the entry
 abbrev pub producer : {A : Type 0} → Entry A → ℕ

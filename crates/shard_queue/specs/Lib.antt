@@ -1,4 +1,3 @@
-pub mod At
 pub mod Lane
 pub mod PlainLane
 pub mod Plain

@@ -3,14 +3,12 @@ use Rattle.std.proofs.Common.{◌≡◌, ℕ, ◌+◌, ◌≤◌, inl, inr, Bool
 use Rattle.std.specs.Prelude.{if◌then◌else◌, option_map}
 use Rattle.std.proofs.lemmas.Bool.{cases_lt, eq-eqb, eqb-true}
 use Rattle.change_ring.specs.declared.change.Change.{Change}
-use Rattle.change_ring.specs.Log.{replay}
-use Rattle.change_ring.specs.Window.{total}
+use Rattle.change_ring.specs.Log.{replay, total}
 use Rattle.cursor_set.specs.Cursors.{CursorSet, Open, CursorHandle, Updates, after_showing, held, if_of, in_slot}
 use Rattle.cursor_set.proofs.OpenedLemmas.{held_in_slot}
 use Rattle.mailbox.proofs.Handles.{held_at, held_some}
 use Rattle.mailbox.specs.Events.{IsCurrent, IsLapped, IsStranger}
-use Rattle.mailbox.specs.Mailbox.{Mailbox}
-use Rattle.mailbox.specs.Stands.{IsKept}
+use Rattle.mailbox.specs.Mailbox.{Mailbox, IsKept}
 use Rattle.workers_sync.specs.Holds.{HasCursor, SetsCursor}
 
 if_some : (b : Bool) (x : Option Open) (o : Open) → (if b then x else None) ≡ Some o → (b ≡ true) × (x ≡ Some o)

@@ -2,9 +2,7 @@
 use Rattle.std.proofs.Common.{◌≡◌, ℕ, ◌+◌, ◌-◌, ◌<◌, ◌≤◌, List, [], ◌++◌, length, length-take, length-drop, append-nil, refl, sym, ap, ap₂, ◌∙◌, arith, subst, Result, Ok, Err, Option, Some, None}
 use Rattle.std.specs.Prelude.{◌↔◌, drop, option_map, min, IfOk, IfSome, OnErr, OnOk}
 use Rattle.change_ring.specs.declared.change.Change.{Change}
-use Rattle.change_ring.specs.Log.{view_at}
-use Rattle.change_ring.specs.Logged.{removals}
-use Rattle.change_ring.specs.Window.{Window, changes_from, total}
+use Rattle.change_ring.specs.Log.{view_at, removals, Window, changes_from, total}
 use Rattle.cursor_set.specs.Cursors.{Open, CursorHandle, Updates, after_showing, held, next_changes}
 use Rattle.cursor_set.specs.Lines.{lines}
 use Rattle.cursor_set.specs.declared.set.FeedFault.{FeedFault}
@@ -12,8 +10,7 @@ use Rattle.cursor_set.specs.declared.set.FeedFault.TheVariants as lapse
 use Rattle.mailbox.specs.declared.clients.MailFault.{MailFault}
 use Rattle.mailbox.specs.declared.clients.MailFault.TheVariants.{Stranger, Lapped, Spent, NoMemory}
 use Rattle.mailbox.specs.Events.{IsCurrent, IsLapped, IsStranger, IsTooMany, KeepsLog, Logs, Moves, in_set}
-use Rattle.mailbox.specs.Mailbox.{Mailbox, Message, SameMailbox, remaining, rows}
-use Rattle.mailbox.specs.Stands.{IsKept, Stands, next_of}
+use Rattle.mailbox.specs.Mailbox.{Mailbox, Message, SameMailbox, remaining, rows, IsKept, Stands, next_of}
 use Rattle.workers_sync.specs.Holds.{DoesExpunge, DoesFeed, IsEvent, IsRefused, HasCursor, Refuses}
 use Rattle.mailbox.specs.Answers.{answer_of}
 use Rattle.workers_sync.proofs.Cursors.{current, has_cursor, cursor_on, sets_on}

@@ -4,9 +4,7 @@ use Rattle.std.specs.Prelude.{◌≡◌, ℕ, ◌+◌, ◌-◌, ◌^◌, ◌<◌
 use Rattle.change_ring.specs.declared.change.Change.{Change}
 use Rattle.change_ring.specs.declared.change.Flags.{Flags}
 use Rattle.change_ring.specs.declared.flag_op.FlagOp.{FlagOp}
-use Rattle.change_ring.specs.Log.{replay, view_at}
-use Rattle.change_ring.specs.Logged.{arrival, discards, flags_logged, removals, removals_if, seen_logged}
-use Rattle.change_ring.specs.Window.{changes_from, total}
+use Rattle.change_ring.specs.Log.{replay, view_at, arrival, discards, flags_logged, removals, removals_if, seen_logged, changes_from, total}
 use Rattle.cursor_set.specs.Cursors.{CursorHandle, Updates, held, in_slot, next_changes}
 use Rattle.cursor_set.specs.Lines.{lines}
 use Rattle.delivery_token.specs.declared.CopyKey.{CopyKey}
@@ -17,8 +15,7 @@ use Rattle.mailbox.specs.declared.mailbox.Receipt.{Receipt}
 use Rattle.mailbox.specs.Counts.{bytes_in_all, deleted_count, unseen_count}
 use Rattle.mailbox.specs.declared.mailbox.Status.{Status}
 use Rattle.mailbox.specs.Events.{IsCurrent, IsLapped, IsStranger, IsTooMany, Logs, Moves, in_set, seen_after, was_logged}
-use Rattle.mailbox.specs.Mailbox.{Mailbox, Message, SameMailbox, flagged, is_full, is_spent, message_with, next_uid, remaining, rows, uids_of, without}
-use Rattle.mailbox.specs.Stands.{IsKept, Stands, next_of}
+use Rattle.mailbox.specs.Mailbox.{Mailbox, Message, SameMailbox, flagged, is_full, is_spent, message_with, next_uid, remaining, rows, uids_of, without, IsKept, Stands, next_of}
 use Rattle.mailbox.specs.declared.clients.MailFault.{MailFault}
 use Rattle.mailbox.specs.declared.clients.MailFault.TheVariants.{Stranger, Lapped, Spent, NoMemory}
 use Rattle.mailbox.specs.declared.clients.Opening.{Opening}

@@ -3,7 +3,7 @@ use Rattle.std.proofs.Common.{◌≡◌, ℕ, ◌+◌, zero, suc, ◌<◌, ◌�
 use Rattle.std.proofs.lemmas.Bool.{cases_lt, eq-eqb}
 use Rattle.std.proofs.lemmas.Bool.Decides.{eqb_tells}
 use Rattle.std.proofs.lemmas.List.Elements.{filter_map-append}
-use Rattle.std.specs.List.{cons_option}
+use Rattle.std.specs.List.{cons_option, range_with_len}
 use Rattle.shard_queue.specs.declared.lane.Entry.{Entry}
 use Rattle.shard_queue.specs.declared.lane.Entry.TheVariants.{Item, End}
 use Rattle.shard_queue.specs.Lane.{of, IsClosed}
@@ -13,11 +13,9 @@ use Rattle.delivery_token.specs.Keys.{Below}
 use Rattle.delivery_token.specs.declared.Verdict.TheVariants.{Stored}
 use Rattle.delivery_token.specs.declared.Refusal.TheVariants.{Full, NoMemory, Shut}
 use Rattle.delivery_token.specs.declared.log.Noted.{Noted}
-use Rattle.change_ring.specs.Log.{Row, added, rows_of, IsLegalLog, FitsView}
+use Rattle.change_ring.specs.Log.{Row, added, rows_of, IsLegalLog, FitsView, seen_logged, removals_if}
 use Rattle.change_ring.specs.declared.change.Change.{Change}
-use Rattle.change_ring.specs.Logged.{seen_logged, removals_if}
-use Rattle.delivery_token.specs.Log.{stored_pair, stored_in}
-use Rattle.std.specs.List.{range_with_len}
+use Rattle.delivery_token.specs.Copies.{stored_pair, stored_in}
 use Rattle.shard_queue.proofs.AtLaws.{at_cases}
 use Rattle.shard_queue.proofs.LaneLaws.{of_append, closed_is_empty, closed_not_live}
 use Rattle.world.specs.World.{Config, World, Box, Session, Event, Put, PutEnd, Take, Deliver, Answer, Hear, Enter, Status, Read, Store, Expunge, Feed, Leave, Discard, Step, Steps, IsWorld, put_joins, put_full, put_no_memory, put_shut, end_joins, end_full, takes, take_empty, delivers, deliver_spent, deliver_full, deliver_no_memory, answers, answer_full, hears_one, enters, enter_spent, enter_no_memory, MailStep, mails, mail_lapped, mail_spent, mail_no_memory, LeaveStep, leaves, leave_spent, discards_them, discard_spent, shard_of, pending, empty_world}

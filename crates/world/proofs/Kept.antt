@@ -7,8 +7,7 @@ use Rattle.std.proofs.lemmas.Bool.Decides.{eqb_tells}
 use Rattle.std.proofs.lemmas.List.Elements.{filter-append, filter_map-append}
 use Rattle.shard_queue.specs.declared.lane.Entry.{Entry}
 use Rattle.shard_queue.specs.declared.lane.Entry.TheVariants.{Item, End}
-use Rattle.shard_queue.specs.Lane.{producer, has_end, put, took, IsLive, IsMerge}
-use Rattle.shard_queue.specs.At.{set_at}
+use Rattle.shard_queue.specs.Lane.{producer, has_end, put, took, IsLive, IsMerge, set_at}
 use Rattle.delivery_token.specs.declared.CopyKey.{CopyKey}
 use Rattle.delivery_token.specs.declared.Job.{Job}
 use Rattle.delivery_token.specs.Keys.{Below}
@@ -17,8 +16,8 @@ use Rattle.delivery_token.specs.declared.Verdict.TheVariants.{Stored, Refused}
 use Rattle.delivery_token.specs.declared.Refusal.{Refusal}
 use Rattle.delivery_token.specs.declared.log.Noted.{Noted}
 use Rattle.change_ring.specs.declared.change.Change.{Change}
-use Rattle.change_ring.specs.Log.{added, rows_of, replay, FitsView}
-use Rattle.delivery_token.specs.Log.{stored_pair, stored_in}
+use Rattle.change_ring.specs.Log.{added, rows_of, replay, FitsView, arrival}
+use Rattle.delivery_token.specs.Copies.{stored_pair, stored_in}
 use Rattle.std.specs.List.{range_with_len}
 use Rattle.shard_queue.proofs.AtLaws.{at_cases, at_both, at_each}
 use Rattle.shard_queue.proofs.LaneLaws.{empty_merge, merge_put, merge_took}
@@ -27,7 +26,6 @@ use Rattle.world.specs.Law.{item_of, items, stored, held, due, accepted_of, pair
 use Rattle.world.proofs.Base.{Every, every_append, every_of_all, Rising, rising_push, part_append, part_front}
 use Rattle.world.proofs.Mails.{uids, base_within, window_full, shown_grows, shown_more}
 use Rattle.world.specs.Known.{key_in}
-use Rattle.change_ring.specs.Logged.{arrival}
 use Rattle.change_ring.proofs.LogLaws.{FitsView-append, added-append, arrival-added, arrival-fits, uids-rows_after}
 use Rattle.change_ring.proofs.RangeLaws.{range-push}
 

@@ -7,10 +7,8 @@ use Rattle.std.proofs.lemmas.Bool.Decides.{eqb_tells}
 use Rattle.change_ring.specs.declared.change.Change.{Change}
 use Rattle.change_ring.specs.declared.change.Change.TheVariants.{Add, Gone, Flags as SetFlags}
 use Rattle.change_ring.specs.declared.flag_op.FlagOp.{FlagOp}
-use Rattle.change_ring.specs.Log.{Row, rows_of, without, replay, added, FitsView}
-use Rattle.change_ring.specs.Logged.{discards, flags_after, flags_differ, flags_logged, removals}
+use Rattle.change_ring.specs.Log.{Row, rows_of, without, replay, added, FitsView, discards, flags_after, flags_differ, flags_logged, removals, BaseAfter}
 use Rattle.change_ring.proofs.LogLaws.{uids-rows_after}
-use Rattle.change_ring.specs.Window.{BaseAfter}
 use Rattle.world.specs.World.{Session, shows}
 use Rattle.world.specs.Law.{IsShown, IsPart as Part, none, keeps, skips}
 use Rattle.world.proofs.Base.{Every, every_weaker, Rising, part_append, part_both, part_every, part_rising, part_filter, part_map, part_self}

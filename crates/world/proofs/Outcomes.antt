@@ -5,9 +5,7 @@ use Rattle.shard_queue.specs.Lane.{has_end}
 use Rattle.shard_queue.specs.declared.lane.Entry.{Entry}
 use Rattle.delivery_token.specs.declared.Job.{Job}
 use Rattle.change_ring.specs.declared.change.Change.{Change}
-use Rattle.change_ring.specs.Log.{rows_of}
-use Rattle.change_ring.specs.Logged.{arrival, discards, flags_logged, removals, seen_logged, removals_if}
-use Rattle.change_ring.specs.Window.{BaseAfter}
+use Rattle.change_ring.specs.Log.{rows_of, arrival, discards, flags_logged, removals, seen_logged, removals_if, BaseAfter}
 use Rattle.world.specs.World.{Config, World, Box, Session, Empty, Taken, Event, Put, PutEnd, Take, Deliver, Answer, Hear, Enter, Status, Read, Store, Expunge, Feed, Leave, Discard, Step, Allowed, put_joins, put_full, put_no_memory, put_shut, end_joins, end_full, TakeStep, takes, take_empty, DeliverStep, delivers, deliver_spent, deliver_full, deliver_no_memory, answers, answer_full, hears_one, enters, enter_spent, enter_no_memory, MailStep, mails, mail_lapped, mail_spent, LeaveStep, DiscardStep, leaves, leave_spent, discards_them, discard_spent, Logs, reply_room, pending, next_uid, most_changes, most_entries, last_uid}
 
 base_stays : (ring total base : ℕ) (cs : List Change) → BaseAfter ring total base cs base

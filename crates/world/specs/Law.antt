@@ -7,7 +7,7 @@ use Rattle.shard_queue.specs.Lane.{IsMerge, IsClosed}
 use Rattle.delivery_token.specs.declared.CopyKey.{CopyKey}
 use Rattle.delivery_token.specs.declared.Job.{Job}
 use Rattle.delivery_token.specs.Keys.{Below}
-use Rattle.delivery_token.specs.Log.{stored_in}
+use Rattle.delivery_token.specs.Copies.{stored_in}
 use Rattle.delivery_token.specs.declared.Refusal.{Refusal}
 use Rattle.delivery_token.specs.declared.Verdict.TheVariants.{Stored, Refused}
 use Rattle.delivery_token.specs.declared.log.Noted.{Noted}

@@ -1,9 +1,8 @@
 -- The whole house as lists and numbers, the events that change it, and the worlds that come from the empty one.
 use Rattle.std.specs.Prelude.{◌≡◌, ℕ, ◌+◌, ◌-◌, ◌%◌, ◌^◌, ◌<◌, ◌≤◌, Bool, true, false, ◌⊎◌, List, [], ◌∷◌, ◌++◌, length, take, drop, All, Option, Some, None}
-use Rattle.shard_queue.specs.Lane.{Lane, empty_lane, put, took, has_end, IsLive}
+use Rattle.shard_queue.specs.Lane.{Lane, empty_lane, put, took, has_end, IsLive, set_at}
 use Rattle.shard_queue.specs.declared.lane.Entry.{Entry}
 use Rattle.shard_queue.specs.declared.lane.Entry.TheVariants.{Item, End}
-use Rattle.shard_queue.specs.At.{set_at}
 use Rattle.delivery_token.specs.declared.CopyKey.{CopyKey}
 use Rattle.delivery_token.specs.declared.Job.{Job}
 use Rattle.delivery_token.specs.Keys.{Below}
@@ -12,11 +11,9 @@ use Rattle.delivery_token.specs.declared.Verdict.{Verdict}
 use Rattle.delivery_token.specs.declared.Verdict.TheVariants.{Stored, Refused}
 use Rattle.delivery_token.specs.declared.log.Noted.{Noted}
 use Rattle.change_ring.specs.declared.flag_op.FlagOp.{FlagOp}
-use Rattle.change_ring.specs.Log.{rows_of}
-use Rattle.change_ring.specs.Window.{BaseAfter}
+use Rattle.change_ring.specs.Log.{rows_of, BaseAfter, arrival, flags_logged, seen_logged, removals, removals_if, discards}
 use Rattle.change_ring.specs.declared.change.Change.{Change}
 use Rattle.change_ring.specs.declared.change.Flags.{Flags}
-use Rattle.change_ring.specs.Logged.{arrival, flags_logged, seen_logged, removals, removals_if, discards}
 pub use Rattle.world.specs.declared.hand.Hand.{Hand}
 pub use Rattle.world.specs.declared.hand.Hand.TheVariants.{Empty, Taken, Done}
 

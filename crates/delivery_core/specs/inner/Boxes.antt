@@ -4,8 +4,7 @@ use Rattle.delivery_token.specs.declared.Job.{Job}
 use Rattle.delivery_token.specs.declared.Verdict.{Verdict}
 use Rattle.delivery_token.specs.declared.Verdict.TheVariants.{Stored, Refused}
 use Rattle.delivery_token.specs.declared.Refusal.TheVariants.{MailboxFull, NoMemory, UidSpent}
-use Rattle.change_ring.specs.Log.{rows_of}
-use Rattle.change_ring.specs.Logged.{arrival}
+use Rattle.change_ring.specs.Log.{rows_of, arrival}
 use Rattle.mailbox.specs.Mailbox.{Mailbox}
 use Rattle.world.specs.World.{Config, Box, HasUid, IsSpent, is_full, Logs, next_uid}
 use Rattle.delivery_core.specs.Stands.{StandsForBox}

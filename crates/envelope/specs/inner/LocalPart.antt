@@ -1,6 +1,6 @@
 -- What bodies and proofs say besides: how the value of a local part is read, byte by byte; nobody has to believe this file.
 use Rattle.std.specs.Prelude.{ℕ, Bool, false, List, [], ◌∷◌, Option, Some, None, if◌then◌else◌}
-use Rattle.envelope.specs.Directory.{is_plus, folder_named, is_same_folder}
+use Rattle.envelope.specs.Names.{is_plus, folder_named, is_same_folder}
 
 -- what follows the user says this folder
 abbrev pub says_folder : List ℕ → Option (List ℕ) → Bool

@@ -1,7 +1,7 @@
 -- A number that users have in common where they differ in case at most, by which most mailboxes are passed over; nobody has to believe this file.
 use Rattle.std.specs.Prelude.{ℕ, List, [], ◌∷◌, ◌+◌, ◌*◌, ◌%◌, fold, if◌then◌else◌}
 use Rattle.std.specs.Char.{to_ascii_lowercase}
-use Rattle.envelope.specs.Directory.{is_plus}
+use Rattle.envelope.specs.Names.{is_plus}
 
 abbrev pub next_tag : ℕ → ℕ → ℕ
 next_tag tag b = (tag * 31 + to_ascii_lowercase b) % 65536

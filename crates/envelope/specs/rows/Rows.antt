@@ -1,8 +1,7 @@
 -- Lines and what they are.
 use Rattle.std.specs.Prelude.{◌≡◌, ℕ, codes, List, [], ◌∷◌, ◌++◌, Ok, Err, true, false, replicate, refl, slice_set, Some, None, Option}
 use Rattle.envelope.specs.Values.{Path, Null, Postmaster, To, Lhlo, Mail, Rcpt, Data, Noop, Help}
-use Rattle.envelope.specs.Directory.{Directory, Home, is_shut, lookup, marked, none_shut}
-use Rattle.envelope.specs.Names.{is_name, words_read, number_of}
+use Rattle.envelope.specs.Names.{Directory, Home, is_shut, lookup, marked, none_shut, is_name, words_read, number_of}
 use Rattle.envelope.specs.declared.directory.DirectoryFault.TheVariants.{TooMany, BadName, Twice}
 use Rattle.envelope.specs.declared.directory.NoSuch.TheVariants.{System, User}
 use Rattle.envelope.specs.Reading.{read, forward_at, past_hops, past_all_hops}

@@ -4,8 +4,7 @@ use Rattle.delivery_token.specs.declared.CopyKey.{CopyKey}
 use Rattle.delivery_token.specs.declared.log.Noted.{Noted}
 use Rattle.imap_session.specs.Exchange.{Call, Answer}
 use Rattle.imap_session.specs.Store.{Starves}
-use Rattle.house_peers.specs.Visitor.{Visitor}
-use Rattle.house_peers.specs.SeatedVisitor.{SeatedVisitor}
+use Rattle.house_peers.specs.Visitor.{Visitor, SeatedVisitor}
 use Rattle.house_peers.specs.SeatedSession.{SeatedSession, StandsForSeated}
 use Rattle.house.specs.Printing.{Speaks, Idles, IsWhole, with_session}
 

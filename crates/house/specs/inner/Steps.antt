@@ -17,7 +17,7 @@ use Rattle.house_peers.specs.HouseConnection.{HouseConnection}
 use Rattle.house.specs.House.{House}
 use Rattle.house_peers.specs.Caller.{Caller, Terms}
 use Rattle.house.specs.Setup.{Setup, session_seat}
-use Rattle.envelope.specs.Directory.{Directory}
+use Rattle.envelope.specs.Names.{Directory}
 use Rattle.lmtp_machine.specs.declared.connection.What.{What}
 use Rattle.lmtp_machine.specs.declared.connection.What.TheVariants.{Quit}
 use Rattle.house.specs.Printing.{ConnectionGoes}
@@ -26,7 +26,7 @@ use Rattle.imap_session.specs.Folders.{has_user}
 use Rattle.house_peers.specs.HouseSession.{with_more}
 use Rattle.house_peers.specs.ConnectionStands.{StandsForConnection}
 use Rattle.house_peers.specs.SeatedSession.{SeatedSession, StandsForSeated, with_place}
-use Rattle.house_peers.specs.SeatedVisitor.{SeatedVisitor}
+use Rattle.house_peers.specs.Visitor.{SeatedVisitor}
 use Rattle.house.specs.Steps.{IsEmptySeat, is_left, is_unread}
 
 -- there is such a connection

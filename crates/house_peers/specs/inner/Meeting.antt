@@ -1,8 +1,7 @@
 -- What bodies and proofs say besides: what happens to a dialogue that speaks LMTP, by the events of that.
 use Rattle.std.specs.Prelude.{ℕ, [], ◌++◌}
-use Rattle.lmtp_machine.specs.Replies.{wire}
+use Rattle.lmtp_machine.specs.Dialogue.{wire, on_event}
 use Rattle.lmtp_machine.specs.Dialogue as dialogue
-use Rattle.lmtp_machine.specs.Dialogue.{on_event}
 use Rattle.lmtp_machine.specs.Conversation.{led_by}
 use Rattle.house_peers.specs.Caller.{Caller, Terms, setting_of}
 

@@ -1,6 +1,6 @@
 -- What bodies and proofs say besides: what a connection's own steps promise: how far bytes were taken, and what stands afterwards.
 use Rattle.std.specs.Prelude.{◌≡◌, ℕ, List, [], Option, Some, None}
-use Rattle.envelope.specs.Directory.{Directory}
+use Rattle.envelope.specs.Names.{Directory}
 use Rattle.lmtp_machine.specs.declared.connection.What.{What}
 use Rattle.lmtp_machine.specs.Dialogue.{Setting, Submission}
 use Rattle.lmtp_machine.specs.Conversation.{Conversation}

@@ -2,19 +2,17 @@
 use Rattle.std.specs.Prelude.{◌≡◌, ◌≤◌, ◌*◌, ℕ, List, [], All, length, map, vec_len, vec_capacity}
 use Rattle.delivery_token.specs.declared.Job.{Job}
 use Rattle.delivery_token.specs.declared.log.Noted.{Noted}
-use Rattle.envelope.specs.Directory.{Directory}
+use Rattle.envelope.specs.Names.{Directory}
 use Rattle.lane_work.specs.Rooms.{AreHandRooms, ArePermitRooms, AreRooms}
 use Rattle.lane_work.specs.LanePermits.{AreConsumers, Rows}
 use Rattle.lane_work.specs.ChannelPermits.{AreReceivers, SenderRows}
-use Rattle.shard_queue.specs.Permits.{ShardQueue}
-use Rattle.shard_queue.specs.Reply.{ReplyChannel}
-use Rattle.shard_queue.specs.Reply.{received, senders_of}
+use Rattle.shard_queue.specs.Permits.{ShardQueue, capacity_of, got, producers_of}
+use Rattle.shard_queue.specs.Reply.{ReplyChannel, received, senders_of}
 use Rattle.shard_queue.specs.Reply as replies
 use Rattle.shard_queue.specs.Permits as queues
 use Rattle.shard_queue.specs.SharedLane.{taken}
 use Rattle.shard_queue.specs.declared.shared.View.{View}
 use Rattle.lane_work.specs.SharedLanes as lanes
-use Rattle.shard_queue.specs.Permits.{capacity_of, got, producers_of}
 use Rattle.house_shared.specs.Opening.{AreNoSpares, AreSpares}
 use Rattle.house_shared.specs.declared.bells.Bells.{Bells}
 use Rattle.house_shared.specs.declared.dealing.Undealt.{Undealt}

@@ -1,7 +1,7 @@
 -- What bodies and proofs say besides: a worker that closes shards before a connection.
 use Rattle.std.specs.Prelude.{◌≡◌, ℕ, Bool, ◌<◌, ◌==◌, ◌&&◌, ◌||◌, nat_lt, List, [], length, map, slice_index_or}
 use Rattle.std.specs.List.{list_any}
-use Rattle.envelope.specs.Directory.{Directory, is_shut, marked}
+use Rattle.envelope.specs.Names.{Directory, is_shut, marked}
 use Rattle.lane_work.specs.declared.desk.Closing.{Closing}
 use Rattle.lane_work.specs.declared.desk.Desk.{Desk}
 use Rattle.lane_work.specs.declared.desk.Intake.{Intake}

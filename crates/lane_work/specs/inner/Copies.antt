@@ -3,10 +3,10 @@ use Rattle.std.specs.Prelude.{◌≡◌, ℕ, ◌==◌, ◌<◌, length, slice_i
 use Rattle.delivery_token.specs.declared.Job.{Job}
 use Rattle.delivery_token.specs.declared.Verdict.{Verdict}
 use Rattle.delivery_token.specs.declared.log.Noted.{Noted}
-use Rattle.envelope.specs.Directory.{Directory, shard_of}
+use Rattle.envelope.specs.Names.{Directory, shard_of}
 use Rattle.shard_queue.specs.declared.lane.Entry.{Entry}
 use Rattle.shard_queue.specs.declared.lane.Entry.TheVariants.{Item}
-use Rattle.lane_work.specs.Copies.{Room, room_at, FilledAlone, copies, note_of, IsAtOnce, IsHeard}
+use Rattle.lane_work.specs.Account.{Room, room_at, FilledAlone, copies, note_of, IsAtOnce, IsHeard}
 
 -- ---- while the verdicts on a message come in
 

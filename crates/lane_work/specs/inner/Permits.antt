@@ -1,6 +1,6 @@
 -- What bodies and proofs say besides: whether a producer may put the copies of a message.
 use Rattle.std.specs.Prelude.{◌≡◌, ℕ, false, List, All, slice_index_or}
-use Rattle.envelope.specs.Directory.{Directory, shard_of}
+use Rattle.envelope.specs.Names.{Directory, shard_of}
 use Rattle.delivery_token.specs.declared.Job.{Job}
 use Rattle.lane_work.specs.declared.desk.LanePermit.{LanePermit}
 use Rattle.lane_work.specs.Permits.{overs}

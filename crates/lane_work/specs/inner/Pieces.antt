@@ -3,16 +3,14 @@ use Rattle.std.specs.Prelude.{◌≡◌, ◌⊎◌, ℕ, Bool, true, List, [], �
 use Rattle.delivery_token.specs.declared.Job.{Job}
 use Rattle.delivery_token.specs.declared.Verdict.{Verdict}
 use Rattle.delivery_token.specs.declared.log.Noted.{Noted}
-use Rattle.envelope.specs.Directory.{Directory}
+use Rattle.envelope.specs.Names.{Directory}
 use Rattle.lmtp_machine.specs.declared.reply.Reply.{Reply}
 use Rattle.lmtp_machine.specs.Conversation.{Conversation}
-use Rattle.lmtp_machine.specs.Dialogue.{Setting}
+use Rattle.lmtp_machine.specs.Dialogue.{Setting, wire}
 use Rattle.lmtp_machine.specs.LmtpMachine.{LmtpMachine}
-use Rattle.lmtp_machine.specs.Replies.{wire}
 use Rattle.shard_queue.specs.declared.lane.Entry.{Entry}
 use Rattle.lane_work.specs.Talk.{Judged, HasTaken}
-use Rattle.lane_work.specs.Account.{AreBooks}
-use Rattle.lane_work.specs.Copies.{Room}
+use Rattle.lane_work.specs.Account.{AreBooks, Room}
 use Rattle.lane_work.specs.Speaking.{Stands}
 use Rattle.lane_work.specs.declared.piece.Next.{Next}
 use Rattle.lane_work.specs.declared.piece.Next.TheVariants as nexts

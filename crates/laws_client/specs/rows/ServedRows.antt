@@ -16,7 +16,7 @@ use Rattle.house_history.specs.declared.event.Step.TheVariants as steps
 use Rattle.house_history.specs.Events.{changes_in}
 use Rattle.imap_session.specs.Exchange as ask
 use Rattle.session_thread.specs.declared.locked_store.Entry.{Entry}
-use Rattle.session_thread.specs.SinceSelect.{WasShownIn, shown_since}
+use Rattle.session_thread.specs.ByHistory.{WasShownIn, shown_since}
 use Rattle.laws_client.specs.Served.{counted_in, messages_in}
 
 abbrev pub seen : Flags

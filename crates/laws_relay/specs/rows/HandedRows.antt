@@ -5,7 +5,7 @@ use Rattle.delivery_token.specs.Text.{undated}
 use Rattle.delivery_token.specs.declared.Verdict.TheVariants.{Stored, Refused}
 use Rattle.delivery_token.specs.declared.Refusal.{Refusal}
 use Rattle.delivery_token.specs.declared.Refusal.TheVariants.{MailboxFull}
-use Rattle.envelope.specs.Directory.{Directory}
+use Rattle.envelope.specs.Names.{Directory}
 use Rattle.envelope.specs.Values.{Path, To}
 use Rattle.envelope.specs.Reading.{read, forward_at}
 use Rattle.lmtp_machine.specs.Dialogue.{Event, Line, Starved, Answered, Shut, Setting, Submission, dialogue, fresh}

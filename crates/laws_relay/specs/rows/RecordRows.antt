@@ -10,7 +10,7 @@ use Rattle.house_peers.specs.Caller.{greeted}
 use Rattle.lmtp_machine.specs.declared.reply.Reply.TheVariants.{Delivered, Extensions, Greeting, Okay}
 use Rattle.laws_relay.specs.Fates.{Awaited, TurnedAway}
 use Rattle.laws_relay.specs.rows.HandedRows.{home, the_submission}
-use Rattle.shard_queue.specs.At.{set_at}
+use Rattle.shard_queue.specs.Lane.{set_at}
 use Rattle.exactly_once.specs.Promise.{Entry, Other, Replies, Silence, Verdict}
 use Rattle.laws_relay.specs.Concluded.{key_at}
 use Rattle.laws_relay.specs.Record.{came_for, has_vanished, told_to}

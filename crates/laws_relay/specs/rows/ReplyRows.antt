@@ -2,7 +2,7 @@
 use Rattle.std.specs.Prelude.{◌≡◌, ℕ, true, false, List, [], ◌∷◌, ◌++◌, codes}
 use Rattle.std.proofs.Common.{refl}
 use Rattle.lmtp_machine.specs.declared.reply.Reply.TheVariants.{Greeting, Extensions, SenderOk}
-use Rattle.lmtp_machine.specs.Replies.{wire}
+use Rattle.lmtp_machine.specs.Dialogue.{wire}
 use Rattle.laws_relay.specs.Relay.{is_code, replies_of}
 use Rattle.laws_relay.specs.ReplyLaws.{IsInLine}
 

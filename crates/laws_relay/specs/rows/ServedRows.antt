@@ -13,8 +13,8 @@ use Rattle.house_history.specs.declared.event.Event.TheVariants.{Sent, Withdrawn
 use Rattle.house_history.specs.Legal.{HasUid}
 use Rattle.house_history.specs.Views.{IsSettledIn}
 use Rattle.lmtp_machine.specs.declared.reply.Reply.TheVariants.{Greeting, ShuttingDown}
-use Rattle.lmtp_machine.specs.Replies.{wire}
-use Rattle.serving_workers.specs.Lines.{Closed, Spoken, Told, Took, WereOver}
+use Rattle.lmtp_machine.specs.Dialogue.{wire}
+use Rattle.serving_workers.specs.Leaving.{Closed, Spoken, Told, Took, WereOver}
 
 abbrev pub copy : Job
 copy = record { key = record { seat = 0; serial = 3; message = 1; recipient = 0 }; mailbox = 2; text = undated (codes "hi\r\n"); flags = no_flags }

@@ -1,9 +1,8 @@
 -- What bodies and proofs say besides: what the calls of a connection answer.
 use Rattle.std.specs.Prelude.{◌≡◌, ℕ, List, ◌++◌}
-use Rattle.envelope.specs.Directory.{Directory}
+use Rattle.envelope.specs.Names.{Directory}
 use Rattle.lmtp_machine.specs.declared.connection.What.{What}
-use Rattle.lmtp_machine.specs.Replies.{wire}
-use Rattle.lmtp_machine.specs.Dialogue.{Setting, Submission, Turn}
+use Rattle.lmtp_machine.specs.Dialogue.{wire, Setting, Submission, Turn}
 use Rattle.lmtp_machine.specs.Conversation.{Conversation, Leads}
 use Rattle.lmtp_machine.specs.Calls.{Tells}
 

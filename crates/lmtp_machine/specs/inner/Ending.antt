@@ -6,9 +6,8 @@ use Rattle.lmtp_machine.specs.declared.commands.Stage.{Stage}
 use Rattle.lmtp_machine.specs.declared.commands.Stage.TheVariants as stages
 use Rattle.lmtp_machine.specs.declared.connection.What.{What}
 use Rattle.lmtp_machine.specs.declared.connection.What.TheVariants.{More, Quit}
-use Rattle.lmtp_machine.specs.Replies.{wire}
+use Rattle.lmtp_machine.specs.Dialogue.{wire, Turn}
 use Rattle.lmtp_machine.specs.Standing.{standing_of}
-use Rattle.lmtp_machine.specs.Dialogue.{Turn}
 use Rattle.lmtp_machine.specs.LmtpMachine.{LmtpMachine}
 use Rattle.lmtp_machine.specs.Calls.{Tells}
 

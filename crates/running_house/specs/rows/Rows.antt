@@ -3,7 +3,7 @@ use Rattle.std.specs.Prelude.{codes}
 use Rattle.std.proofs.Common.{false, inl, inr, ℕ, List, [], ◌∷◌, ◌++◌, None, refl}
 use Rattle.delivery_token.specs.Text.{undated}
 use Rattle.delivery_token.specs.declared.Verdict.TheVariants.{Stored}
-use Rattle.envelope.specs.Directory.{Directory}
+use Rattle.envelope.specs.Names.{Directory}
 use Rattle.envelope.specs.Reading.{read, forward_at}
 use Rattle.lmtp_machine.specs.declared.reply.Reply.TheVariants.{Greeting, Extensions, SenderOk, RecipientOk, StartInput, Okay, Bye, Delivered, OutOfMemory}
 use Rattle.lmtp_machine.specs.Dialogue.{Ended, Line, Starved, Answered, Setting, Submission}

@@ -4,8 +4,7 @@ use Rattle.house_shared.specs.Crew.{AllAt, IsPost}
 use Rattle.house_shared.specs.declared.shared.HouseShared.{HouseShared}
 use Rattle.serving.specs.declared.run.Dealt.{Dealt}
 use Rattle.serving.specs.declared.run.Supplies.{Supplies}
-use Rattle.serving_workers.specs.Leaving.{IsOutfit}
-use Rattle.serving_workers.specs.Lines.{Told}
+use Rattle.serving_workers.specs.Leaving.{IsOutfit, Told}
 
 -- a post for each producer; for each worker its outfit, and for each client slot its ear and a buffer
 pub record AreSupplies {B L : Type 0} (told : L → Told) (shared : HouseShared B) (workers client_slots : ℕ) (supplies : Supplies B L) : Type 0 where

@@ -2,8 +2,7 @@
 use Rattle.std.specs.Prelude.{◌≡◌, ◌≢◌, ℕ, ◌⊎◌, List, Result, Ok, Err}
 use Rattle.house_history.specs.declared.event.Event.{Event}
 use Rattle.cursor_set.specs.Cursors.{CursorHandle}
-use Rattle.mailbox.specs.Mailbox.{Mailbox}
-use Rattle.mailbox.specs.Stands.{IsKept}
+use Rattle.mailbox.specs.Mailbox.{Mailbox, IsKept}
 use Rattle.mailbox.specs.declared.clients.MailFault.{MailFault}
 use Rattle.mailbox.specs.declared.clients.MailFault.TheVariants.{Stranger}
 use Rattle.mailbox.specs.declared.clients.Opening.{Opening}

@@ -5,8 +5,7 @@ ghost use Rattle.std.specs.Prelude.{◌≡◌, ◌==◌, ◌<◌, ◌≤◌, [],
 ghost use Rattle.std.specs.List.{position};
 ghost use Rattle.std.specs.List.Sorted.{IsStrictlyIncreasing};
 ghost use Rattle.change_ring.specs.declared.change.Change.TheVariants.{Gone};
-ghost use Rattle.change_ring.specs.Log.{FitsView, Names, added, shown, without};
-ghost use Rattle.change_ring.specs.Window.{total, changes_from};
+ghost use Rattle.change_ring.specs.Log.{FitsView, Names, added, shown, without, total, changes_from};
 ghost use Rattle.cursor_set.specs.Cursors.{Open, held};
 ghost use Rattle.cursor_set.specs.Legal.{IsLegalOn};
 

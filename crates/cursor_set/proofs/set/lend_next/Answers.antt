@@ -1,6 +1,6 @@
 use Rattle.std.proofs.Common.{◌+◌, ℕ, length, take, ap, ap₂, ◌∙◌, arith}
 use Rattle.std.proofs.lemmas.List.{length-take-le}
-use Rattle.change_ring.specs.Window.{changes_from}
+use Rattle.change_ring.specs.Log.{changes_from}
 use Rattle.cursor_set.proofs.WindowParts.{parts, next_two, lent_length}
 use Rattle.cursor_set.proofs.set.lend_next.Goals as goal
 

@@ -3,7 +3,7 @@ use Rattle.delivery_token.specs.Keys.{AtLeast}
 use Rattle.delivery_token.specs.declared.CopyKey.{CopyKey}
 use Rattle.delivery_token.specs.declared.log.Noted.{Noted}
 use Rattle.house_peers.specs.SeatedSession.{SeatedSession, StandsForSeated}
-use Rattle.house_peers.specs.SeatedVisitor.{SeatedVisitor}
+use Rattle.house_peers.specs.Visitor.{SeatedVisitor}
 use Rattle.house.specs.Stands.{first_of}
 use Rattle.house.proofs.sessions.admitted.Goals as goal
 

@@ -1,5 +1,5 @@
 use Rattle.std.proofs.Common.{◌≡◌, ◌≢◌, ◌≤◌, All, None, length, ap, sym, subst, arith}
-use Rattle.envelope.specs.Directory.{Directory}
+use Rattle.envelope.specs.Names.{Directory}
 use Rattle.house_shared.specs.Users.{user_numbered}
 use Rattle.house_shared.proofs.opening.open.Goals as goal
 

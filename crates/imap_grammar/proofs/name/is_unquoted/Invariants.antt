@@ -1,6 +1,6 @@
 use Rattle.std.proofs.Common.{◌≡◌, false, drop}
 use Rattle.std.specs.Str.{bytes_eq}
-use Rattle.envelope.specs.Directory.{unquoted}
+use Rattle.envelope.specs.Names.{unquoted}
 use Rattle.imap_grammar.proofs.name.is_unquoted.Given as goal
 
 abbrev pub invariant-loop-b : goal.invariant-loop-b

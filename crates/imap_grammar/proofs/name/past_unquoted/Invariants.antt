@@ -1,5 +1,5 @@
 use Rattle.std.proofs.Common.{◌≡◌, false, drop}
-use Rattle.envelope.specs.Directory.{unquoted}
+use Rattle.envelope.specs.Names.{unquoted}
 use Rattle.mail_date.specs.Fields.{past_word}
 use Rattle.imap_grammar.specs.inner.Searching.{searched}
 use Rattle.imap_grammar.proofs.name.past_unquoted.Given as goal

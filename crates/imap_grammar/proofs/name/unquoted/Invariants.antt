@@ -1,5 +1,5 @@
 use Rattle.std.proofs.Common.{◌≡◌, ◌++◌, drop, false}
-use Rattle.envelope.specs.Directory.{unquoted}
+use Rattle.envelope.specs.Names.{unquoted}
 use Rattle.imap_grammar.proofs.name.unquoted.Given as goal
 
 abbrev pub invariant-loop-b : goal.invariant-loop-b

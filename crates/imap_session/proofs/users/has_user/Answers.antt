@@ -1,7 +1,7 @@
 use Rattle.std.proofs.Common.{◌≡◌, ◌+◌, ◌<◌, ◌∙◌, ℕ, suc, arith, false, length, sym, subst, take, true}
 use Rattle.std.specs.List.{list_any}
 use Rattle.std.specs.Str.{bytes_eq}
-use Rattle.envelope.specs.Directory.{Home}
+use Rattle.envelope.specs.Names.{Home}
 use Rattle.imap_session.proofs.FolderLaws.{any_at, is_name, none_more}
 use Rattle.imap_session.proofs.users.has_user.Goals as goal
 

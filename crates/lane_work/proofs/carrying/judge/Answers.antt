@@ -4,19 +4,17 @@ use Rattle.std.proofs.lemmas.List.{length-map}
 use Rattle.std.proofs.lemmas.Result.{on_ok_weaker}
 use Rattle.delivery_token.specs.declared.Job.{Job}
 use Rattle.lane_work.specs.declared.desk.LanePermit.{LanePermit}
-use Rattle.shard_queue.specs.Reply.{received}
-use Rattle.lane_work.specs.Permits.{AreLive, put_by}
-use Rattle.lane_work.specs.Copies.{rooms_of}
+use Rattle.shard_queue.specs.Reply.{received, ReceiverPermit}
+use Rattle.lane_work.specs.Permits.{AreLive, put_by, overs}
+use Rattle.lane_work.specs.Account.{rooms_of}
 use Rattle.lane_work.specs.inner.Copies.{WasJudged}
 use Rattle.delivery_token.specs.declared.log.Noted.{Noted}
-use Rattle.shard_queue.specs.Reply.{ReceiverPermit}
 use Rattle.lane_work.specs.Awaiting.{copies_in, verdicts_in}
-use Rattle.lane_work.specs.Permits.{overs}
 use Rattle.delivery_token.specs.Verdicts.{unknown}
 use Rattle.lane_work.proofs.AwaitedLaws.{tried_counts}
 use Rattle.lane_work.proofs.CopyLaws.{judged_at_once, judged_later}
 use Rattle.lane_work.proofs.PermitLaws.{live_at, live_still, overs_length, permits_length}
-use Rattle.envelope.specs.Directory.{shard_of}
+use Rattle.envelope.specs.Names.{shard_of}
 use Rattle.lane_work.proofs.carrying.judge.Goals as goal
 
 pub returns-in-Some-clause-judged : goal.returns-in-Some-clause-judged

@@ -2,7 +2,7 @@ use Rattle.std.proofs.Common.{rules, map, ◌≡◌, ◌++◌, ◌∷◌, [], �
 use Rattle.lmtp_machine.specs.Calls.{submission_of}
 use Rattle.shard_queue.specs.declared.lane.Entry.TheVariants.{Item, End}
 use Rattle.shard_queue.specs.Reply.{received}
-use Rattle.lane_work.specs.Copies.{copies_of}
+use Rattle.lane_work.specs.Account.{copies_of}
 use Rattle.lane_work.specs.Ends.{ends_in}
 use Rattle.lane_work.specs.Permits.{put_by}
 use Rattle.lane_work.proofs.BackingLaws.{backed_end_heard, backed_heard}

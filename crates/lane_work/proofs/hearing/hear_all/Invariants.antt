@@ -2,7 +2,7 @@ use Rattle.std.proofs.Common.{◌≡◌, ◌+◌, length}
 use Rattle.shard_queue.specs.Reply.{IsReceiver, received}
 use Rattle.shard_queue.specs.Shared.{IsStartOf}
 use Rattle.lmtp_machine.specs.Calls.{submission_of}
-use Rattle.lane_work.specs.Copies.{copies_of}
+use Rattle.lane_work.specs.Account.{copies_of}
 use Rattle.delivery_token.specs.Verdicts.{Fills, unknown}
 use Rattle.lane_work.specs.Backing.{KeepsBacked}
 use Rattle.lane_work.specs.inner.Copies.{WereHeard}

@@ -3,7 +3,7 @@ use Rattle.delivery_token.specs.declared.CopyKey.{CopyKey}
 use Rattle.delivery_token.specs.declared.log.Noted.{Noted}
 use Rattle.shard_queue.specs.declared.lane.Entry.TheVariants.{Item, End}
 use Rattle.shard_queue.specs.Reply.{received}
-use Rattle.lane_work.specs.Copies.{IsHeard}
+use Rattle.lane_work.specs.Account.{IsHeard}
 use Rattle.lane_work.specs.Ends.{ends_in}
 use Rattle.lane_work.specs.Awaiting.{verdicts_in}
 use Rattle.lane_work.proofs.AwaitedLaws.{verdict_more}

@@ -1,6 +1,6 @@
 use Rattle.std.proofs.Common.{rules, inl, inr, ◌+◌, ◌++◌, ◌∙◌, ◌≡◌, ap, sym, subst, map, take, false, arith}
 use Rattle.shard_queue.specs.Reply.{received}
-use Rattle.lane_work.specs.Copies.{rooms_of}
+use Rattle.lane_work.specs.Account.{rooms_of}
 use Rattle.lane_work.specs.Permits.{AreInForce, put_by}
 use Rattle.lane_work.specs.Speaking.{Stands, is_quit}
 use Rattle.lane_work.specs.declared.worker.Stop.TheVariants.{NoMemory, Torn}

@@ -1,13 +1,11 @@
 use Rattle.std.proofs.Common.{rules, ◌≡◌, ◌≤◌, ◌∙◌, ◌++◌, ◌∷◌, [], ℕ, ap, sym, subst, arith, length, length-append, map, slice_index_or, false, vec_len}
-use Rattle.delivery_token.specs.Verdicts.{Verdicts}
-use Rattle.lane_work.specs.Permits.{put_by}
+use Rattle.delivery_token.specs.Verdicts.{Verdicts, unknown}
+use Rattle.lane_work.specs.Permits.{put_by, ArePermits, overs}
 use Rattle.lane_work.specs.inner.Permits.{AreOpenTo}
-use Rattle.lane_work.specs.Permits.{ArePermits, overs}
-use Rattle.envelope.specs.Directory.{shard_of}
-use Rattle.lane_work.specs.Copies.{rooms_of}
+use Rattle.envelope.specs.Names.{shard_of}
+use Rattle.lane_work.specs.Account.{rooms_of}
 use Rattle.std.proofs.lemmas.List.{length-map}
 use Rattle.lane_work.proofs.CopyLaws.{all_at, puts_next, tries_next}
-use Rattle.delivery_token.specs.Verdicts.{unknown}
 use Rattle.lane_work.proofs.AwaitedLaws.{tried_counts, unknown_next}
 use Rattle.lane_work.proofs.PermitLaws.{overs_length, permits_length}
 use Rattle.lane_work.proofs.putting.put_all.Goals as goal

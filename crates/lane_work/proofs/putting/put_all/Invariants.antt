@@ -1,11 +1,10 @@
 use Rattle.std.proofs.Common.{◌≡◌, ◌≤◌, ◌+◌, length, map, take, vec_len}
-use Rattle.lane_work.specs.Permits.{put_by}
+use Rattle.lane_work.specs.Permits.{put_by, ArePermits}
 use Rattle.lane_work.specs.inner.Permits.{AreOpenTo}
-use Rattle.lane_work.specs.Permits.{ArePermits}
 use Rattle.delivery_token.specs.Verdicts.{unknown}
 use Rattle.lane_work.specs.Awaiting.{copies_in}
 use Rattle.lane_work.specs.inner.Desk.{SameButPermits}
-use Rattle.lane_work.specs.Copies.{copies, rooms_of}
+use Rattle.lane_work.specs.Account.{copies, rooms_of}
 use Rattle.lane_work.specs.Backing.{KeepsBacked}
 use Rattle.lane_work.specs.inner.Copies.{HavePut, WereTried}
 use Rattle.lane_work.proofs.putting.put_all.Given as goal

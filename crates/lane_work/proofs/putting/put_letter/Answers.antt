@@ -1,6 +1,6 @@
 use Rattle.std.proofs.Common.{◌∙◌, subst}
 use Rattle.shard_queue.specs.Permits.{number_of, put_seen, sent}
-use Rattle.lane_work.specs.Copies.{FilledAlone, room_of}
+use Rattle.lane_work.specs.Account.{FilledAlone, room_of}
 use Rattle.lane_work.proofs.FullLaws.{found_full}
 use Rattle.lane_work.proofs.putting.put_letter.Goals as goal
 

@@ -3,7 +3,7 @@ use Rattle.std.proofs.lemmas.List.{length-map}
 use Rattle.delivery_token.specs.declared.Job.{Job}
 use Rattle.shard_queue.specs.declared.lane.Entry.TheVariants.{Item}
 use Rattle.lane_work.specs.Permits.{IsPermit, overs, put_by}
-use Rattle.lane_work.specs.Copies.{FilledAlone, IsAtOnce, room_at, room_of, rooms_of}
+use Rattle.lane_work.specs.Account.{FilledAlone, IsAtOnce, room_at, room_of, rooms_of}
 use Rattle.shard_queue.specs.Reply.{received}
 use Rattle.lane_work.proofs.BackingLaws.{backed_put}
 use Rattle.lane_work.proofs.PermitLaws.{over_at, overs_kept, permit_here, permits_length, permits_set, puts_at, room_here, sent_at, sent_set, set_same}

@@ -4,7 +4,7 @@ use Rattle.std.specs.Io.KnownBytes.{Appends, Consumes}
 use Rattle.std.proofs.KnownBytes.{Keeps-refl}
 use Rattle.shard_queue.specs.Reply.{received}
 use Rattle.lane_work.proofs.SlotLaws.{start_on, start_same}
-use Rattle.lane_work.specs.Copies.{rooms_of}
+use Rattle.lane_work.specs.Account.{rooms_of}
 use Rattle.lane_work.specs.Permits.{AreInForce, put_by}
 use Rattle.lane_work.specs.Speaking.{Stands, premises_of}
 use Rattle.lane_work.specs.declared.outcome.Ending.TheVariants.{Quit, Gone}

@@ -1,7 +1,7 @@
 use Rattle.std.proofs.Common.{◌++◌, ◌∙◌, ◌∷◌, [], ap, sym}
 use Rattle.lmtp_machine.specs.declared.reply.Reply.TheVariants.{Greeting}
 use Rattle.lmtp_machine.specs.Conversation.{opened}
-use Rattle.lmtp_machine.specs.Replies.{wire}
+use Rattle.lmtp_machine.specs.Dialogue.{wire}
 use Rattle.lane_work.proofs.talk.open.Goals as goal
 
 pub returns-clause-stands : goal.returns-clause-stands

@@ -1,5 +1,5 @@
 use Rattle.std.proofs.Common.{◌≡◌, ◌≤◌, ◌+◌, ◌++◌, map, zip, take, length}
-use Rattle.lane_work.specs.Copies.{copies, note_of}
+use Rattle.lane_work.specs.Account.{copies, note_of}
 use Rattle.lane_work.proofs.verdict_log.log_all.Given as goal
 
 abbrev pub invariant-loop-i : goal.invariant-loop-i

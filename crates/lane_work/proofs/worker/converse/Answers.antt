@@ -1,5 +1,5 @@
 use Rattle.std.proofs.Common.{◌∙◌, subst, map, List, ℕ}
-use Rattle.envelope.specs.Directory.{Directory}
+use Rattle.envelope.specs.Names.{Directory}
 use Rattle.lmtp_machine.specs.Calls.{Happens}
 use Rattle.lmtp_machine.specs.Conversation.{Conversation}
 use Rattle.lmtp_machine.specs.Dialogue as on
@@ -7,10 +7,9 @@ use Rattle.lmtp_machine.specs.Dialogue.{Setting}
 use Rattle.lmtp_machine.specs.LmtpMachine.{StandsFor}
 use Rattle.shard_queue.specs.Reply.{received}
 use Rattle.lane_work.specs.Permits.{put_by}
-use Rattle.lane_work.specs.Copies.{rooms_of}
+use Rattle.lane_work.specs.Account.{rooms_of, notes_tell, setting_at}
 use Rattle.lane_work.specs.Speaking.{premises_of}
 use Rattle.lane_work.specs.inner.Speaking.{Spoke}
-use Rattle.lane_work.specs.Account.{notes_tell, setting_at}
 use Rattle.lane_work.proofs.TalkLaws.{begins}
 use Rattle.lane_work.proofs.worker.converse.Goals as goal
 

@@ -1,12 +1,10 @@
 use Rattle.std.proofs.Common.{rules, ◌≡◌, ◌∙◌, ap, sym, subst, refl, map, List, take, arith}
-use Rattle.shard_queue.specs.Reply.{received}
-use Rattle.lane_work.specs.Copies.{rooms_of}
-use Rattle.lane_work.specs.Account.{notes_tell, AreBooks, setting_at}
+use Rattle.shard_queue.specs.Reply.{received, ReceiverPermit}
+use Rattle.lane_work.specs.Account.{rooms_of, notes_tell, AreBooks, setting_at}
 use Rattle.delivery_token.specs.declared.Job.{Job}
 use Rattle.delivery_token.specs.declared.log.Noted.{Noted}
-use Rattle.envelope.specs.Directory.{Directory}
+use Rattle.envelope.specs.Names.{Directory}
 use Rattle.shard_queue.specs.declared.lane.Entry.{Entry}
-use Rattle.shard_queue.specs.Reply.{ReceiverPermit}
 use Rattle.lane_work.specs.Awaiting.{copies_in, verdicts_in}
 use Rattle.lane_work.specs.Ends.{ends_in}
 use Rattle.lane_work.specs.Permits.{AreInForce, put_by}

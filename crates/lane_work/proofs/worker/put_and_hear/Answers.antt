@@ -5,11 +5,10 @@ use Rattle.lmtp_machine.specs.Calls.{submission_of}
 use Rattle.delivery_token.specs.declared.Job.{Job}
 use Rattle.lane_work.specs.declared.desk.LanePermit.{LanePermit}
 use Rattle.delivery_token.specs.declared.log.Noted.{Noted}
-use Rattle.shard_queue.specs.Reply.{ReceiverPermit}
-use Rattle.shard_queue.specs.Reply.{received}
+use Rattle.shard_queue.specs.Reply.{ReceiverPermit, received}
 use Rattle.shard_queue.specs.Shared.{IsStartOf}
 use Rattle.lane_work.specs.Permits.{put_by}
-use Rattle.lane_work.specs.Copies.{copies_of, rooms_of}
+use Rattle.lane_work.specs.Account.{copies_of, rooms_of}
 use Rattle.lane_work.specs.inner.Copies.{HavePut}
 use Rattle.delivery_token.proofs.Fills.{fills_length, known_length}
 use Rattle.lane_work.proofs.CopyLaws.{books_more}

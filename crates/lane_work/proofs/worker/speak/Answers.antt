@@ -1,7 +1,6 @@
 use Rattle.std.proofs.Common.{rules, inl, inr, ◌+◌, ◌-◌, ◌++◌, ◌∙◌, ap, sym, subst, length, map, take, drop, [], false, arith}
 use Rattle.shard_queue.specs.Reply.{received}
-use Rattle.lane_work.specs.Account.{notes_tell}
-use Rattle.lane_work.specs.Copies.{rooms_of}
+use Rattle.lane_work.specs.Account.{notes_tell, rooms_of}
 use Rattle.lane_work.specs.Permits.{AreInForce, put_by}
 use Rattle.lane_work.specs.Speaking.{Stands, is_quit}
 use Rattle.lane_work.proofs.TalkLaws.{spoke, split_there, none_left, piece_more}

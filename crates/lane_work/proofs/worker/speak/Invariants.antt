@@ -1,7 +1,6 @@
 use Rattle.std.proofs.Common.{◌≡◌, ◌≤◌, ◌-◌, length, map, take, [], List, false}
 use Rattle.shard_queue.specs.Reply.{IsReceiver, received}
-use Rattle.lane_work.specs.Account.{notes_tell}
-use Rattle.lane_work.specs.Copies.{rooms_of}
+use Rattle.lane_work.specs.Account.{notes_tell, rooms_of}
 use Rattle.lane_work.specs.Talk.{Judged}
 use Rattle.lane_work.specs.Awaiting.{HearsItsOwn}
 use Rattle.lane_work.specs.Backing.{KeepsBacked}

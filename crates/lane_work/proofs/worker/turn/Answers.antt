@@ -1,22 +1,20 @@
 use Rattle.std.proofs.Common.{rules, false, ◌≡◌, ◌∙◌, ◌++◌, sym, subst, map, List, [], All, length, arith, ℕ}
 use Rattle.std.proofs.lemmas.List.Elements.{All-head}
-use Rattle.lmtp_machine.specs.Dialogue.{Submission}
+use Rattle.lmtp_machine.specs.Dialogue.{Submission, wire}
 use Rattle.shard_queue.specs.Reply.{received}
 use Rattle.lane_work.specs.Permits.{put_by}
-use Rattle.lmtp_machine.specs.Calls.{submission_of}
+use Rattle.lmtp_machine.specs.Calls.{submission_of, Happens}
 use Rattle.lmtp_machine.specs.declared.connection.What.TheVariants.{More, Submit, Quit}
 use Rattle.delivery_token.specs.declared.Verdict.{Verdict}
-use Rattle.envelope.specs.Directory.{Directory}
-use Rattle.lmtp_machine.specs.Calls.{Happens}
+use Rattle.envelope.specs.Names.{Directory}
 use Rattle.lmtp_machine.specs.Conversation.{Conversation}
 use Rattle.lmtp_machine.specs.Dialogue as on
 use Rattle.lmtp_machine.specs.LmtpMachine.{StandsFor}
 use Rattle.std.specs.Io.{StartsWith}
 use Rattle.std.proofs.Transfers.{starts_with_of_append}
-use Rattle.lmtp_machine.specs.Replies.{wire}
 use Rattle.lane_work.specs.Talk.{Judged}
 use Rattle.lane_work.specs.Speaking.{Stands}
-use Rattle.lane_work.specs.Copies.{rooms_of}
+use Rattle.lane_work.specs.Account.{rooms_of}
 use Rattle.lane_work.proofs.ClosedLaws.{open_to}
 use Rattle.lane_work.proofs.BackingLaws.{where_err}
 use Rattle.lane_work.proofs.TalkLaws.{stands_on, stands_judged, follows_behind, happens_behind}

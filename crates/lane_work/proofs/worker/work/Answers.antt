@@ -3,10 +3,8 @@ use Rattle.std.specs.Global.{Global}
 use Rattle.delivery_token.specs.WorkerLog.{WorkerLog}
 use Rattle.shard_queue.specs.Reply.{received}
 use Rattle.shard_queue.specs.Permits.{said}
-use Rattle.lane_work.specs.Permits.{put_by}
-use Rattle.lane_work.specs.Copies.{rooms_of}
-use Rattle.lane_work.specs.Account.{Account, HaveEnded}
-use Rattle.lane_work.specs.Permits.{AreEnded}
+use Rattle.lane_work.specs.Permits.{put_by, AreEnded}
+use Rattle.lane_work.specs.Account.{rooms_of, Account, HaveEnded}
 use Rattle.lane_work.specs.Speaking.{premises_of}
 use Rattle.lane_work.proofs.BackingLaws.{backed_begin}
 use Rattle.lane_work.proofs.AwaitedLaws.{ended_counts, new_counts, quiet_counts}

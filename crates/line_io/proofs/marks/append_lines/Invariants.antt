@@ -1,6 +1,6 @@
 use Rattle.std.proofs.Common.{◌≡◌, ◌++◌, length}
 use Rattle.std.specs.Io.{StartsWith}
-use Rattle.line_io.specs.Marks.{marked}
+use Rattle.line_io.specs.Wire.{marked}
 use Rattle.line_io.proofs.marks.append_lines.Given as goal
 
 abbrev pub invariant-loop-line : goal.invariant-loop-line

@@ -1,6 +1,6 @@
 use Rattle.std.proofs.Common.{◌≡◌, ◌+◌, ◌-◌, ◌*◌, ◌≤◌, ◌++◌, vec_len, vec_capacity}
 use Rattle.std.specs.Prelude.{replicate}
-use Rattle.lmtp_machine.specs.Replies.{wire}
+use Rattle.lmtp_machine.specs.Dialogue.{wire}
 use Rattle.lmtp_machine.proofs.message.say_to_each.Given as goal
 
 abbrev pub invariant-loop-told : goal.invariant-loop-told

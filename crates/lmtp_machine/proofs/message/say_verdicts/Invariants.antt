@@ -1,6 +1,5 @@
 use Rattle.std.proofs.Common.{◌≡◌, ◌+◌, ◌-◌, ◌*◌, ◌≤◌, ◌++◌, length, map, take, vec_len, vec_capacity}
-use Rattle.lmtp_machine.specs.Replies.{wire}
-use Rattle.lmtp_machine.specs.Dialogue.{verdict_reply}
+use Rattle.lmtp_machine.specs.Dialogue.{wire, verdict_reply}
 use Rattle.lmtp_machine.proofs.message.say_verdicts.Given as goal
 
 abbrev pub invariant-loop-verdict : goal.invariant-loop-verdict

@@ -4,7 +4,7 @@ use Rattle.change_ring.specs.declared.change.Change.{Change}
 use Rattle.change_ring.specs.Log.{added, replay}
 use Rattle.change_ring.proofs.LogLaws.{added-append, replay-append}
 use Rattle.change_ring.proofs.WindowLaws.{changes_from-log}
-use Rattle.mailbox.specs.Stands.{IsKept}
+use Rattle.mailbox.specs.Mailbox.{IsKept}
 use Rattle.mailbox.specs.inner.Seen.{mail_of}
 use Rattle.mailbox.proofs.StandsLaws.{Stands-rising, view-all}
 use Rattle.mailbox.proofs.laws.every_mailbox_keeps.Goals as goal

@@ -3,7 +3,7 @@ use Rattle.std.specs.Prelude.{Result, Ok, Err, IsErr, OnOk, ◌^◌}
 use Rattle.std.proofs.lemmas.List.{drop_more}
 use Rattle.change_ring.specs.declared.ring.Spent.{Spent}
 use Rattle.change_ring.specs.declared.change.Change.TheVariants.{Gone}
-use Rattle.change_ring.specs.Window.{Window}
+use Rattle.change_ring.specs.Log.{Window}
 use Rattle.mailbox.specs.inner.Choices.{passes}
 use Rattle.mailbox.specs.inner.Marks.{gone_of}
 use Rattle.mailbox.proofs.RemovalLaws.{IsLogging, one_logged, room_left}

@@ -1,5 +1,5 @@
 use Rattle.std.proofs.Common.{ℕ, ◌<◌, map, [], slice_index_or}
-use Rattle.envelope.specs.Directory.{shard_of}
+use Rattle.envelope.specs.Names.{shard_of}
 use Rattle.running_house.specs.Walk.{MailboxMet}
 use Rattle.running_house.proofs.agree.lists_agree.Given as goal
 

@@ -2,16 +2,15 @@ use Rattle.std.proofs.Common.{rules, ◌≡◌, ◌≤◌, ◌∙◌, ℕ, [], V
 use Rattle.std.specs.Global.{Global}
 use Rattle.delivery_token.specs.WorkerLog.{WorkerLog}
 use Rattle.delivery_token.specs.declared.log.Noted.{Noted}
-use Rattle.shard_queue.specs.Reply.{ReplyChannel}
+use Rattle.shard_queue.specs.Reply.{ReplyChannel, IsReceiver, received}
 use Rattle.lane_work.specs.declared.desk.Intake.{Intake}
-use Rattle.lane_work.specs.Copies.{rooms_of}
+use Rattle.lane_work.specs.Account.{rooms_of}
 use Rattle.lane_work.specs.Awaiting.{verdicts_in}
 use Rattle.lane_work.specs.Permits.{AreEnded, put_by}
 use Rattle.lane_work.proofs.AwaitedLaws.{ended_counts, new_counts, quiet_counts}
 use Rattle.house_history.specs.Events.{sent_by}
 use Rattle.lane_work.proofs.BackingLaws.{backed_begin}
 use Rattle.lane_work.proofs.ServedLaws.{books_begin}
-use Rattle.shard_queue.specs.Reply.{IsReceiver, received}
 use Rattle.shard_queue.specs.Permits.{said}
 use Rattle.running_house.proofs.Attending.{session_account}
 use Rattle.house_shared.proofs.Finding.{user_named}

@@ -1,7 +1,7 @@
 use Rattle.std.proofs.Common.{◌∙◌, ◌+◌, ℕ, List, ap, refl, length, arith}
 use Rattle.std.specs.Prelude.{Bool, false, replicate}
 use Rattle.std.proofs.lemmas.List.{length-replicate}
-use Rattle.envelope.specs.Directory.{Directory}
+use Rattle.envelope.specs.Names.{Directory}
 use Rattle.house.specs.Scene.{empty_scene}
 use Rattle.script.specs.Leaving.{IsLeft, unread}
 use Rattle.script.specs.Telling.{IsLeftUntold, lines_of, wanting}

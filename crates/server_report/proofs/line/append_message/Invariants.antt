@@ -1,5 +1,5 @@
 use Rattle.std.proofs.Common.{◌≡◌, ◌++◌, zip, take}
-use Rattle.lane_work.specs.Copies.{copies}
+use Rattle.lane_work.specs.Account.{copies}
 use Rattle.server_report.specs.Lines.{mail_lines}
 use Rattle.server_report.proofs.line.append_message.Given as goal
 

@@ -1,5 +1,5 @@
 use Rattle.std.proofs.Common.{◌≡◌, ◌≢◌, ◌+◌, All, List, None, vec_len}
-use Rattle.envelope.specs.Directory.{Home}
+use Rattle.envelope.specs.Names.{Home}
 use Rattle.house_shared.specs.Users.{user_numbered}
 use Rattle.serving.proofs.client_slots.add_client_slots.Given as goal
 

@@ -1,7 +1,6 @@
 use Rattle.std.proofs.Common.{rules, ◌≡◌, ◌∷◌, [], All, subst, sym}
 use Rattle.std.proofs.lemmas.List.Elements.{All-append, All-cons, All-nil, All-tail}
-use Rattle.serving_workers.specs.Leaving.{IsOutfit}
-use Rattle.serving_workers.specs.Lines.{IsFresh}
+use Rattle.serving_workers.specs.Leaving.{IsOutfit, IsFresh}
 use Rattle.serving_workers.specs.declared.accepting.Outfit.{Outfit}
 use Rattle.serving.proofs.equipment.outfits_for.Goals as goal
 

@@ -1,6 +1,5 @@
 use Rattle.std.proofs.Common.{◌≡◌, ◌≤◌, ◌+◌, All, length, vec_capacity}
-use Rattle.serving_workers.specs.Leaving.{IsOutfit}
-use Rattle.serving_workers.specs.Lines.{IsFresh}
+use Rattle.serving_workers.specs.Leaving.{IsOutfit, IsFresh}
 use Rattle.serving.proofs.equipment.outfits_for.Given as goal
 
 abbrev pub invariant-loop-line : goal.invariant-loop-line

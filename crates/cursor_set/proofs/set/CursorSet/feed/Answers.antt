@@ -1,7 +1,7 @@
 use Rattle.std.proofs.Common.{◌≡◌, ◌+◌, ◌-◌, ◌≤◌, ◌++◌, ℕ, List, Some, Option, length, ap, subst, sym, ◌∙◌, arith}
 use Rattle.std.specs.Prelude.{option_map, min}
 use Rattle.change_ring.specs.declared.change.Change.{Change}
-use Rattle.change_ring.specs.Window.{changes_from, total}
+use Rattle.change_ring.specs.Log.{changes_from, total}
 use Rattle.cursor_set.specs.Legal.{IsLegalOn}
 use Rattle.cursor_set.specs.Opened.{open_of}
 use Rattle.cursor_set.specs.Cursors.{CursorSet, Open, CursorHandle, Updates, after_showing, held, in_slot, next_changes}

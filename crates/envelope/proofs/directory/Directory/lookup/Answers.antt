@@ -1,5 +1,5 @@
 use Rattle.std.proofs.Common.{◌∙◌, sym, ap}
-use Rattle.envelope.specs.Directory.{numbered, wanted, lookup}
+use Rattle.envelope.specs.Names.{numbered, wanted, lookup}
 use Rattle.envelope.specs.Values.{forward_path}
 use Rattle.envelope.proofs.directory.Directory.lookup.Goals as goal
 

@@ -1,5 +1,5 @@
 use Rattle.std.proofs.Common.{◌∙◌, ap}
-use Rattle.envelope.specs.Directory.{Home}
+use Rattle.envelope.specs.Names.{Home}
 use Rattle.envelope.specs.LocalPart.{value_left}
 use Rattle.envelope.specs.inner.Tag.{tag_of}
 use Rattle.envelope.proofs.Tags.{passed_over}

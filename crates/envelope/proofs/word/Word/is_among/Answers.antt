@@ -3,8 +3,7 @@ use Rattle.std.specs.Prelude.{map}
 use Rattle.std.specs.List.{list_any}
 use Rattle.std.proofs.lemmas.Iterator.{YieldsList-from_slice}
 use Rattle.std.proofs.lemmas.Iterator.Search.{any_from_yields_List}
-use Rattle.envelope.specs.Directory.{is_home}
-use Rattle.envelope.specs.Names.{home_of}
+use Rattle.envelope.specs.Names.{is_home, home_of}
 use Rattle.envelope.specs.Word.{word_home}
 use Rattle.envelope.proofs.Cut.{list_any-map}
 use Rattle.envelope.proofs.word.Word.is_among.Goals as goal

@@ -3,7 +3,7 @@ use Rattle.delivery_core.proofs.Follow.{get_or-any}
 use Rattle.imap_session.specs.Exchange.{Folder}
 use Rattle.imap_session.specs.Folders.{has_user}
 use Rattle.house_peers.specs.SeatedSession.{SeatedSession, StandsForSeated}
-use Rattle.house_peers.specs.SeatedVisitor.{seated_greeted}
+use Rattle.house_peers.specs.Visitor.{seated_greeted}
 use Rattle.house.specs.House.{House}
 use Rattle.house.specs.Setup.{session_seat}
 use Rattle.house.specs.Scene.{EnterPlay, most_serials}

@@ -1,5 +1,5 @@
 use Rattle.std.proofs.Common.{◌∙◌, ℕ, ap, arith, subst, sym}
-use Rattle.envelope.specs.Directory.{Directory, is_shut}
+use Rattle.envelope.specs.Names.{Directory, is_shut}
 use Rattle.house.specs.House.{House}
 use Rattle.house.specs.Stands.{StandsFor}
 use Rattle.house.proofs.Closing.{close_led}

@@ -1,5 +1,5 @@
 use Rattle.std.proofs.Common.{◌≡◌, ◌<◌, ℕ, ap, sym, ◌∙◌, arith}
-use Rattle.envelope.specs.Directory.{Directory, is_shut}
+use Rattle.envelope.specs.Names.{Directory, is_shut}
 use Rattle.house.specs.House.{House}
 use Rattle.house.specs.inner.Trying.{closes}
 use Rattle.house.proofs.Closing.{closes_step, closes_wants}

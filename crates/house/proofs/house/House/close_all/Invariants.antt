@@ -1,5 +1,5 @@
 use Rattle.std.proofs.Common.{◌≡◌}
-use Rattle.envelope.specs.Directory.{is_shut}
+use Rattle.envelope.specs.Names.{is_shut}
 use Rattle.house.specs.inner.Trying.{DidStints, closes}
 use Rattle.house.proofs.house.House.close_all.Given as goal
 

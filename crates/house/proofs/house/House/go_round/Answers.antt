@@ -1,4 +1,4 @@
-use Rattle.envelope.specs.Directory.{is_shut}
+use Rattle.envelope.specs.Names.{is_shut}
 use Rattle.house.specs.Settled.{is_held}
 use Rattle.house.proofs.Settlement.{first_breaks, first_wants, round_of, second_wants, then_puts, then_serves, third_wants, visits_wanting}
 use Rattle.house.proofs.house.House.go_round.Goals as goal

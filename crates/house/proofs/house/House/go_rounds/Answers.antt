@@ -1,5 +1,5 @@
 use Rattle.std.proofs.Common.{◌∙◌, subst}
-use Rattle.envelope.specs.Directory.{Directory, is_shut}
+use Rattle.envelope.specs.Names.{Directory, is_shut}
 use Rattle.house.specs.Settled.{is_held}
 use Rattle.house.proofs.Settlement.{DidRound, WantsRound, on_err, round_again, rounds_done, rounds_want, same_marks}
 use Rattle.house.proofs.house.House.go_rounds.Goals as goal

@@ -1,5 +1,5 @@
 use Rattle.std.proofs.Common.{◌≡◌}
-use Rattle.envelope.specs.Directory.{is_shut}
+use Rattle.envelope.specs.Names.{is_shut}
 use Rattle.house.specs.Effort.{effort}
 use Rattle.house.specs.Setup.{Setup}
 use Rattle.house.specs.Scene.{Scene}

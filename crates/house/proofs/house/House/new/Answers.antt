@@ -1,7 +1,6 @@
 use Rattle.std.proofs.Common.{◌≡◌, ℕ, length, map, ap, ◌∙◌, refl, sym}
 use Rattle.std.proofs.lemmas.List.{length-map}
-use Rattle.envelope.specs.Directory.{Directory}
-use Rattle.envelope.specs.Names.{home_of}
+use Rattle.envelope.specs.Names.{Directory, home_of}
 use Rattle.house.specs.Setup.{setup_of}
 use Rattle.settings.specs.Settings.{words_of}
 use Rattle.house.proofs.NewHouse.{new_house}

@@ -1,7 +1,7 @@
 use Rattle.std.proofs.Common.{◌≡◌, true, false, ◌∙◌, ◌+◌, ◌*◌, ◌≤◌, refl, ap, sym, subst, take, drop, List, ℕ, length, Option, None, Some, take-append-drop}
 use Rattle.std.specs.Option.{ok_or}
 use Rattle.std.specs.Prelude.{IfOk, OnErr, Result}
-use Rattle.envelope.specs.Directory.{Directory}
+use Rattle.envelope.specs.Names.{Directory}
 use Rattle.lmtp_machine.specs.LmtpMachine.{StandsFor}
 use Rattle.lmtp_machine.specs.Dialogue.{Submission}
 use Rattle.lmtp_machine.specs.declared.connection.What.{What}

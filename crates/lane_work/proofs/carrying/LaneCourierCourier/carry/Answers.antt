@@ -4,7 +4,7 @@ use Rattle.delivery_token.specs.declared.Job.{Job}
 use Rattle.delivery_token.specs.declared.Verdict.{Verdict}
 use Rattle.shard_queue.specs.Reply.{received}
 use Rattle.lane_work.specs.Permits.{put_by}
-use Rattle.lane_work.specs.Copies.{rooms_of}
+use Rattle.lane_work.specs.Account.{rooms_of}
 use Rattle.lane_work.proofs.CarryLaws.{carries_more}
 use Rattle.lane_work.proofs.CopyLaws.{carried_more}
 use Rattle.lane_work.proofs.carrying.LaneCourierCourier.carry.Goals as goal

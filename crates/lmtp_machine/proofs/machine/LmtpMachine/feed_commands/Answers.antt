@@ -1,15 +1,13 @@
 use Rattle.std.proofs.Common.{◌≡◌, ℕ, ◌+◌, ◌<◌, ◌++◌, List, [], ◌∷◌, take, length, ap, sym, subst, ◌∙◌, Some}
 use Rattle.std.specs.Option.{option_map, option_to_list}
-use Rattle.line_io.specs.Cutting.{Tells}
-use Rattle.line_io.specs.Cutting.{StandsFor as HasTaken}
+use Rattle.line_io.specs.Cutting.{Tells, StandsFor as HasTaken}
 use Rattle.line_io.specs.declared.What.{What as Found}
-use Rattle.dot_stuffing.specs.Unstuffing.{IsBehind, Unstuffer}
-use Rattle.dot_stuffing.specs.Unstuffing.{StandsFor as HasUnstuffed}
+use Rattle.dot_stuffing.specs.Unstuffing.{IsBehind, Unstuffer, StandsFor as HasUnstuffed}
 use Rattle.lmtp_machine.specs.contracts.machine.LmtpMachine.{the_view}
 use Rattle.lmtp_machine.specs.declared.commands.Stage.{Stage}
 use Rattle.lmtp_machine.specs.declared.machine.LmtpMachine.TheInside.{Inside}
 use Rattle.lmtp_machine.specs.declared.reply.Reply.TheVariants.{LineTooLong}
-use Rattle.lmtp_machine.specs.Replies.{wire}
+use Rattle.lmtp_machine.specs.Dialogue.{wire}
 use Rattle.lmtp_machine.specs.Standing.{IsOpen}
 use Rattle.lmtp_machine.specs.LmtpMachine.{LmtpMachine}
 use Rattle.lmtp_machine.specs.Message.{return_path}

@@ -1,9 +1,8 @@
-use Rattle.std.proofs.Common.{[], List, subst}
-use Rattle.std.proofs.Common.{◌≡◌, ◌++◌, IfOk}
+use Rattle.std.proofs.Common.{[], List, subst, ◌≡◌, ◌++◌, IfOk}
 use mathlib.Core.List.{IsPrefix}
 use Rattle.change_ring.specs.Log.{view_at}
 use Rattle.cursor_set.specs.Lines.{lines}
-use Rattle.mailbox.specs.Stands.{next_of}
+use Rattle.mailbox.specs.Mailbox.{next_of}
 use Rattle.house_history.specs.declared.event.Event.{Event}
 use Rattle.house_history.specs.Events.{changes_in}
 use Rattle.locked_mailbox.specs.Locking.{LockedMailbox, Knows}

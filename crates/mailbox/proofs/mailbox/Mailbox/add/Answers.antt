@@ -2,8 +2,7 @@ use Rattle.std.proofs.Common.{◌≡◌, ◌+◌, ◌<◌, ℕ, List, [], ◌∷
 use Rattle.change_ring.specs.declared.change.Change.{Change}
 use Rattle.change_ring.specs.declared.change.Change.TheVariants.{Add}
 use Rattle.delivery_token.specs.declared.CopyKey.{CopyKey}
-use Rattle.mailbox.specs.Mailbox.{Mailbox, next_uid, uids_of}
-use Rattle.mailbox.specs.Stands.{Stands}
+use Rattle.mailbox.specs.Mailbox.{Mailbox, next_uid, uids_of, Stands}
 use Rattle.mailbox.specs.inner.Seen.{mail_of}
 use Rattle.mailbox.proofs.StandsLaws.{Stands-below, Stands-deliver, Stands-rising}
 use Rattle.mailbox.proofs.mailbox.Mailbox.add.Goals as goal

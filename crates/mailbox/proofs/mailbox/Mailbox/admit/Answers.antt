@@ -1,6 +1,6 @@
 use Rattle.std.proofs.Common.{◌≡◌, ap, arith}
 use Rattle.std.specs.Prelude.{None, option_map, Some, Option, List, ℕ}
-use Rattle.change_ring.specs.Window.{total}
+use Rattle.change_ring.specs.Log.{total}
 use Rattle.cursor_set.specs.Cursors.{Open, held}
 use Rattle.cursor_set.proofs.OpenedLemmas.{held_in_slot}
 use Rattle.mailbox.specs.Mailbox.{Mailbox}

@@ -1,7 +1,6 @@
 use Rattle.std.proofs.Common.{◌≡◌, ◌+◌, ◌^◌, ◌≤◌, ◌∙◌, ℕ, Bool, true, false, length, ap, sym, subst, refl, arith}
 use Rattle.std.specs.Prelude.{◌↔◌, IsTrue}
-use Rattle.change_ring.specs.Logged.{discards}
-use Rattle.change_ring.specs.Window.{total}
+use Rattle.change_ring.specs.Log.{discards, total}
 use Rattle.mailbox.specs.inner.Choices.{passes}
 use Rattle.mailbox.specs.Mailbox.{Mailbox, rows}
 use Rattle.mailbox.proofs.DoomLaws.{few_discards, length_discards}

@@ -1,5 +1,5 @@
 use Rattle.std.proofs.Common.{ap, arith, leb-true, le-leb}
-use Rattle.change_ring.specs.Window.{total}
+use Rattle.change_ring.specs.Log.{total}
 use Rattle.mailbox.specs.Mailbox.{Mailbox}
 use Rattle.mailbox.proofs.MessageLaws.{count_seen}
 use Rattle.mailbox.proofs.mailbox.Mailbox.cannot_mark.Goals as goal

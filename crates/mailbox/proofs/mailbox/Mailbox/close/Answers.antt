@@ -2,9 +2,8 @@ use Rattle.std.proofs.Common.{◌≡◌, ◌∙◌, List, ap, sym, subst}
 use Rattle.std.specs.Prelude.{Result, Ok, Err, None, IfErr, OnOk}
 use Rattle.change_ring.specs.declared.change.Change.{Change}
 use Rattle.cursor_set.specs.Cursors.{CursorSet, CursorHandle, Updates, held}
-use Rattle.mailbox.specs.Mailbox.{Mailbox}
+use Rattle.mailbox.specs.Mailbox.{Mailbox, Stands}
 use Rattle.mailbox.specs.inner.Seen.{mail_of}
-use Rattle.mailbox.specs.Stands.{Stands}
 use Rattle.mailbox.proofs.StandsLaws.{Stands-close}
 use Rattle.mailbox.proofs.mailbox.Mailbox.close.Goals as goal
 

@@ -1,6 +1,6 @@
 use Rattle.std.proofs.Common.{ap, sym, ◌∙◌, length, List, ℕ}
 use Rattle.std.specs.Prelude.{count_by}
-use Rattle.change_ring.specs.Logged.{removals}
+use Rattle.change_ring.specs.Log.{removals}
 use Rattle.mailbox.specs.inner.Choices.{passes}
 use Rattle.mailbox.specs.Mailbox.{Mailbox, rows}
 use Rattle.mailbox.specs.inner.Marks.{marked_of}

@@ -5,8 +5,7 @@ use Rattle.change_ring.specs.declared.ring.Spent.{Spent}
 use Rattle.change_ring.specs.declared.change.Change.TheVariants.{Add}
 use Rattle.change_ring.specs.declared.change.Flags.{Flags}
 use Rattle.change_ring.specs.declared.flag_op.FlagOp.TheVariants.{Set}
-use Rattle.change_ring.specs.Log.{no_flags}
-use Rattle.change_ring.specs.Logged.{flags_logged, new_flags}
+use Rattle.change_ring.specs.Log.{no_flags, flags_logged, new_flags}
 use Rattle.cursor_set.specs.Cursors.{CursorSet}
 use Rattle.delivery_token.specs.Text.{Text}
 use Rattle.mailbox.specs.Events.{Logs, Moves}

@@ -1,7 +1,6 @@
 use Rattle.std.proofs.Common.{ℕ, Bool, ◌++◌, subst}
-use Rattle.change_ring.specs.Logged.{discards}
-use Rattle.mailbox.specs.Mailbox.{rows}
-use Rattle.mailbox.specs.Stands.{Stands}
+use Rattle.change_ring.specs.Log.{discards}
+use Rattle.mailbox.specs.Mailbox.{rows, Stands}
 use Rattle.mailbox.proofs.mailbox.Mailbox.discard.Goals as goal
 
 pub returns-clause-logged : goal.returns-clause-logged

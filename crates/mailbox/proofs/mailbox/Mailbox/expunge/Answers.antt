@@ -3,13 +3,11 @@ use Rattle.std.specs.Prelude.{◌↔◌, IsTrue, option_map, IfSome}
 use Rattle.std.proofs.lemmas.Bool.{cases_lt}
 use Rattle.std.proofs.lemmas.List.{take_all}
 use Rattle.change_ring.specs.declared.change.Change.{Change}
-use Rattle.change_ring.specs.Logged.{removals}
-use Rattle.change_ring.specs.Window.{changes_from, total}
+use Rattle.change_ring.specs.Log.{removals, changes_from, total}
 use Rattle.cursor_set.specs.Lines.{lines}
 use Rattle.cursor_set.specs.Cursors.{CursorSet, Open, Updates, after_showing, held}
 use Rattle.mailbox.specs.inner.Choices.{passes}
-use Rattle.mailbox.specs.Mailbox.{Mailbox, rows}
-use Rattle.mailbox.specs.Stands.{Stands}
+use Rattle.mailbox.specs.Mailbox.{Mailbox, rows, Stands}
 use Rattle.mailbox.proofs.mailbox.Mailbox.expunge.Goals as goal
 
 -- the log has no room for n changes more

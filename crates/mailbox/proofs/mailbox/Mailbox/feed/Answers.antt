@@ -1,13 +1,11 @@
 use Rattle.std.proofs.Common.{rules, ◌≡◌, ◌≤◌, ◌-◌, ℕ, List, ◌++◌, Ok, Err, Some, IsSome, is_some, ap, subst, sym, ◌∙◌, inl, inr, arith, length, length-take, length-drop}
 use Rattle.std.proofs.lemmas.Bool.{cases_lt}
-use Rattle.change_ring.specs.Log.{view_at}
-use Rattle.change_ring.specs.Window.{total, changes_from}
+use Rattle.change_ring.specs.Log.{view_at, total, changes_from}
 use Rattle.cursor_set.specs.Lines.{lines}
 use Rattle.cursor_set.specs.Cursors.{Open, Updates, after_showing, held, next_changes}
 use Rattle.cursor_set.proofs.OpenedLemmas.{held_in_slot}
 use Rattle.change_ring.specs.declared.change.Change.{Change}
-use Rattle.mailbox.specs.Mailbox.{Mailbox}
-use Rattle.mailbox.specs.Stands.{Stands, next_of}
+use Rattle.mailbox.specs.Mailbox.{Mailbox, Stands, next_of}
 use Rattle.mailbox.specs.inner.Seen.{mail_of}
 use Rattle.mailbox.proofs.Handles.{held_at, held_some}
 use Rattle.mailbox.proofs.StandsLaws.{Stands-feed, lines-log, pending-legal}

@@ -1,5 +1,5 @@
 use Rattle.std.proofs.Common.{◌≡◌, [], ap, length, arith}
-use Rattle.change_ring.specs.Window.{Window}
+use Rattle.change_ring.specs.Log.{Window}
 use Rattle.cursor_set.specs.Cursors.{CursorSet}
 use Rattle.mailbox.proofs.StandsLaws.{Stands-new}
 use Rattle.mailbox.proofs.mailbox.Mailbox.new.Goals as goal

@@ -1,8 +1,7 @@
 use Rattle.std.proofs.Common.{rules, ◌≡◌, ℕ, List, Some, subst, sym, ◌∙◌}
-use Rattle.change_ring.specs.Window.{total}
+use Rattle.change_ring.specs.Log.{total}
 use Rattle.cursor_set.specs.Cursors.{Updates}
-use Rattle.mailbox.specs.Mailbox.{Mailbox, uids_of}
-use Rattle.mailbox.specs.Stands.{Stands}
+use Rattle.mailbox.specs.Mailbox.{Mailbox, uids_of, Stands}
 use Rattle.mailbox.specs.inner.Seen.{mail_of}
 use Rattle.mailbox.proofs.Handles.{known_by}
 use Rattle.mailbox.proofs.StandsLaws.{Stands-enter}

@@ -1,7 +1,7 @@
 use Rattle.std.proofs.Common.{◌≡◌, ℕ, Bool, Some, refl, ap, subst, sym, ◌∙◌, length, arith}
 use Rattle.std.specs.Prelude.{None, option_map, if◌then◌else◌}
 use Rattle.change_ring.specs.declared.change.Flags.{Flags}
-use Rattle.change_ring.specs.Logged.{flags_after, seen_logged}
+use Rattle.change_ring.specs.Log.{flags_after, seen_logged}
 use Rattle.delivery_token.specs.Text.{Text}
 use Rattle.mailbox.specs.Events.{Moves, mark, was_logged}
 use Rattle.mailbox.specs.declared.clients.Row.{Row}

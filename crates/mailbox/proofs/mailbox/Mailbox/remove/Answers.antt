@@ -1,15 +1,13 @@
 use Rattle.std.proofs.Common.{◌≡◌, ◌+◌, ℕ, List, [], ◌++◌, length, map, refl, ap, sym, subst, ◌∙◌, arith}
 use Rattle.change_ring.specs.declared.change.Change.{Change}
-use Rattle.change_ring.specs.Logged.{removals}
-use Rattle.change_ring.specs.Window.{total}
+use Rattle.change_ring.specs.Log.{removals, total}
 use Rattle.cursor_set.proofs.Positions.{Rises-from}
 use Rattle.mailbox.specs.inner.Choices.{passes}
 use Rattle.mailbox.specs.Events.{Moves}
 use Rattle.mailbox.specs.inner.Events.{GoesOn}
-use Rattle.mailbox.specs.Mailbox.{Mailbox, remaining, row_of, rows, uids_of}
+use Rattle.mailbox.specs.Mailbox.{Mailbox, remaining, row_of, rows, uids_of, Stands}
 use Rattle.mailbox.specs.inner.Marks.{gone_of}
 use Rattle.mailbox.specs.inner.Seen.{mail_of}
-use Rattle.mailbox.specs.Stands.{Stands}
 use Rattle.mailbox.proofs.MarkLaws.{length_remaining}
 use Rattle.mailbox.proofs.RemovalLaws.{gone_adds, removals_fit, rows_removed}
 use Rattle.mailbox.proofs.StandsLaws.{Stands-changed, Stands-rising}

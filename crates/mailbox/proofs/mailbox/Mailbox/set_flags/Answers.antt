@@ -5,14 +5,12 @@ use Rattle.change_ring.specs.declared.change.Change.{Change}
 use Rattle.change_ring.specs.declared.change.Change.TheVariants.{Flags as SetFlags}
 use Rattle.change_ring.specs.declared.change.Flags.{Flags}
 use Rattle.change_ring.specs.declared.flag_op.FlagOp.{FlagOp}
-use Rattle.change_ring.specs.Logged.{flags_after, flags_differ, flags_logged}
-use Rattle.change_ring.specs.Window.{total}
+use Rattle.change_ring.specs.Log.{flags_after, flags_differ, flags_logged, total}
 use Rattle.cursor_set.proofs.Positions.{Rises-from}
 use Rattle.mailbox.specs.Events.{Moves, was_logged}
 use Rattle.mailbox.specs.inner.Letters.{reflagged}
-use Rattle.mailbox.specs.Mailbox.{Mailbox, Message, flagged, message_with, row_of, rows, uids_of}
+use Rattle.mailbox.specs.Mailbox.{Mailbox, Message, flagged, message_with, row_of, rows, uids_of, Stands}
 use Rattle.mailbox.specs.inner.Seen.{mail_of}
-use Rattle.mailbox.specs.Stands.{Stands}
 use Rattle.mailbox.specs.inner.Stands.{IsSound}
 use Rattle.mailbox.specs.declared.mailbox.Mailbox.TheInside.{Inside as kept_mail}
 use Rattle.mailbox.proofs.MarkLaws.{length_reflagged}

@@ -4,7 +4,7 @@ use Rattle.mailbox.specs.Events.{Moves}
 use Rattle.mailbox.specs.Mailbox.{Message, message_with, rows}
 use Rattle.mailbox.proofs.MessageLaws.{flags_stored, flagged_none, logged_none, none_found}
 use Rattle.mailbox.proofs.StandsLaws.{Logs-nothing}
-use Rattle.change_ring.specs.Logged.{flags_logged}
+use Rattle.change_ring.specs.Log.{flags_logged}
 use Rattle.mailbox.proofs.mailbox.Mailbox.store.Goals as goal
 
 none : (c : goal.In_default) → message_with c.args.uid c.args.self.now.messages ≡ None

@@ -1,15 +1,13 @@
 use Rattle.std.proofs.Common.{◌≡◌, ◌+◌, ℕ, Bool, List, [], ◌++◌, length, map, refl, ap, sym, subst, ◌∙◌, arith, Some}
 use Rattle.change_ring.specs.declared.change.Change.{Change}
-use Rattle.change_ring.specs.Logged.{discards, removals}
-use Rattle.change_ring.specs.Window.{total}
+use Rattle.change_ring.specs.Log.{discards, removals, total}
 use Rattle.cursor_set.proofs.Positions.{Rises-from}
 use Rattle.mailbox.specs.inner.Choices.{passes}
 use Rattle.mailbox.specs.Events.{Moves, in_set}
 use Rattle.mailbox.specs.inner.Events.{GoesOn}
-use Rattle.mailbox.specs.Mailbox.{Mailbox, Message, remaining, row_of, rows, uids_of, without}
+use Rattle.mailbox.specs.Mailbox.{Mailbox, Message, remaining, row_of, rows, uids_of, without, Stands}
 use Rattle.mailbox.specs.inner.Marks.{doomed, gone_of, marked_of}
 use Rattle.mailbox.specs.inner.Seen.{mail_of}
-use Rattle.mailbox.specs.Stands.{Stands}
 use Rattle.mailbox.proofs.DoomLaws.{doomed_left, doomed_logged, length_without}
 use Rattle.mailbox.proofs.RemovalLaws.{discards_add, discards_fit, rows_discarded}
 use Rattle.mailbox.proofs.StandsLaws.{Stands-changed, Stands-rising}

@@ -1,7 +1,7 @@
 use Rattle.std.proofs.Common.{◌≡◌, ◌∙◌, Some, List, ap, sym, subst}
 use Rattle.std.specs.Prelude.{option_map}
 use Rattle.change_ring.specs.declared.change.Flags.{Flags}
-use Rattle.change_ring.specs.Logged.{flags_after}
+use Rattle.change_ring.specs.Log.{flags_after}
 use Rattle.cursor_set.proofs.Positions.{Rises-from}
 use Rattle.mailbox.specs.inner.Letters.{reflagged}
 use Rattle.mailbox.specs.inner.Marks.{doom}

@@ -1,5 +1,5 @@
 use Rattle.std.proofs.Common.{◌-◌, ◌≤◌, sym, subst, arith}
-use Rattle.change_ring.specs.Window.{total}
+use Rattle.change_ring.specs.Log.{total}
 use Rattle.cursor_set.specs.Cursors.{CursorHandle}
 use Rattle.cursor_set.proofs.KnownLaws.{IsKnownTo, known_after}
 use Rattle.tests_mail.proofs.tests.cursors.feed_each.Goals as goal
