@@ -62,7 +62,7 @@ leads_to now (Heard verdict answers) = turn_of_verdict now verdict answers
 -- the bytes of the client that are answered so
 abbrev pub IsSentFor : Happening → List ℕ → Type 0
 IsSentFor (Line line answers) bytes = bytes ≡ line ++ crlf
-IsSentFor LongLine bytes = (line : List ℕ) × (most_bytes < length line + 2) × (bytes ≡ line ++ crlf)
+IsSentFor LongLine bytes = (line : List ℕ) × (most_bytes < length line + 2) × IsUncut line × (bytes ≡ line ++ crlf)
 IsSentFor (Literal kept literal) bytes = bytes ≡ literal
 IsSentFor (Turned answers) bytes = bytes ≡ []
 IsSentFor (Heard verdict answers) bytes = bytes ≡ []

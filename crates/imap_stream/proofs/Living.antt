@@ -149,7 +149,7 @@ one_went : (now next : Standing) (one : Sends) (old new : LockedStore) (said : L
 one_went now next (dialogue.Line line) old new said how (goes, due, dialogue.reads short a, uncut) =
     went_turn now old (talk.Line line a.answers) (line ++ crlf) (record { events = a.events; bytes = a.bytes; after = how; standing = next }) new said next (goes, due, short, uncut) refl tt a.played a.met a.wrote refl
 one_went now next (dialogue.Line line) old new said how (goes, due, dialogue.too_long long same wrote after is, uncut) =
-    went_turn now old talk.LongLine (line ++ crlf) (turn_of_long_line now) new said next (goes, due) (line, long, refl) tt refl same wrote is
+    went_turn now old talk.LongLine (line ++ crlf) (turn_of_long_line now) new said next (goes, due) (line, long, uncut, refl) tt refl same wrote is
 one_went now next (dialogue.Bytes bytes) old new said how t =
     let kept : Bool = t.takes.0 in
     let after : Standing = with_bytes kept bytes now in

@@ -23,7 +23,8 @@ use Rattle.lane_work.specs.declared.outcome.TalkFault.{TalkFault}
 use Rattle.lane_work.specs.declared.outcome.TalkFault.TheVariants.{Read, Write, NoMemory, Torn}
 use Rattle.lane_work.specs.declared.piece.Next.TheVariants as nexts
 use Rattle.lane_work.specs.inner.Pieces.{TookPiece, SaidByThen}
-use Rattle.lane_work.specs.Streaming.{AreSent, AreCutShort, AreGivenUp, SaysLast, EndsBy, IsPlayed, last_words}
+use Rattle.lane_work.specs.Streaming.{AreSent, AreCutShort, AreGivenUp, SaysLast, EndsBy, IsPlayed}
+use Rattle.lane_work.specs.Talk.{last_words}
 use Rattle.lane_work.proofs.LastWords.{goes_on}
 
 -- Between two reads: `told` was sent, and `out` is still to be sent. All that came was taken, where the dialogue goes on.

@@ -10,7 +10,7 @@ use Rattle.lmtp_machine.specs.Dialogue.{Phase, Start, Ready, Transaction, Data, 
 use Rattle.lmtp_machine.specs.Dialogue as on
 use Rattle.lmtp_machine.specs.LmtpMachine.{LmtpMachine, StandsFor, IsHere, is_data}
 use Rattle.lmtp_machine.specs.Standing.{phase_of}
-use Rattle.lane_work.specs.Streaming.{last_words}
+use Rattle.lane_work.specs.Talk.{last_words}
 
 -- a machine that has ended stands for a dialogue that has ended
 pub has_ended : (m : LmtpMachine) (c : Conversation) → m.commands.stage ≡ stages.Ended → StandsFor m c → c.standing.phase ≡ Ended

@@ -5,25 +5,15 @@ use Rattle.delivery_token.specs.declared.Job.{Job}
 use Rattle.delivery_token.specs.declared.Verdict.{Verdict}
 use Rattle.delivery_token.specs.declared.log.Noted.{Noted}
 use Rattle.lmtp_machine.specs.declared.reply.Reply.{Reply}
-use Rattle.lmtp_machine.specs.declared.reply.Reply.TheVariants.{ShuttingDown}
 use Rattle.lmtp_machine.specs.Conversation.{Conversation}
-use Rattle.lmtp_machine.specs.Dialogue.{Phase, Start, Ready, Transaction, Data, Waiting, Ended, Setting, wire}
+use Rattle.lmtp_machine.specs.Dialogue.{Phase, Ended, Setting, wire}
 use Rattle.shard_queue.specs.declared.lane.Entry.{Entry}
-use Rattle.lane_work.specs.Talk.{Judged, HasTaken}
+use Rattle.lane_work.specs.Talk.{Judged, HasTaken, last_words}
 use Rattle.lane_work.specs.Account.{AreBooks, Premises}
 use Rattle.lane_work.specs.declared.outcome.Ending.{Ending}
 use Rattle.lane_work.specs.declared.outcome.Ending.TheVariants.{Quit, Gone, Stopped}
 use Rattle.lane_work.specs.declared.outcome.TalkFault.{TalkFault}
 use Rattle.lane_work.specs.declared.outcome.TalkFault.TheVariants.{Read, Write, NoMemory, Torn}
-
--- What a house that stops says last: that it shuts down (RFC 5321, 3.8). Within a message's data, and where the dialogue has ended, it says nothing.
-abbrev pub last_words : Phase → List Reply
-last_words Start = ShuttingDown ∷ []
-last_words Ready = ShuttingDown ∷ []
-last_words (Transaction sender recipients) = ShuttingDown ∷ []
-last_words (Data sender recipients lines) = []
-last_words (Waiting count) = ShuttingDown ∷ []
-last_words Ended = []
 
 -- What a sink has taken before and after, where it tells that, and whether it has failed then.
 module _ (before after : Option (List ℕ)) (failed : Bool) where

@@ -3,8 +3,8 @@ use Rattle.std.specs.Prelude.{◌≡◌, ◌⊎◌, ℕ, List, [], ◌∷◌, �
 use Rattle.delivery_token.specs.declared.Verdict.{Verdict}
 use Rattle.envelope.specs.Names.{Directory}
 use Rattle.lmtp_machine.specs.declared.reply.Reply.{Reply}
-use Rattle.lmtp_machine.specs.declared.reply.Reply.TheVariants.{Greeting}
-use Rattle.lmtp_machine.specs.Dialogue.{Event, Setting, Submission, Turn, Ended, dialogue, verdict_reply}
+use Rattle.lmtp_machine.specs.declared.reply.Reply.TheVariants.{Greeting, ShuttingDown}
+use Rattle.lmtp_machine.specs.Dialogue.{Event, Setting, Submission, Turn, Ended, dialogue, verdict_reply, Phase, Start, Ready, Transaction, Data, Waiting}
 use Rattle.lmtp_machine.specs.Dialogue as on
 use Rattle.lmtp_machine.specs.Conversation.{Conversation, Leads, led_by, opened, IsQuiet}
 
@@ -41,3 +41,12 @@ module _ (setting : Setting) (directory : Directory) where
     pub whole : bytes ≡ taken ++ left
     pub talk : HasTaken setting directory taken said judged last
     pub ended : (left ≡ []) ⊎ (last.standing.phase ≡ Ended)
+
+-- What a house that stops says last: that it shuts down (RFC 5321, 3.8). Within a message's data, and where the dialogue has ended, it says nothing.
+abbrev pub last_words : Phase → List Reply
+last_words Start = ShuttingDown ∷ []
+last_words Ready = ShuttingDown ∷ []
+last_words (Transaction sender recipients) = ShuttingDown ∷ []
+last_words (Data sender recipients lines) = []
+last_words (Waiting count) = ShuttingDown ∷ []
+last_words Ended = []

@@ -5,7 +5,8 @@ ghost use Rattle.std.specs.Prelude.{◌≡◌, ◌≢◌, ◌++◌, false, true,
 ghost use Rattle.lmtp_machine.specs.Conversation.{Conversation};
 ghost use Rattle.lmtp_machine.specs.LmtpMachine.{StandsFor};
 ghost use Rattle.lmtp_machine.specs.Dialogue.{wire};
-ghost use Rattle.lane_work.specs.Streaming.{AreGivenUp, SaysLast, last_words};
+ghost use Rattle.lane_work.specs.Streaming.{AreGivenUp, SaysLast};
+ghost use Rattle.lane_work.specs.Talk.{last_words};
 
 use crate::outcome::{Ending, TalkFault};
 use line_io::{Sink, send};

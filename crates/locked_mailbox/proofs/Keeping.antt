@@ -3,7 +3,7 @@ use Rattle.std.proofs.Common.{◌≡◌, ℕ, ◌<◌, ◌==◌, ◌&&◌, Bool,
 use mathlib.Core.Bool.{cond, false≢true}
 use mathlib.Core.List.{IsPrefix}
 use Rattle.std.proofs.lemmas.List.{append-nil, get_or-set_same, get_or-set_other}
-use Rattle.std.proofs.lemmas.List.Elements.{All-filter, All-map, All-push, All-weaker, Contains-push}
+use Rattle.std.proofs.lemmas.List.Elements.{All-filter, All-map, All-push, All-weaker, Contains-push, filter-append}
 use Rattle.change_ring.specs.declared.change.Change.{Change}
 use Rattle.change_ring.specs.declared.change.Flags.{Flags}
 use Rattle.change_ring.specs.declared.flag_op.FlagOp.{FlagOp}
@@ -194,17 +194,22 @@ deliver_keeps found left n events last j t (Err why) does kept here within up = 
 prefix_trans : (a b c : List Event) → IsPrefix a b → IsPrefix b c → IsPrefix a c
 prefix_trans a b c p q = (p.0 ++ q.0, sym (append_assoc a p.0 q.0) ∙ (ap (λ (l : List Event). l ++ q.0) p.1 ∙ q.1))
 
+-- what had been seen of a mailbox begins what is seen of it now
+part_grows : (n : ℕ) (before after events : List Event) → IsPrefix before after → part concerns n after ≡ events → IsPrefix (part concerns n before) events
+part_grows n before after events p e = (part concerns n p.0, sym (filter-append (concerns n) before p.0) ∙ (ap (part concerns n) p.1 ∙ e))
+
 abbrev pub held : Mailbox → List Event → List (Option CopyKey) → List Event → LockedMailbox
 held m events last history = record { mailbox = m; events = events; last = last; history = history }
 
 knows : (found left : Mailbox) (n : ℕ) (es said : List Event) (last : List (Option CopyKey)) (h before after : List Event) → Keeps found n es last → Keeps left n (es ++ said) last → IsPrefix before after → Legal after
-    → part concerns n after ≡ es ++ said → Knows (held found es last h) (held left (es ++ said) last h) said before after
-knows found left n es said last h before after kept keeps goes legal own = record {
+    → IsPrefix (part concerns n before) es → part concerns n after ≡ es ++ said → Knows (held found es last h) (held left (es ++ said) last h) said before after
+knows found left n es said last h before after kept keeps goes legal seen own = record {
   goes_on = goes;
   legal = legal;
   same = sym keeps.here ∙ kept.here;
   last = refl;
   history = refl;
+  seen = subst (λ (i : ℕ). IsPrefix (part concerns i before) es) kept.here seen;
   events = refl;
   own = subst (λ (i : ℕ). part concerns i after ≡ es ++ said) kept.here own;
   all = subst (λ (i : ℕ). changes_in i after ≡ changes_in i (es ++ said)) kept.here (changes_own n after (es ++ said) own);
@@ -227,7 +232,7 @@ looked_knows found left p looked last h before after same kept keeps seen =
     let all : p.events ≡ p.events ++ [] = sym (append-nil p.events) in
     let is : looked.events ≡ p.events ++ [] = ap (λ (r : MailboxPart). r.events) same ∙ all in
     subst (λ (l : List Event). Knows (held found p.events last h) (held left l last h) [] before after) (sym is)
-    (knows found left p.number p.events [] last h before after kept (subst (λ (l : List Event). Keeps left p.number l last) all keeps) seen.0 seen.1 (seen.2 ∙ all))
+    (knows found left p.number p.events [] last h before after kept (subst (λ (l : List Event). Keeps left p.number l last) all keeps) seen.0 seen.1 (part_grows p.number before after p.events seen.0 seen.2) (seen.2 ∙ all))
 
 -- where an event was
 pub changed_keeps : (left : Mailbox) (p looked next : MailboxPart) (last : List (Option CopyKey)) (s : Step) → looked ≡ p → (next.number ≡ looked.number) × (next.events ≡ looked.events ++ Changed looked.number s ∷ [])
@@ -238,7 +243,8 @@ changed_keeps left p looked next last s same went keeps =
 
 pub changed_knows : (found left : Mailbox) (p looked next : MailboxPart) (last : List (Option CopyKey)) (s : Step) (h before between after : List Event) → looked ≡ p
     → (next.number ≡ looked.number) × (next.events ≡ looked.events ++ Changed looked.number s ∷ []) → Keeps found p.number p.events last → Keeps left p.number (p.events ++ Changed p.number s ∷ []) last
-    → IsPrefix before between → IsPrefix between after × Legal after → part concerns looked.number after ≡ next.events
+    → IsPrefix before between × Legal between × (part concerns p.number between ≡ p.events) → IsPrefix between after × Legal after
+    → part concerns looked.number after ≡ next.events
     → Knows (held found p.events last h) (held left next.events last h) (Changed found.number s ∷ []) before after
 changed_knows found left p looked next last s h before between after same went kept keeps first goes own =
     let said : List Event = Changed p.number s ∷ [] in
@@ -246,7 +252,8 @@ changed_knows found left p looked next last s h before between after same went k
     let here : part concerns p.number after ≡ p.events ++ said = subst (λ (r : MailboxPart). part concerns r.number after ≡ next.events) same own ∙ is in
     subst (λ (n : ℕ). Knows (held found p.events last h) (held left next.events last h) (Changed n s ∷ []) before after) kept.here
     (subst (λ (l : List Event). Knows (held found p.events last h) (held left l last h) said before after) (sym is)
-    (knows found left p.number p.events said last h before after kept keeps (prefix_trans before between after first goes.0) goes.1 here))
+    (knows found left p.number p.events said last h before after kept keeps (prefix_trans before between after first.0 goes.0) goes.1
+    (part_grows p.number before between p.events first.0 first.2) here))
 
 pub changed_own : (p looked next : MailboxPart) (s : Step) (after : List Event) → looked ≡ p → (next.number ≡ looked.number) × (next.events ≡ looked.events ++ Changed looked.number s ∷ []) → part concerns looked.number after ≡ next.events
     → part concerns p.number after ≡ p.events ++ Changed p.number s ∷ []

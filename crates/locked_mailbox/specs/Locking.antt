@@ -98,8 +98,8 @@ on_ok (Ok x) event = event ∷ []
 on_ok (Err fault) event = []
 
 module _ (found left : LockedMailbox) where
-  -- Who held the mailbox knows how the history begins, with all that has happened here: what had happened when it was found, and then just what was
-  -- said. The mailbox that was found stood for the log that its events had made; the one that was left stands for the log that they make now, which
+  -- Who held the mailbox knows how the history begins, with all that has happened here: what had happened when it was found, with all that was known
+  -- before, and then just what was said. The mailbox that was found stood for the log that its events had made; the one that was left stands for the log that they make now, which
   -- is the history's.
   pub record Knows (said : List Event) (before after : List Event) : Type 0 where
     pub goes_on : IsPrefix before after
@@ -107,6 +107,7 @@ module _ (found left : LockedMailbox) where
     pub same : left.mailbox.number ≡ found.mailbox.number
     pub last : left.last ≡ found.last
     pub history : left.history ≡ found.history
+    pub seen : IsPrefix (part concerns found.mailbox.number before) found.events
     pub events : left.events ≡ found.events ++ said
     pub own : part concerns found.mailbox.number after ≡ left.events
     pub all : changes_in found.mailbox.number after ≡ changes_in found.mailbox.number left.events

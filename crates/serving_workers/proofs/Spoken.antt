@@ -10,7 +10,8 @@ use Rattle.lane_work.specs.declared.outcome.Ending.{Ending}
 use Rattle.lane_work.specs.declared.outcome.Ending.TheVariants.{Quit, Gone, Stopped}
 use Rattle.lane_work.specs.declared.outcome.TalkFault.{TalkFault}
 use Rattle.lane_work.specs.declared.outcome.TalkFault.TheVariants.{Read, Write, NoMemory, Torn}
-use Rattle.lane_work.specs.Streaming.{AreCutShort, AreSent, EndsBy, last_words}
+use Rattle.lane_work.specs.Streaming.{AreCutShort, AreSent, EndsBy}
+use Rattle.lane_work.specs.Talk.{last_words}
 use Rattle.serving_workers.specs.Leaving.{AreWritten, all_written, cut_short, never_greeted, with_last_words, AreRead, Closed, IsUnwritten, OneMore, Spoken, Told, Took, WereOver, with_end}
 
 same_some : {A : Type 0} {a b : A} → Some a ≡ Some b → a ≡ b

@@ -11,12 +11,12 @@ use Rattle.lmtp_machine.specs.Conversation.{Conversation}
 use Rattle.lmtp_machine.specs.Dialogue.{Phase, wire}
 use Rattle.shard_queue.specs.Reply.{ReplyChannel, IsReceiver, received}
 use Rattle.shard_queue.specs.declared.lane.Entry.{Entry}
-use Rattle.shard_queue.specs.Permits.{said}
+use Rattle.shard_queue.specs.Permits.{said as put_by}
 use Rattle.lane_work.specs.Backing.{IsBackedBy}
 use Rattle.lane_work.specs.Account.{AreBooks, AreBooksOf, HaveEnded, Premises, setting_at}
 use Rattle.lane_work.specs.Permits.{AreEnded}
 use Rattle.lane_work.specs.Speaking.{premises_of}
-use Rattle.lane_work.specs.Streaming.{last_words}
+use Rattle.lane_work.specs.Talk.{last_words}
 use Rattle.lane_work.specs.Talk.{HasTaken, Judged}
 use Rattle.house_shared.specs.declared.shared.HouseShared.{HouseShared}
 use Rattle.serving_workers.specs.declared.accepting.Outfit.{Outfit}
@@ -153,9 +153,9 @@ pub record IsServed {B L : Type 0} (told : L → Told) (shared : HouseShared B) 
   pub ended : AreEnded shared.intake.lanes.items n s.ended.items
   pub receiver : (channel : ReplyChannel Noted) → slice_get shared.delivery.channels.items n ≡ Some channel → IsReceiver channel s.receiver
   pub mail : s.mail ≡ true → s.torn ≡ false
-      → (line : L) × (s.line ≡ Some line) × HasServedMail (premises_of shared.intake) n (told line) (received s.receiver) (map said s.ended.items)
-  pub clients : s.mail ≡ false → s.torn ≡ false → HasServedClients (premises_of shared.intake) n (received s.receiver) (map said s.ended.items)
-  pub backed : IsBackedBy n s.dispatch (received s.receiver) (map said s.ended.items)
+      → (line : L) × (s.line ≡ Some line) × HasServedMail (premises_of shared.intake) n (told line) (received s.receiver) (map put_by s.ended.items)
+  pub clients : s.mail ≡ false → s.torn ≡ false → HasServedClients (premises_of shared.intake) n (received s.receiver) (map put_by s.ended.items)
+  pub backed : IsBackedBy n s.dispatch (received s.receiver) (map put_by s.ended.items)
 
 -- it has room to read into, and nobody came in at its line yet
 pub record IsOutfit {L : Type 0} (told : L → Told) (o : Outfit L) : Type 0 where

@@ -49,6 +49,7 @@ logs_said old new found left said m k n kept same = record {
   goes_on = k.goes_on;
   mailboxes = same;
   found = found.events;
+  seen = subst (λ (x : ℕ). IsPrefix (part concerns x old.history) found.events) n k.seen;
   own = subst (λ (x : ℕ). part concerns x new.history ≡ found.events ++ said x) n (k.own ∙ k.events);
   few = few_left found left (said found.mailbox.number) old.history new.history m k n kept;
 }

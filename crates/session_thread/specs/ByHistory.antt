@@ -85,12 +85,13 @@ abbrev pub flags_in : ℕ → List Change → Option Flags
 flags_in uid log = option_map (λ (row : Row). row.flags) (find (λ (row : Row). row.uid == uid) (rows_of log))
 
 module _ (old new : LockedStore) where
-  -- The session has seen more of the history, in which just this was said of mailbox m, behind what had happened there before. No log has more
-  -- changes than can be numbered.
+  -- The session has seen more of the history, in which just this was said of mailbox m, behind what had happened there before and had been
+  -- seen of it. No log has more changes than can be numbered.
   pub record Logs (m : ℕ) (said : List house.Event) : Type 0 where
     pub goes_on : IsPrefix old.history new.history
     pub mailboxes : new.mailboxes ≡ old.mailboxes
     pub found : List house.Event
+    pub seen : IsPrefix (part concerns m old.history) found
     pub own : part concerns m new.history ≡ found ++ said
     pub few : length (changes_in m new.history) ≤ 2 ^ 62
 

@@ -23,4 +23,4 @@ pub returns-clause-history : goal.returns-clause-history
 returns-clause-history g c = let s = c.self.inside in let left = c.alter.new.mailbox in let after = c.alter-2.new.front in
     subst (λ (h : LockedMailbox). Knows h (held left c.alter-2.new.self.events s.last.items s.front) (events.Changed h.mailbox.number (steps.Alter c.args.uid c.args.op) ∷ []) c.args.front.now after) c.self.view_is
     (changed_knows s.mailbox left s.part c.look.new.self c.alter-2.new.self s.last.items (steps.Alter c.args.uid c.args.op) s.front c.args.front.now c.look.new.front after c.look.ensures.same c.alter-2.ensures.part c.self.invariant
-    (alter_keeps s.mailbox left s.part.number s.part.events s.last.items c.args.handle.now c.args.uid c.args.op c.in_ok-flags.flags c.in_ok-flags.ensures c.self.invariant) c.look.ensures.seen.0 c.alter-2.ensures.seen c.alter-2.ensures.all)
+    (alter_keeps s.mailbox left s.part.number s.part.events s.last.items c.args.handle.now c.args.uid c.args.op c.in_ok-flags.flags c.in_ok-flags.ensures c.self.invariant) c.look.ensures.seen c.alter-2.ensures.seen c.alter-2.ensures.all)

@@ -23,4 +23,4 @@ pub returns-clause-history : goal.returns-clause-history
 returns-clause-history g c = let s = c.self.inside in let left = c.discard.new.mailbox in let after = c.discard-2.new.front in
     subst (λ (h : LockedMailbox). Knows h (held left c.discard-2.new.self.events s.last.items s.front) (events.Changed h.mailbox.number (steps.Discard c.args.uids.now) ∷ []) c.args.front.now after) c.self.view_is
     (changed_knows s.mailbox left s.part c.look.new.self c.discard-2.new.self s.last.items (steps.Discard c.args.uids.now) s.front c.args.front.now c.look.new.front after c.look.ensures.same c.discard-2.ensures.part c.self.invariant
-    (discard_keeps s.mailbox left s.part.number s.part.events s.last.items c.args.uids.now c.in_ok-discard.ensures c.self.invariant) c.look.ensures.seen.0 c.discard-2.ensures.seen c.discard-2.ensures.all)
+    (discard_keeps s.mailbox left s.part.number s.part.events s.last.items c.args.uids.now c.in_ok-discard.ensures c.self.invariant) c.look.ensures.seen c.discard-2.ensures.seen c.discard-2.ensures.all)

@@ -24,4 +24,4 @@ pub returns-clause-history : goal.returns-clause-history
 returns-clause-history g c = let s = c.self.inside in let left = c.expunge.new.mailbox in let after = c.expunge-2.new.front in
     subst (λ (h : LockedMailbox). Knows h (held left c.expunge-2.new.self.events s.last.items s.front) (events.Changed h.mailbox.number (steps.Expunge (option_copied c.args.uids)) ∷ []) c.args.front.now after) c.self.view_is
     (changed_knows s.mailbox left s.part c.look.new.self c.expunge-2.new.self s.last.items (steps.Expunge (option_copied c.args.uids)) s.front c.args.front.now c.look.new.front after c.look.ensures.same c.expunge-2.ensures.part c.self.invariant
-    (expunge_keeps s.mailbox left s.part.number s.part.events s.last.items c.args.handle.now c.expunge.new.handle (option_copied c.args.uids) c.args.out.now.items c.expunge.new.out.items c.in_ok-gone.gone c.in_ok-gone.ensures.event c.self.invariant) c.look.ensures.seen.0 c.expunge-2.ensures.seen c.expunge-2.ensures.all)
+    (expunge_keeps s.mailbox left s.part.number s.part.events s.last.items c.args.handle.now c.expunge.new.handle (option_copied c.args.uids) c.args.out.now.items c.expunge.new.out.items c.in_ok-gone.gone c.in_ok-gone.ensures.event c.self.invariant) c.look.ensures.seen c.expunge-2.ensures.seen c.expunge-2.ensures.all)

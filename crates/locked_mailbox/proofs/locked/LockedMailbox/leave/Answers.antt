@@ -23,4 +23,4 @@ pub returns-clause-history : goal.returns-clause-history
 returns-clause-history g c = let s = c.self.inside in let left = c.leave.new.mailbox in let after = c.leave-2.new.front in
     subst (λ (h : LockedMailbox). Knows h (held left c.leave-2.new.self.events s.last.items s.front) (events.Changed h.mailbox.number (steps.Leave c.args.remove) ∷ []) c.args.front.now after) c.self.view_is
     (changed_knows s.mailbox left s.part c.look.new.self c.leave-2.new.self s.last.items (steps.Leave c.args.remove) s.front c.args.front.now c.look.new.front after c.look.ensures.same c.leave-2.ensures.part c.self.invariant
-    (leave_keeps s.mailbox left s.part.number s.part.events s.last.items c.args.handle c.args.remove c.in_ok-gone.gone c.in_ok-gone.ensures c.self.invariant) c.look.ensures.seen.0 c.leave-2.ensures.seen c.leave-2.ensures.all)
+    (leave_keeps s.mailbox left s.part.number s.part.events s.last.items c.args.handle c.args.remove c.in_ok-gone.gone c.in_ok-gone.ensures c.self.invariant) c.look.ensures.seen c.leave-2.ensures.seen c.leave-2.ensures.all)

@@ -25,7 +25,7 @@ pub returns-clause-history : goal.returns-clause-history
 returns-clause-history g c = let s = c.self.inside in let left = c.read.new.mailbox in let after = c.read-2.new.front in
     subst (λ (h : LockedMailbox). Knows h (held left c.read-2.new.self.events s.last.items s.front) (events.Changed h.mailbox.number (steps.Read c.args.uid c.args.mark_seen) ∷ []) c.args.front.now after) c.self.view_is
     (changed_knows s.mailbox left s.part c.look.new.self c.read-2.new.self s.last.items (steps.Read c.args.uid c.args.mark_seen) s.front c.args.front.now c.look.new.front after c.look.ensures.same c.read-2.ensures.part c.self.invariant
-    (read_keeps s.mailbox left s.part.number s.part.events s.last.items c.args.handle.now c.args.uid c.args.mark_seen c.in_ok-row.row c.in_ok-row.ensures c.self.invariant) c.look.ensures.seen.0 c.read-2.ensures.seen c.read-2.ensures.all)
+    (read_keeps s.mailbox left s.part.number s.part.events s.last.items c.args.handle.now c.args.uid c.args.mark_seen c.in_ok-row.row c.in_ok-row.ensures c.self.invariant) c.look.ensures.seen c.read-2.ensures.seen c.read-2.ensures.all)
 
 pub returns-clause-text : goal.returns-clause-text
 returns-clause-text g c = let s = c.self.inside in let left = c.read.new.mailbox in let after = c.read-2.new.front in
