@@ -10,7 +10,8 @@ use Rattle.house.specs.Scene.{Plays, Scene}
 use Rattle.house.specs.Stands.{StandsFor}
 use Rattle.house.specs.Steps.{IsBusy, IsNobody, Led, MayFindNothing}
 use Rattle.script.specs.Leaving.{LineBegins}
-use Rattle.script.specs.Script.{asks, asks_lingering, asks_nobody, closes, closes_again, closes_nobody, enters, enters_nowhere, enters_taken, leaves, leaves_again, leaves_nobody, refusal, sends, sends_to_nobody, sends_to_owing, vanishes, vanishes_again, vanishes_away, LineDoes}
+use Rattle.script.specs.Script.{asks, asks_lingering, asks_nobody, closes, closes_again, closes_nobody, enters, enters_nowhere, enters_taken, leaves, leaves_again, leaves_nobody, sends, sends_to_nobody, sends_to_owing, vanishes, vanishes_again, vanishes_away, LineDoes}
+use Rattle.script.specs.Promise.{refusal}
 use Rattle.script.specs.inner.Running.{LineDone, line_for}
 use Rattle.script.proofs.RunLaws.{away, nobody_there, owing}
 use Rattle.script.proofs.SessionLaws.{known, lingering, nowhere, unvisited, visited}

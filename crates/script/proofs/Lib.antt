@@ -9,4 +9,7 @@ pub mod TellingLaws
 pub mod Programs
 pub mod ObjectLaws
 pub mod Parts
+pub mod Begins
+pub mod Greeted
+pub mod Printed
 pub mod Refuted

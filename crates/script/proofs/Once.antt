@@ -21,7 +21,8 @@ use Rattle.house.specs.Settled.{is_held}
 use Rattle.house.specs.Settling.{GoesRounds, Happened, Settles, Stints, idle_turns, in_a_row, round}
 use Rattle.std.specs.Prelude.{replicate}
 use Rattle.house.proofs.Settlement.{plays_part, stints_happened}
-use Rattle.script.specs.Script.{LineDoes, LinePlays, Script, ScriptLine, asks, asks_lingering, asks_nobody, closes, closes_again, closes_nobody, enters, enters_nowhere, enters_taken, goes_again, goes_nobody, held_after, is_bad, leaves, leaves_again, leaves_nobody, none_held, refusal, sends, sends_to_nobody, sends_to_owing, skips, stands_nobody, stands_still, tails, tails_nobody, vanishes, vanishes_again, vanishes_away}
+use Rattle.script.specs.Script.{LineDoes, LinePlays, Script, ScriptLine, asks, asks_lingering, asks_nobody, closes, closes_again, closes_nobody, enters, enters_nowhere, enters_taken, goes_again, goes_nobody, held_after, is_bad, leaves, leaves_again, leaves_nobody, none_held, sends, sends_to_nobody, sends_to_owing, skips, stands_nobody, stands_still, tails, tails_nobody, vanishes, vanishes_again, vanishes_away}
+use Rattle.script.specs.Promise.{refusal}
 use Rattle.script.specs.Promise.{AreParts, DeliversOnce, OfHouse, Part, Refusal, Why, Line, Nobody, Busy, Window, entries_of, entry_in, refusals_of, refused_in, scene_after, text_of_part, word_of}
 
 -- where these verdicts were told, and what was printed since is these parts

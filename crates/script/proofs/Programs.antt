@@ -12,7 +12,7 @@ use Rattle.script.specs.declared.run.RunFault.{RunFault}
 use Rattle.script.specs.declared.run.RunFault.TheVariants as run_faults
 use Rattle.script.specs.declared.program.ScriptFault.{ScriptFault}
 use Rattle.script.specs.declared.program.ScriptFault.TheVariants as faults
-use Rattle.script.specs.Promise.{RunWrote, WroteOnce, WroteSome}
+use Rattle.script.specs.Wrote.{RunWrote, WroteOnce, WroteSome}
 use Rattle.script.specs.Runs.{ScriptTold, ScriptWrote, script_fault}
 use Rattle.script.specs.Script.{ScriptLine, script_of}
 use Rattle.script.specs.Telling.{RunTells, RunTold, lines_of}

@@ -27,7 +27,8 @@ use Rattle.house.specs.Steps.{FollowsInPart, IsEmptySeat, IsNoSeat, IsSpent, IsU
 use Rattle.house.specs.Settled.{BrokeOffFrom, SettledFrom, is_held}
 use Rattle.house.specs.Settling.{Settles, SettlingBreaksOff}
 use Rattle.house.specs.Window.{PrintsWindow}
-use Rattle.script.specs.Script.{IsAway, IsNoConnection, IsOwing, LinePlays, NobodyThere, ScriptLine, Asks, Enters, Leaves, Sends, Vanishes, Hold, Free, Closes, Tail, Skip, Bad, asked, brought, closes_nobody, goes_again, goes_nobody, held_after, held_by, is_bad, line_of, most_bytes, none_held, refusal, skips, stands_nobody, stands_still, tails, tails_nobody}
+use Rattle.script.specs.Script.{IsAway, IsNoConnection, IsOwing, LinePlays, NobodyThere, ScriptLine, Asks, Enters, Leaves, Sends, Vanishes, Hold, Free, Closes, Tail, Skip, Bad, asked, brought, closes_nobody, goes_again, goes_nobody, held_after, held_by, is_bad, line_of, most_bytes, none_held, skips, stands_nobody, stands_still, tails, tails_nobody}
+use Rattle.script.specs.Promise.{refusal}
 use Rattle.script.specs.Leaving.{WritesBeginning, unwritten, LineBegins, LineWanting, undone, begun, PlayWanting, settling}
 use Rattle.std.specs.Prelude.{Bool, IfNone, IfSome, codes, false, true}
 use Rattle.script.specs.inner.Running.{HasRun, IsClipped, IsOver, IsUnread as IsUnreadTurn, IsUnwritten, LineCut, LineDone, LinePlayed, LineTold, LineWritten, SetsHeld, TellWanting, playing, telling, TurnTells, sets, sets_nobody}
@@ -333,13 +334,17 @@ run_unbegun k lines old Left is = record {
       some = [];
       others = lines;
       split = refl;
-      after = empty_scene k;
-      printed = [];
+      delivered = record {
+        count = 0;
+        after = empty_scene k;
+        printed = [];
+        once = script_once k [] (empty_scene k) [] (refl, refl);
+        sent = 0;
+        within = le_refl 0;
+        out = Appends-nil old;
+      };
+      counted = refl;
       script = (refl, refl);
-      once = script_once k [] (empty_scene k) [] (refl, refl);
-      sent = 0;
-      within = le_refl 0;
-      out = Appends-nil old;
     };
     whole = refl;
   };

@@ -7,7 +7,8 @@ use Rattle.house.specs.House.{House}
 use Rattle.house.specs.Setup.{Setup}
 use Rattle.house.specs.Scene.{Scene, empty_scene}
 use Rattle.script.specs.Script.{LinePlays, Script, ScriptLine, asked, held_after, held_by, line_of, most_bytes, none_held, pieces, script_of}
-use Rattle.script.specs.Promise.{DeliversOnce, RunWrote, WroteAll, WroteFirst, WroteOnce, WroteSome}
+use Rattle.script.specs.Promise.{DeliversOnce}
+use Rattle.script.specs.Wrote.{RunWrote, WroteAll, WroteFirst, WroteOnce, WroteSome}
 use Rattle.script.specs.Leaving.{IsLeft, IsLeftWanting, Writes, WritesBeginning, WritesFirst}
 use Rattle.script.specs.Telling.{IsLeftUntold, wanting, untold, LineByLine, RunTells, RunTold, TellsAll, TellsBeginning, TellsFirst, ToldAll, ToldFirst, ToldOnce, ToldSome, asked_by, joined, json_of, lines_of, rendered, told}
 use Rattle.settings.specs.declared.asking.Form.{Form}
@@ -116,13 +117,17 @@ once_written k input old new t = record {
   some = asked_by t.some;
   others = asked_by t.others;
   split = split_of input t.some t.others t.split;
-  after = t.after;
-  printed = joined t.texts;
+  delivered = record {
+    count = length t.some;
+    after = t.after;
+    printed = joined t.texts;
+    once = t.once;
+    sent = t.sent;
+    within = subst (λ (x : List ℕ). t.sent ≤ length x) (text_of_lines k input old new t) t.within;
+    out = subst (λ (x : List ℕ). Appends old new (take t.sent x)) (text_of_lines k input old new t) t.out;
+  };
+  counted = sym (length-map t.some asked);
   script = as_script k 1 (none_held k) (asked_by t.some) (empty_scene k) t.after t.texts t.plays;
-  once = script_once k (asked_by t.some) t.after (joined t.texts) (as_script k 1 (none_held k) (asked_by t.some) (empty_scene k) t.after t.texts t.plays);
-  sent = t.sent;
-  within = subst (λ (x : List ℕ). t.sent ≤ length x) (text_of_lines k input old new t) t.within;
-  out = subst (λ (x : List ℕ). Appends old new (take t.sent x)) (text_of_lines k input old new t) t.out;
 }
 
 abbrev pub all_wrote : (k : Setup) (input : List ℕ) (old new : Option (List ℕ)) → ToldAll Text k (lines_of input) old new → WroteAll k (script_of input) old new

@@ -7,26 +7,26 @@ use Rattle.house.specs.Settling.{SettlingBreaksOff}
 use Rattle.house.specs.Stands.{StandsFor}
 use Rattle.house.specs.House.{House}
 use Rattle.script.specs.Script.{Asks, Closes, Enters, Leaves, LineDoes, ScriptLine, Sends, Vanishes, held_after, held_by, none_held}
-use Rattle.script.specs.Promise.{WroteAll, WroteFirst, WroteSome}
+use Rattle.script.specs.Wrote.{WroteAll, WroteFirst, WroteSome}
 
 module _ (k : Setup) (lines : List ScriptLine) (h : House) where
   -- All lines were played, and all that they print was written; the house that is left stands for the scene that they lead to.
   pub record Writes (old new : Option (List ℕ)) : Type 0 where
     pub writes : WroteAll k lines old new
-    pub stands : StandsFor k h writes.wrote.after
+    pub stands : StandsFor k h writes.wrote.delivered.after
 
 module _ (k : Setup) (lines : List ScriptLine) (sent : ℕ) (h : House) where
   -- Of what the lines print that were played the first `sent` bytes were written, and not all; the house stands for the scene that they lead to.
   pub record WritesFirst (old new : Option (List ℕ)) : Type 0 where
     pub writes : WroteFirst k lines old new sent
-    pub stands : StandsFor k h writes.wrote.after
+    pub stands : StandsFor k h writes.wrote.delivered.after
 
 module _ (k : Setup) (lines : List ScriptLine) (Left : ℕ → (held : List Bool) → List ScriptLine → Scene → Type 0) where
   -- All that the lines print that were played was written. Of the house that is left, by the shards that are held then, the lines behind these and
   -- the scene that these lead to, this holds.
   pub record WritesBeginning (old new : Option (List ℕ)) : Type 0 where
     pub writes : WroteSome k lines old new
-    pub left : Left (length writes.wrote.some + 1) (held_by (none_held k) writes.wrote.some) writes.wrote.others writes.wrote.after
+    pub left : Left (length writes.wrote.some + 1) (held_by (none_held k) writes.wrote.some) writes.wrote.others writes.wrote.delivered.after
 
 module _ (k : Setup) (h : House) where
   -- nothing was done since

@@ -1,5 +1,6 @@
-pub mod Script
 pub mod Promise
+pub mod Script
+pub mod Wrote
 pub mod Leaving
 pub mod Telling
 pub mod Runs

@@ -1,5 +1,5 @@
 -- What a run of a script promises of all that it wrote: exactly-once delivery.
-use Rattle.std.specs.Prelude.{◌≡◌, ℕ, ◌<◌, ◌≤◌, All, AllPairs, List, [], ◌∷◌, ◌++◌, codes, filter_map, flat_map, length, take, Option, Some, None, Result, Ok, Err}
+use Rattle.std.specs.Prelude.{◌≡◌, ℕ, ◌<◌, ◌≤◌, All, AllPairs, List, [], ◌∷◌, ◌++◌, codes, filter_map, flat_map, length, take, Option, Some, None, decimal}
 use Rattle.std.specs.Io.KnownBytes.{Appends}
 use Rattle.envelope.specs.Names.{number_of}
 use Rattle.world.specs.World.{Box, Event, IsWorld}
@@ -8,11 +8,12 @@ use Rattle.house.specs.Setup.{Setup}
 use Rattle.exactly_once.specs.Promise.{Entry, IsEntry, TellsOnce, text_of}
 use Rattle.house.specs.Scene.{Scene, empty_scene}
 use Rattle.house.specs.Window.{window_text}
-use Rattle.script.specs.Script.{Script, ScriptLine, none_held, refusal}
-use Rattle.script.specs.declared.run.RunFault.{RunFault}
-use Rattle.script.specs.declared.run.RunFault.TheVariants as faults
 
--- why a line can't be done
+-- how a script tells of a line that can't be done
+abbrev pub refusal : (number : ℕ) → (why : List ℕ) → List ℕ
+refusal number why = codes "? " ++ decimal number ++ codes " " ++ why ++ 10 ∷ []
+
+-- why it can't be done
 pub data Why : Type 0 where
   Line : Why
   Nobody : Why
@@ -82,40 +83,13 @@ pub record DeliversOnce (k : Setup) (count : ℕ) (after : Scene) (printed : Lis
   pub world : Headline k.config after.world
   pub told : TellsOnce after.world (entries_of parts)
 
--- The first lines of the script were played; what they print delivers exactly once, and what was written is a beginning of it.
-pub record WroteOnce (k : Setup) (lines : List ScriptLine) (old new : Option (List ℕ)) : Type 0 where
-  pub some : List ScriptLine
-  pub others : List ScriptLine
-  pub split : lines ≡ some ++ others
+-- Of what a script wrote as text: the lines that were played printed what delivers exactly once, and what was written is a beginning of that.
+pub record DeliveredOnce (k : Setup) (old new : Option (List ℕ)) : Type 0 where
+  -- so many lines were played
+  pub count : ℕ
   pub after : Scene
   pub printed : List ℕ
-  pub script : Script k 1 (none_held k) some (empty_scene k) after printed
-  pub once : DeliversOnce k (length some) after printed
+  pub once : DeliversOnce k count after printed
   pub sent : ℕ
   pub within : sent ≤ length printed
   pub out : Appends old new (take sent printed)
-
-module _ (k : Setup) (lines : List ScriptLine) (old new : Option (List ℕ)) where
-  -- All lines were played, and all that they print was written.
-  pub record WroteAll : Type 0 where
-    pub wrote : WroteOnce k lines old new
-    pub all : wrote.others ≡ []
-    pub whole : wrote.sent ≡ length wrote.printed
-
-  -- Of what the lines print that were played the first `sent` bytes were written, and not all.
-  pub record WroteFirst (sent : ℕ) : Type 0 where
-    pub wrote : WroteOnce k lines old new
-    pub stopped : wrote.sent ≡ sent
-    pub within : sent < length wrote.printed
-
-  -- All that the lines print that were played was written.
-  pub record WroteSome : Type 0 where
-    pub wrote : WroteOnce k lines old new
-    pub whole : wrote.sent ≡ length wrote.printed
-
--- what a run wrote of these lines, by how it ended
-abbrev pub RunWrote : Setup → List ScriptLine → Result (Unit {0}) RunFault → (old new : Option (List ℕ)) → Type 0
-RunWrote k lines (Ok done) old new = WroteAll k lines old new
-RunWrote k lines (Err (faults.Write sent)) old new = WroteFirst k lines old new sent
-RunWrote k lines (Err faults.NoMemory) old new = WroteSome k lines old new
-RunWrote k lines (Err faults.Read) old new = WroteSome k lines old new

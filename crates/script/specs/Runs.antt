@@ -9,7 +9,7 @@ use Rattle.script.specs.declared.program.ScriptFault.{ScriptFault}
 use Rattle.script.specs.declared.program.ScriptFault.TheVariants as faults
 use Rattle.script.specs.declared.run.RunFault.TheVariants as run_faults
 use Rattle.script.specs.Script.{ScriptLine}
-use Rattle.script.specs.Promise.{RunWrote}
+use Rattle.script.specs.Wrote.{RunWrote}
 use Rattle.script.specs.Telling.{RunTold}
 
 -- settings are wrong, or they couldn't be looked at for want of memory

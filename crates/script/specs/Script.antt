@@ -1,5 +1,5 @@
 -- A script: what its lines are, what each does to the house, and what is written.
-use Rattle.std.specs.Prelude.{◌≡◌, ℕ, ◌+◌, ◌-◌, ◌<◌, ◌≤◌, ◌==◌, ◌&&◌, nat_eq, nat_le, nat_lt, ◌⊎◌, Bool, true, false, if◌then◌else◌, List, [], ◌∷◌, ◌++◌, length, map, drop, codes, decimal, replicate, slice_set, Some, None, Result, Ok, Err}
+use Rattle.std.specs.Prelude.{◌≡◌, ℕ, ◌+◌, ◌-◌, ◌<◌, ◌≤◌, ◌==◌, ◌&&◌, nat_eq, nat_le, nat_lt, ◌⊎◌, Bool, true, false, if◌then◌else◌, List, [], ◌∷◌, ◌++◌, length, map, drop, codes, replicate, slice_set, Some, None, Result, Ok, Err}
 use Rattle.std.specs.Io.BufRead.{ends_with_byte, strip_last}
 use Rattle.std.specs.List.{list_all, list_any, starts_with}
 use Rattle.std.specs.Str.Parse.{digits_value}
@@ -15,6 +15,7 @@ use Rattle.house.specs.Settling.{Settles}
 use Rattle.house.specs.Window.{window_text}
 use Rattle.imap_session.specs.Folders.{has_user}
 use Rattle.house_peers.specs.Visitor.{SeatedVisitor}
+use Rattle.script.specs.Promise.{refusal}
 use Rattle.script.specs.declared.line.ScriptLine as read
 use Rattle.script.specs.declared.line.ScriptLine.TheVariants as reads
 
@@ -195,9 +196,6 @@ abbrev pub script_of : List ℕ → List ScriptLine
 script_of input = map (λ piece. asked (line_of piece)) (pieces input)
 
 -- ---- what a script does
-
-abbrev pub refusal : ℕ → List ℕ → List ℕ
-refusal number why = codes "? " ++ decimal number ++ codes " " ++ why ++ 10 ∷ []
 
 -- there is no such connection
 abbrev pub IsNoConnection : Setup → ℕ → Type 0

@@ -5,7 +5,8 @@ ghost use Rattle.std.specs.Prelude.{◌≡◌, ◌⊎◌, ℕ, List, None, Some,
 ghost use Rattle.house.specs.Setup.{setup_of};
 ghost use Rattle.settings.specs.Settings.{IsInRange, config_fault};
 ghost use Rattle.settings.specs.declared.config.ConfigFault.{ConfigFault};
-ghost use Rattle.script.specs.Promise.{WroteOnce};
+ghost use Rattle.script.specs.Promise.{DeliveredOnce};
+ghost use Rattle.script.specs.Wrote.{WroteOnce};
 ghost use Rattle.script.specs.Runs.{ScriptTold, ScriptWrote, script_fault};
 ghost use Rattle.script.specs.Script.{script_of};
 ghost use Rattle.script.specs.Telling.{lines_of};
@@ -67,10 +68,12 @@ pub fn run_script<R: BufRead, W: Sink>(
         ScriptTold form config.now (lines_of input) result (W.taken writer.old)
         (W.taken writer.new) }
 
-    // As text that is what the script prints, and whatever the result it delivers exactly once.
+    // As text that is what the script prints. Whatever the result it delivers exactly once, and is what some of the first lines print.
     ensures wrote { form ≡ Form.Text → (input : List ℕ) → R.remaining reader.old ≡ Some input →
         ScriptWrote config.now (script_of input) result (W.taken writer.old) (W.taken writer.new) }
     ensures once { form ≡ Form.Text → (input : List ℕ) → R.remaining reader.old ≡ Some input →
+        DeliveredOnce (setup_of config.now) (W.taken writer.old) (W.taken writer.new) }
+    ensures played { form ≡ Form.Text → (input : List ℕ) → R.remaining reader.old ≡ Some input →
         WroteOnce (setup_of config.now) (script_of input) (W.taken writer.old)
         (W.taken writer.new) }
 

@@ -14,10 +14,11 @@ ghost use Rattle.house.specs.Setup.{Setup};
 ghost use Rattle.house.specs.Steps.{MayFindNothing};
 ghost use Rattle.house.specs.Scene.{empty_scene};
 ghost use Rattle.script.specs.Script as spec;
-ghost use Rattle.script.specs.Script.{asked, brought, held_after, is_digit, line_of, refusal, script_of};
+ghost use Rattle.script.specs.Script.{asked, brought, held_after, is_digit, line_of, script_of};
+ghost use Rattle.script.specs.Promise.{refusal};
 ghost use Rattle.script.specs.Leaving.{IsLeft, IsLeftWanting, LineWanting, PlayWanting, Writes, WritesBeginning, WritesFirst};
 ghost use Rattle.house.specs.Stands.{StandsFor};
-ghost use Rattle.script.specs.Promise.{WroteOnce};
+ghost use Rattle.script.specs.Wrote.{WroteOnce};
 ghost use Rattle.script.specs.Telling.{RunTells, lines_of};
 
 use crate::line::{ScriptLine, read_line, without_end};

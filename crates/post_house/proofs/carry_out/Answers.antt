@@ -15,7 +15,7 @@ returns-in-Script-clause-done g c =
       right = c.run_script.ensures.right;
       told = c.run_script.ensures.told bytes e;
       wrote = λ text. c.run_script.ensures.wrote text bytes e;
-      once = λ text. c.run_script.ensures.once text bytes e;
+      once = λ text. c.run_script.ensures.played text bytes e;
       failing = c.run_script.ensures.failed;
     })
 

@@ -15,7 +15,7 @@ use Rattle.post_house.specs.declared.outcome.Outcome.{Outcome}
 use Rattle.post_house.specs.declared.outcome.Outcome.TheVariants.{Did, Refused}
 use Rattle.command_line.specs.declared.asked.Asked.{Asked}
 use Rattle.command_line.specs.declared.asked.Asked.TheVariants.{Script, Serve}
-use Rattle.script.specs.Promise.{WroteOnce}
+use Rattle.script.specs.Wrote.{WroteOnce}
 use Rattle.script.specs.Runs.{ScriptTold, ScriptWrote}
 use Rattle.script.specs.declared.program.ScriptFault.{ScriptFault}
 use Rattle.script.specs.declared.program.ScriptFault.TheVariants as script_faults

@@ -6,7 +6,8 @@ use Rattle.house.specs.declared.event.Event.{Event}
 use Rattle.house.specs.declared.event.Event.TheVariants.{Bytes, Vanish, Enter, Say, Leave, Close}
 use Rattle.house.specs.Setup.{Setup}
 use Rattle.house.specs.Scene.{Scene}
-use Rattle.script.specs.Script.{LineDoes, LinePlays, ScriptLine, Sends, Vanishes, Enters, Asks, Leaves, Closes, Bad, asked, held_after, held_by, none_held, refusal}
+use Rattle.script.specs.Script.{LineDoes, LinePlays, ScriptLine, Sends, Vanishes, Enters, Asks, Leaves, Closes, Bad, asked, held_after, held_by, none_held}
+use Rattle.script.specs.Promise.{refusal}
 use Rattle.script.specs.Leaving.{PlayWanting}
 use Rattle.script.specs.Telling.{IsLeftUntold, LineByLine, asked_by, lines_of, rendered, told}
 use Rattle.settings.specs.declared.asking.Form.{Form}

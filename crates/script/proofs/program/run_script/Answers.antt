@@ -17,8 +17,11 @@ pub returns-in-Err-clause-wrote : goal.returns-in-Err-clause-wrote
 returns-in-Err-clause-wrote g c is input e =
     wrong_wrote c.args.config.now (script_of input) (g.W.Sink.taken c.args.writer.now) c.in-Err.fault c.from.result c.from.ensures
 
+pub returns-in-Err-clause-played : goal.returns-in-Err-clause-played
+returns-in-Err-clause-played g c is input e = none_once c.args.config.now (script_of input) (g.W.Sink.taken c.args.writer.now)
+
 pub returns-in-Err-clause-once : goal.returns-in-Err-clause-once
-returns-in-Err-clause-once g c is input e = none_once c.args.config.now (script_of input) (g.W.Sink.taken c.args.writer.now)
+returns-in-Err-clause-once g c is input e = (returns-in-Err-clause-played g c is input e).delivered
 
 pub returns-in-Err-clause-wrong : goal.returns-in-Err-clause-wrong
 returns-in-Err-clause-wrong g c x e =
@@ -34,10 +37,13 @@ returns-in-Ok-drive_as-clause-wrote g c is input e =
     ran_wrote c.args.form c.args.config.now input c.drive_as.new.house (Ok tt) (g.W.Sink.taken c.args.writer.now) (g.W.Sink.taken c.drive_as.new.writer) is
     (c.in-Ok-drive_as.ensures.tells (setup_of c.args.config.now) input c.in-Ok.ensures.stands e)
 
-pub returns-in-Ok-drive_as-clause-once : goal.returns-in-Ok-drive_as-clause-once
-returns-in-Ok-drive_as-clause-once g c is input e =
+pub returns-in-Ok-drive_as-clause-played : goal.returns-in-Ok-drive_as-clause-played
+returns-in-Ok-drive_as-clause-played g c is input e =
     ran_once c.args.form c.args.config.now input c.drive_as.new.house (Ok tt) (g.W.Sink.taken c.args.writer.now) (g.W.Sink.taken c.drive_as.new.writer) is
     (c.in-Ok-drive_as.ensures.tells (setup_of c.args.config.now) input c.in-Ok.ensures.stands e)
+
+pub returns-in-Ok-drive_as-clause-once : goal.returns-in-Ok-drive_as-clause-once
+returns-in-Ok-drive_as-clause-once g c is input e = (returns-in-Ok-drive_as-clause-played g c is input e).delivered
 
 pub returns-in-Ok-drive_as-clause-right : goal.returns-in-Ok-drive_as-clause-right
 returns-in-Ok-drive_as-clause-right g c = right_of House (config_fault c.args.config.now) c.in-Ok.house c.in-Ok.ensures.fault
@@ -62,10 +68,13 @@ returns-clause-wrote g c is input e =
     ran_wrote c.args.form c.args.config.now input c.drive_as.new.house (Err c.in-Err-drive_as.fault) (g.W.Sink.taken c.args.writer.now) (g.W.Sink.taken c.drive_as.new.writer) is
     (c.in-Err-drive_as.ensures.tells (setup_of c.args.config.now) input c.in-Ok.ensures.stands e)
 
-pub returns-clause-once : goal.returns-clause-once
-returns-clause-once g c is input e =
+pub returns-clause-played : goal.returns-clause-played
+returns-clause-played g c is input e =
     ran_once c.args.form c.args.config.now input c.drive_as.new.house (Err c.in-Err-drive_as.fault) (g.W.Sink.taken c.args.writer.now) (g.W.Sink.taken c.drive_as.new.writer) is
     (c.in-Err-drive_as.ensures.tells (setup_of c.args.config.now) input c.in-Ok.ensures.stands e)
+
+pub returns-clause-once : goal.returns-clause-once
+returns-clause-once g c is input e = (returns-clause-played g c is input e).delivered
 
 pub returns-clause-failed : goal.returns-clause-failed
 returns-clause-failed g c sent e = c.in-Err-drive_as.ensures.failed sent (same_run c.in-Err-drive_as.fault _ e)

@@ -2,7 +2,7 @@ use Rattle.std.proofs.Common.{◌∙◌, ◌++◌, ℕ, List, ap, sym, subst}
 use Rattle.std.specs.Prelude.{codes}
 use Rattle.std.proofs.lemmas.Result.{on_ok_weaker}
 use Rattle.house.specs.House.{House}
-use Rattle.script.specs.Script.{refusal}
+use Rattle.script.specs.Promise.{refusal}
 use Rattle.script.specs.inner.Running.{LineDone, line_for}
 use Rattle.script.proofs.EventLaws.{event_begun, event_busy, event_done, event_nobody}
 use Rattle.script.proofs.RunLaws.{busy_not_wanting, is_busy, is_nobody, not_wanting, step_failed}

@@ -2,7 +2,7 @@ use Rattle.std.proofs.Common.{◌∙◌, ◌++◌, ℕ, List, ap, sym}
 use Rattle.std.specs.Prelude.{codes}
 use Rattle.std.proofs.lemmas.Result.{on_ok_weaker}
 use Rattle.envelope.specs.Names.{Directory, number_of}
-use Rattle.script.specs.Script.{refusal}
+use Rattle.script.specs.Promise.{refusal}
 use Rattle.script.proofs.RunLaws.{is_nobody, shown_tail, shown_nobody}
 use Rattle.script.proofs.run.show_tail.Goals as goal
 
