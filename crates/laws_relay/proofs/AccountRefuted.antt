@@ -12,9 +12,9 @@ use Rattle.envelope.specs.declared.command.CommandFault.{CommandFault}
 use Rattle.envelope.specs.declared.directory.NoSuch.{NoSuch}
 use Rattle.lmtp_machine.specs.Message.{stored_text}
 use Rattle.laws_relay.specs.Handed.{Handed, handed_over, is_taken}
-use Rattle.laws_relay.specs.Fates.{Names}
+use Rattle.laws_relay.specs.Concludes.{Names, IsTextOf, key_at, message_at}
 use Rattle.laws_relay.specs.rows.HandedRows.{alice, greeting, home, path_to, three}
-use Rattle.laws_relay.specs.Concluding.{ConnectionConcludes, IsTextOf, RelaysConclude, key_at, message_at}
+use Rattle.laws_relay.specs.Concluding.{ConnectionConcludes, RelaysConclude}
 use Rattle.laws_relay.specs.Entries.{StandsOnce, with_key}
 use Rattle.laws_relay.specs.rows.AccountRows.{accepted, alice_is_taken, for_alice, for_bob, known, replied, the_message}
 use Rattle.laws_relay.proofs.Positions.{unkept}

@@ -12,8 +12,7 @@ use Rattle.envelope.specs.Reading.{read}
 use Rattle.envelope.specs.Values.{Path, Command}
 use Rattle.envelope.specs.Values as say
 use Rattle.envelope.proofs.Law.{reads}
-use Rattle.laws_relay.specs.Relay.{is_code}
-use Rattle.laws_relay.specs.Handed.{Ask, AsksMail, AsksRcpt, AsksData, AsksDrop, AsksOther, Relay, Between, Begun, Sends, after_reply, ask_of, begins}
+use Rattle.laws_relay.specs.Handed.{is_code, Ask, AsksMail, AsksRcpt, AsksData, AsksDrop, AsksOther, Relay, Between, Begun, Sends, after_reply, ask_of, begins}
 
 -- the word of a command
 abbrev pub word : Command → List ℕ

@@ -16,12 +16,13 @@ use Rattle.lane_work.specs.Talk.{Judged}
 use Rattle.lmtp_machine.specs.Dialogue.{Submission}
 use Rattle.lmtp_machine.specs.Message.{stored_text}
 use Rattle.running_house.specs.Laws.{ClosedGetNothing}
-use Rattle.laws_relay.specs.ReplyLaws.{IsInLine, is_stored}
-use Rattle.laws_relay.specs.Handed.{Handed, handed_over, is_taken}
-use Rattle.laws_relay.specs.Fates.{AreCut, IsSender, IsSubmitted, Names}
+use Rattle.laws_relay.specs.ReplyLaws.{is_stored}
+use Rattle.laws_relay.specs.Handed.{IsInLine, Handed, handed_over, is_taken}
+use Rattle.laws_relay.specs.Fates.{AreCut, IsSubmitted}
+use Rattle.laws_relay.specs.Concludes.{IsSender, Names, IsTextOf, key_at, message_at}
 use Rattle.laws_relay.specs.Conclusions.{FrontsAreCut, TakenAreStored, WhatIsReadStays}
 use Rattle.laws_relay.specs.Numbers.{MessagesAreNumbered}
-use Rattle.laws_relay.specs.Concluding.{ConnectionConcludes, IsStored, IsTextOf, key_at, message_at}
+use Rattle.laws_relay.specs.Concluding.{ConnectionConcludes, IsStored}
 use Rattle.laws_relay.specs.Entries.{StandsNowhere, StandsOnce, with_uid}
 use Rattle.running_house.specs.Walk.{is_key}
 use Rattle.laws_relay.specs.AccountLaws.{AccountsConclude, AccountsKeepClosed, ConnectionsAreKnown, DoUidsRise, TakenIsItsOwn}

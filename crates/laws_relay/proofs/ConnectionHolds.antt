@@ -24,8 +24,9 @@ use Rattle.serving_workers.specs.Leaving.{all_written}
 use Rattle.laws_relay.specs.Served.{ConnectionConcludes, ConnectionStands, ServedRelaysConclude, replied as said_to}
 use Rattle.laws_relay.specs.rows.HandedRows.{alice, bob, home, no_room, three}
 use Rattle.laws_relay.specs.rows.AccountRows.{for_alice, for_bob, replied}
+use Rattle.laws_relay.proofs.ConcludesHolds.{bobs, hers, right}
 use Rattle.laws_relay.proofs.ConnectionRefuted.{house, setting}
-use Rattle.laws_relay.proofs.ServedHolds.{as_told, bobs, hers, job_in, right}
+use Rattle.laws_relay.proofs.ServedHolds.{as_told, job_in}
 
 -- ---- what was said
 

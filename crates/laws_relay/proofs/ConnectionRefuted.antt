@@ -1,6 +1,6 @@
 -- How a connection of a server ends: what `ConnectionConcludes` lets pass, and what it refuses. Above each stands what somebody would have seen.
 use Rattle.std.proofs.Common.{◌≡◌, ◌⊎◌, inl, inr, ℕ, Bool, true, false, List, [], ◌∷◌, ◌++◌, ◌&&◌, length, map, get_or, reverse, refl, ap, sym, subst, ◌∙◌, append-nil, arith}
-use Rattle.std.specs.Prelude.{codes, slice_index_or, nat_eq}
+use Rattle.std.specs.Prelude.{codes, nat_eq}
 use Rattle.std.specs.List.{list_any, starts_with}
 use Rattle.std.specs.Cmp.Lexicographic.{pointwise}
 use Rattle.std.proofs.lemmas.Bool.{eq-eqb}
@@ -8,33 +8,29 @@ use Rattle.std.proofs.lemmas.List.{reverse-append}
 use mathlib.Core.List.{IsPrefix}
 use Rattle.delivery_token.specs.declared.Refusal.{Refusal}
 use Rattle.delivery_token.specs.declared.Verdict.TheVariants.{Stored, Refused as IsRefused}
-use Rattle.delivery_token.specs.Text.{Text}
 use Rattle.envelope.specs.Names.{Directory}
 use Rattle.envelope.specs.Reading.{read}
 use Rattle.house_history.specs.declared.event.Event.{Event}
 use Rattle.house_history.specs.declared.event.Event.TheVariants.{Judged as WasToldOf}
 use Rattle.house_history.proofs.Follow.{legal_empty}
 use Rattle.lane_work.specs.Account.{Premises, setting_at}
-use Rattle.lane_work.specs.Streaming.{last_words}
-use Rattle.lane_work.specs.Talk.{HasTaken, Judged, goes_on, greeted, submits}
+use Rattle.lane_work.specs.Talk.{last_words, HasTaken, Judged, goes_on, greeted, submits}
 use Rattle.line_io.specs.Wire.{IsCut}
 use Rattle.line_io.specs.inner.WireLaws.{cut_none, cut_same, reading_cut}
 use Rattle.lmtp_machine.specs.Conversation.{Conversation, Heard, Leads, line, none, opened, starved}
 use Rattle.lmtp_machine.specs.Dialogue.{Data, Ended, Event as Spoken, Line, Phase, Ready, Setting, Standing, Start, Transaction, Turn, Waiting, dialogue, fresh, verdict_reply, wire}
-use Rattle.lmtp_machine.specs.Message.{stored_text}
 use Rattle.lmtp_machine.specs.declared.reply.Reply.{Reply}
 use Rattle.lmtp_machine.specs.declared.reply.Reply.TheVariants.{Bye, Greeting, ShuttingDown}
 use Rattle.lmtp_machine.proofs.Pieces.{nil_back, nil_front}
 use Rattle.serving_workers.specs.Leaving.{AreWritten, all_written, cut_short, never_greeted, with_last_words}
-use Rattle.laws_relay.specs.Fates.{Names}
-use Rattle.laws_relay.specs.Concluding.{IsTextOf, key_at, message_at}
+use Rattle.laws_relay.specs.Concludes.{Concludes, key_at, of_history}
 use Rattle.laws_relay.specs.Handed.{Handed, handed_over}
-use Rattle.laws_relay.specs.Served.{AreReplies, ConnectionConcludes, ServedConcludes, ServedRelaysConclude, nothing_said, replied as said_to}
-use Rattle.laws_relay.specs.rows.HandedRows.{alice, home, three}
-use Rattle.laws_relay.specs.rows.AccountRows.{for_alice, known, names_alice, replied, the_message}
+use Rattle.laws_relay.specs.Served.{AreReplies, ConnectionConcludes, ServedRelaysConclude, nothing_said, replied as said_to}
+use Rattle.laws_relay.specs.rows.HandedRows.{home, three}
+use Rattle.laws_relay.specs.rows.AccountRows.{for_alice, known, replied}
 use Rattle.lmtp_machine.proofs.Calls.{wire-append}
-use Rattle.laws_relay.proofs.ServedHolds.{bobs, copy_of, hers, one_mailbox, right, told}
-use Rattle.laws_relay.proofs.ServedRefuted.{lost, never_sent, of_nobody, of_nothing, refused_stands, was_taken}
+use Rattle.laws_relay.proofs.ConcludesHolds.{bobs, copy_of, hers, right, told}
+use Rattle.laws_relay.proofs.ConcludesRefuted.{in_his, lost, never_sent, of_nobody, of_nothing, other_text, refused_stands, twice}
 
 abbrev pub host : List ℕ
 host = codes "mx.example.org"
@@ -258,10 +254,10 @@ not_shut replies e =
     let byte : 108 ≡ 110 = ap (λ (l : List ℕ). get_or l 2 0) back in omega (arith, byte)
 
 -- its peer sent that and read this, with this history
-abbrev Concludes : List Event → Type 0
-Concludes history = ConnectionConcludes house 2 4 history three replied false
+abbrev HasRead : List Event → Type 0
+HasRead history = ConnectionConcludes house 2 4 history three replied false
 
-module _ (history : List Event) (c : Concludes history) where
+module _ (history : List Event) (c : HasRead history) where
   said_is : replied ≡ wire host c.replies
   said_is = elim (whole c.written refl) [
     | inl is ↦ is
@@ -273,48 +269,43 @@ module _ (history : List Event) (c : Concludes history) where
   ]
 
   -- so the peer concludes by all of it
-  concluded : ServedConcludes home 2 4 history told told
+  concluded : Concludes home (of_history history) 2 4 told told
   concluded =
-      let all = subst (λ (x : List ℕ). ServedConcludes home 2 4 history (handed_over three x) (handed_over three x)) (sym said_is) (c.concludes (wire host c.replies) [] (append-nil (wire host c.replies))) in
-      subst (λ (ms : List Handed). ServedConcludes home 2 4 history ms ms) known all
+      let all = subst (λ (x : List ℕ). Concludes home (of_history history) 2 4 (handed_over three x) (handed_over three x)) (sym said_is) (c.concludes (wire host c.replies) [] (append-nil (wire host c.replies))) in
+      subst (λ (ms : List Handed). Concludes home (of_history history) 2 4 ms ms) known all
 
 -- It read 250 for alice, and forgets its own copy. Her mailbox refused it.
-it_is_lost : (why : Refusal) → Concludes (WasToldOf hers (IsRefused why) 5 ∷ []) → ⊥
-it_is_lost why c = lost why (concluded _ c)
+it_is_lost : (why : Refusal) → HasRead (WasToldOf hers (IsRefused why) 5 ∷ []) → ⊥
+it_is_lost why c = lost _ (concluded _ c) refl
 
 -- Nothing is known of it at all.
-nowhere : Concludes [] → ⊥
-nowhere c = let s = (concluded _ c).taken 0 0 refl in let within = s.2.stands.1.1 in omega (arith, within)
+nowhere : HasRead [] → ⊥
+nowhere c = lost _ (concluded _ c) refl
+
+-- She finds it twice.
+she_finds_two : HasRead (WasToldOf hers (Stored 7) 5 ∷ WasToldOf hers (Stored 8) 6 ∷ []) → ⊥
+she_finds_two c = twice _ (concluded _ c) 7 7 8 (refl, (5, (0, omega arith, refl))) refl
 
 -- Bob finds the message that was refused for him. It will come again.
-it_was_refused : Concludes (WasToldOf hers (Stored 7) 5 ∷ WasToldOf bobs (Stored 1) 6 ∷ []) → ⊥
-it_was_refused c = refused_stands (concluded _ c)
+it_was_refused : HasRead (WasToldOf hers (Stored 7) 5 ∷ WasToldOf bobs (Stored 1) 6 ∷ []) → ⊥
+it_was_refused c = refused_stands _ (concluded _ c) 1 bobs 1 (refl, (6, (1, omega arith, refl))) refl
 
 -- Alice finds a second one, for a recipient that nobody named.
-for_nobody : Concludes (WasToldOf hers (Stored 7) 5 ∷ WasToldOf (copy_of (key_at 2 4 0 5) 0 right) (Stored 8) 6 ∷ []) → ⊥
-for_nobody c = of_nobody (concluded _ c)
+for_nobody : HasRead (WasToldOf hers (Stored 7) 5 ∷ WasToldOf (copy_of (key_at 2 4 0 5) 0 right) (Stored 8) 6 ∷ []) → ⊥
+for_nobody c = of_nobody _ (concluded _ c) 0 (copy_of (key_at 2 4 0 5) 0 right) 8 (refl, (6, (1, omega arith, refl))) refl
 
 -- She finds a second one, of a message that nobody sent.
-of_no_message : Concludes (WasToldOf hers (Stored 7) 5 ∷ WasToldOf (copy_of (key_at 2 4 3 0) 0 right) (Stored 8) 6 ∷ []) → ⊥
-of_no_message c = never_sent (concluded _ c)
+of_no_message : HasRead (WasToldOf hers (Stored 7) 5 ∷ WasToldOf (copy_of (key_at 2 4 3 0) 0 right) (Stored 8) 6 ∷ []) → ⊥
+of_no_message c =
+    never_sent _ (concluded _ c) 7 (refl, (5, (0, omega arith, refl))) 0 (copy_of (key_at 2 4 3 0) 0 right) 8 (refl, (6, (1, omega arith, refl))) refl
 
 -- Bob finds her message, and she doesn't.
-bob_finds_it : Concludes (WasToldOf (copy_of for_alice 1 right) (Stored 7) 5 ∷ []) → ⊥
-bob_finds_it c =
-    let w = (concluded _ c).nothing_else (copy_of for_alice 1 right) 7 (5, (0, omega arith, refl)) refl refl in
-    let first = (was_taken w.k 0 1 w.names w.read).0 in
-    let named : Names home alice 1 = subst (λ (k : ℕ). Names home (slice_index_or (message_at told k).recipients 0 []) 1) first w.names in
-    let same = one_mailbox alice 1 0 named names_alice in omega (arith, same)
+bob_finds_it : HasRead (WasToldOf (copy_of for_alice 1 right) (Stored 7) 5 ∷ []) → ⊥
+bob_finds_it c = in_his _ (concluded _ c) (copy_of for_alice 1 right) 7 (refl, (5, (0, omega arith, refl))) refl
 
 -- She reads another text than was sent.
-other_text : (m : Text) → IsTextOf the_message m → m ≡ (copy_of for_alice 0 (codes "ha\r\n")).text → ⊥
-other_text m t e = let is : codes "ha\r\n" ≡ stored_text t.sender the_message.lines = ap (λ (w : Text). w.bytes) (sym e ∙ t.is) in cc
-
-another_text : Concludes (WasToldOf (copy_of for_alice 0 (codes "ha\r\n")) (Stored 7) 5 ∷ []) → ⊥
-another_text c =
-    let w = (concluded _ c).nothing_else (copy_of for_alice 0 (codes "ha\r\n")) 7 (5, (0, omega arith, refl)) refl refl in
-    let first = (was_taken w.k 0 0 w.names w.read).0 in
-    other_text _ (subst (λ (k : ℕ). IsTextOf (message_at told k) (copy_of for_alice 0 (codes "ha\r\n")).text) first w.text) refl
+another_text : HasRead (WasToldOf (copy_of for_alice 0 (codes "ha\r\n")) (Stored 7) 5 ∷ []) → ⊥
+another_text c = other_text _ (concluded _ c) (copy_of for_alice 0 (codes "ha\r\n")) 7 (refl, (5, (0, omega arith, refl))) refl refl
 
 -- ---- nothing was written to it
 
@@ -329,8 +320,11 @@ silent_or_greeted : {bytes : List ℕ} {replies : List Reply} {phase : Phase} �
 silent_or_greeted nothing_said = inl refl
 silent_or_greeted (said_to judged at taken) = inr (begins taken)
 
+abbrev hers_alone : List Event
+hers_alone = WasToldOf hers (Stored 7) 5 ∷ []
+
 -- Alice finds a message of it, and its peer was told nothing.
-untold : ConnectionConcludes house 2 4 (WasToldOf hers (Stored 7) 5 ∷ []) three [] false → ⊥
+untold : ConnectionConcludes house 2 4 hers_alone three [] false → ⊥
 untold c = elim (silent_or_greeted c.are) [
   | inl none_said ↦ none_then none_said
   | inr (more, is) ↦ elim (whole c.written refl) [
@@ -341,10 +335,14 @@ untold c = elim (silent_or_greeted c.are) [
 ]
   where
     none_then : c.replies ≡ [] → ⊥
-    none_then e = of_nothing (subst (λ (rs : List Reply). ServedConcludes home 2 4 (WasToldOf hers (Stored 7) 5 ∷ []) (handed_over three []) (handed_over three (wire host rs))) e (c.concludes [] (wire host c.replies) refl))
+    none_then e =
+        of_nothing _ (subst (λ (rs : List Reply). Concludes home (of_history hers_alone) 2 4 (handed_over three []) (handed_over three (wire host rs))) e (c.concludes [] (wire host c.replies) refl))
+        0 hers 7 (refl, (5, (0, omega arith, refl))) refl refl
 
     greeted_then : c.replies ≡ Greeting ∷ [] → ⊥
-    greeted_then e = of_nothing (subst (λ (rs : List Reply). ServedConcludes home 2 4 (WasToldOf hers (Stored 7) 5 ∷ []) (handed_over three []) (handed_over three (wire host rs))) e (c.concludes [] (wire host c.replies) refl))
+    greeted_then e =
+        of_nothing _ (subst (λ (rs : List Reply). Concludes home (of_history hers_alone) 2 4 (handed_over three []) (handed_over three (wire host rs))) e (c.concludes [] (wire host c.replies) refl))
+        0 hers 7 (refl, (5, (0, omega arith, refl))) refl refl
 
     empty : (more last : List Reply) → [] ≡ wire host (Greeting ∷ (more ++ last)) → ⊥
     empty more last e = let byte : 0 ≡ 50 = ap (λ (l : List ℕ). get_or l 0 0) e in omega (arith, byte)

@@ -11,7 +11,8 @@ use Rattle.envelope.specs.Names.{Directory}
 use Rattle.delivery_token.specs.Copies.{copies, HeardFor}
 use Rattle.lmtp_machine.specs.Dialogue.{Setting, Submission, keys_from}
 use Rattle.house_peers.specs.Caller.{copies_of}
-use Rattle.laws_relay.specs.Fates.{AreNamed, Names}
+use Rattle.laws_relay.specs.Fates.{AreNamed}
+use Rattle.laws_relay.specs.Concludes.{Names}
 use Rattle.laws_relay.specs.ReplyLaws.{is_stored}
 use Rattle.laws_relay.specs.Numbers.{no_submission}
 use Rattle.world.proofs.Base.{Every, every_append, every_weaker}

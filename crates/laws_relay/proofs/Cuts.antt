@@ -11,8 +11,8 @@ use Rattle.line_io.specs.inner.WireLaws.{wire_joined}
 use Rattle.lmtp_machine.specs.declared.reply.Reply.{Reply}
 use Rattle.lmtp_machine.specs.declared.reply.Reply.TheVariants.{Greeting, LineTooLong, CommandUnknown, NotImplemented, BadClientName, InvalidArguments, PathTooLong, ParameterUnknown, BadSequence, Extensions, SenderOk, DomainUnknown, MailboxUnknown, TooManyRecipients, RecipientOk, StartInput, Okay, CannotVerify, Bye, ShuttingDown, Delivered, ShardFull, ShardClosed, MailboxFull, OutOfMemory, NoUidLeft, MessageTooBig, NulByte}
 use Rattle.lmtp_machine.specs.Dialogue.{reply_text, wire}
-use Rattle.laws_relay.specs.Relay.{last_lines, replies_of}
-use Rattle.laws_relay.specs.ReplyLaws.{IsInLine, last_line}
+use Rattle.laws_relay.specs.Handed.{last_lines, replies_of, IsInLine}
+use Rattle.laws_relay.specs.ReplyLaws.{last_line}
 
 abbrev pub is_inner : ℕ → Bool
 is_inner b = not (b == 10)

@@ -7,29 +7,28 @@ use Rattle.delivery_token.specs.declared.Verdict.{Verdict}
 use Rattle.delivery_token.specs.declared.Verdict.TheVariants.{Stored, Refused}
 use Rattle.envelope.specs.Names.{Directory}
 use Rattle.lmtp_machine.specs.Dialogue.{Submission, verdict_reply}
-use Rattle.laws_relay.specs.Relay.{is_code}
 use Rattle.laws_relay.specs.ReplyLaws.{is_stored, last_line}
-use Rattle.laws_relay.specs.Handed.{Handed, is_taken}
-use Rattle.laws_relay.specs.Fates.{Fate, Awaited, Judged, TurnedAway, Unheard, AreCut, AreNamed, HaveFates, IsSubmitted, Names, all_submitted, all_told, awaited, cut, judged, none, same, turned_away, unheard, was_stored}
+use Rattle.laws_relay.specs.Handed.{Handed, is_code, is_taken}
+use Rattle.laws_relay.specs.Fates.{Fate, Awaited, Judged, TurnedAway, Unheard, AreCut, AreNamed, HaveFates, IsSubmitted, all_submitted, all_told, awaited, cut, judged, none, same, turned_away, unheard, was_stored}
+use Rattle.laws_relay.specs.Concludes.{Names, message_at}
 use Rattle.laws_relay.specs.Conclusions.{MayForget, TakenAreStored, WhatIsReadStays}
 use Rattle.laws_relay.specs.Numbers.{AreNumbered, MessagesAreNumbered, no_submission, number_of, was_submitted}
-use Rattle.laws_relay.specs.Concluding.{message_at}
 use Rattle.laws_relay.proofs.EntryLaws.{apart}
 use Rattle.laws_relay.proofs.Positions.{at_or, at_within, none_at, same_some, within_at}
 
 -- ---- the number of a message, where it was submitted
 
-abbrev given_if : Bool → ℕ → Option ℕ
+abbrev pub given_if : Bool → ℕ → Option ℕ
 given_if true n = Some n
 given_if false n = None
 
-abbrev fate_at : List Fate → ℕ → Fate
+abbrev pub fate_at : List Fate → ℕ → Fate
 fate_at fates k = slice_index_or fates k Unheard
 
-abbrev number_given : List Fate → ℕ → Option ℕ
+abbrev pub number_given : List Fate → ℕ → Option ℕ
 number_given fates k = given_if (was_submitted (fate_at fates k)) (number_of fates k)
 
-given_is : (b : Bool) (m n : ℕ) → given_if b m ≡ Some n → (b ≡ true) × (m ≡ n)
+pub given_is : (b : Bool) (m n : ℕ) → given_if b m ≡ Some n → (b ≡ true) × (m ≡ n)
 given_is true m n e = (refl, same_some e)
 given_is false m n e = absurd (none_at e)
 

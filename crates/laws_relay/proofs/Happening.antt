@@ -13,9 +13,9 @@ use Rattle.house.specs.Scene.{connection_hears, connection_puts, goes_on, opens,
 use Rattle.house.specs.Setup.{Setup, session_seat, terms_of}
 use Rattle.house.specs.declared.event.Event.{Event}
 use Rattle.house.specs.declared.event.Event.TheVariants.{Bytes, Vanish, Put, Take, Deliver, Answer, Hear, End, Close, Enter, Say, Idle, Leave}
-use Rattle.laws_relay.specs.ReplyLaws.{IsInLine}
+use Rattle.laws_relay.specs.Handed.{IsInLine}
 use Rattle.exactly_once.specs.Promise.{Lines, Replies, Silence}
-use Rattle.laws_relay.specs.Record.{came_for, came_in, has_vanished, is_meant, told_in, told_to, vanishes_in}
+use Rattle.laws_relay.specs.RecordLaws.{came_for, came_in, has_vanished, is_meant, told_in, told_to, vanishes_in, AreStill, Sessions, peers_of}
 use Rattle.exactly_once.proofs.Lanes.{IsNoPutOf, put_by, step_puts, step_puts_copy}
 use Rattle.laws_relay.proofs.Moving.{no_copy_grows}
 use Rattle.laws_relay.proofs.Printed.{Past, WentOn, goes_on_known}
@@ -26,7 +26,6 @@ use Rattle.laws_relay.proofs.Stilling.{goes_still, idles_still, leaves_still, ta
 use Rattle.laws_relay.proofs.Worlds.{bears_same, bears_step, bears_still, bears_then, step_hears}
 use Rattle.house.specs.AnyScene as any
 use Rattle.exactly_once.specs.AnyPromise as promised
-use Rattle.laws_relay.specs.Sessions.{AreStill, Sessions, peers_of}
 
 module _ (sessions : Sessions) (still : AreStill sessions) where
   abbrev Scene : Type 0

@@ -7,7 +7,7 @@ use Rattle.std.proofs.lemmas.Bool.Decides.{Decides-eqb}
 use Rattle.envelope.specs.Names.{Home, first_fault, has_length, home_of, homes_unless, is_name, is_name_byte, words_read}
 use Rattle.envelope.specs.declared.directory.DirectoryFault.{DirectoryFault}
 use Rattle.envelope.specs.declared.directory.DirectoryFault.TheVariants.{BadName, TooMany}
-use Rattle.laws_relay.specs.ReplyLaws.{IsInLine}
+use Rattle.laws_relay.specs.Handed.{IsInLine}
 
 both : (a b : Bool) → (a && b) ≡ true → (a ≡ true) × (b ≡ true)
 both true b e = (refl, e)

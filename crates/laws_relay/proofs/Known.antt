@@ -10,9 +10,8 @@ use Rattle.lmtp_machine.specs.declared.reply.Reply.{Reply}
 use Rattle.lmtp_machine.specs.declared.reply.Reply.TheVariants.{ShuttingDown}
 use Rattle.lmtp_machine.specs.Conversation.{IsListening}
 use Rattle.lmtp_machine.specs.Dialogue.{Phase, Ended, Setting, Standing, Submission, Event, Opened, Line, Starved, Answered, Shut, Turn, dialogue, fresh, on_event}
-use Rattle.laws_relay.specs.Relay.{is_code}
+use Rattle.laws_relay.specs.Handed.{is_code, Handed, Relay, Between, Begun, Sends, ask_of, handed, is_end}
 use Rattle.laws_relay.specs.ReplyLaws.{last_line}
-use Rattle.laws_relay.specs.Handed.{Handed, Relay, Between, Begun, Sends, ask_of, handed, is_end}
 use Rattle.laws_relay.specs.Fates.{Fate, Awaited, Unheard, AreKnown, AreFarewells, EachMayHappen, HaveFates, IsSubmitted, MayHappen, all_ends, all_submitted, all_told, answers_in, answers_of, awaited, end_of, ends_in, ends_of, lines_in, lines_of, none, submitted_of, told_of, unheard}
 use Rattle.laws_relay.specs.Conclusions.{MessagesAreKnown, MessagesAreKnownWhileShardsAreShut}
 use Rattle.laws_relay.specs.Moments.{Moment, EachMomentMayHappen, dialogue_over, ends_over, events_of}

@@ -18,7 +18,7 @@ use Rattle.lmtp_machine.proofs.Kept.{dialogue_keeps, fresh_kept}
 use Rattle.running_house.specs.Conversing.{AreDialogues, IsConnection}
 use Rattle.running_house.specs.Storing.{AreVerdicts, IsFull}
 use Rattle.running_house.specs.Woven.{IsWholeDialogue}
-use Rattle.laws_relay.specs.Concluding.{key_at}
+use Rattle.laws_relay.specs.Concludes.{key_at}
 use Rattle.laws_relay.proofs.Positions.{AsMany, at_contains, at_map, at_or, at_position, at_unmap, at_within, contains_at, none_at, position_from, position_of, same_some, within_at}
 
 -- ---- the messages of a connection, by number

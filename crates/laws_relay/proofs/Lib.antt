@@ -26,8 +26,12 @@ mod Seats
 mod Scenes
 mod Happening
 mod RecordConcluding
+mod Recorded
+mod ConcludesHolds
+mod ConcludesRefuted
 mod Names
 mod RecordRefuted
+mod RecordedRefuted
 mod Positions
 mod EntryLaws
 mod FateLaws

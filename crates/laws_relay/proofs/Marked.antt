@@ -9,7 +9,7 @@ use Rattle.line_io.specs.inner.WireLaws.{wire_joined}
 use Rattle.lmtp_machine.specs.declared.reply.Reply.{Reply}
 use Rattle.lmtp_machine.specs.declared.reply.Reply.TheVariants.{Greeting, LineTooLong, CommandUnknown, NotImplemented, BadClientName, InvalidArguments, PathTooLong, ParameterUnknown, BadSequence, Extensions, SenderOk, DomainUnknown, MailboxUnknown, TooManyRecipients, RecipientOk, StartInput, Okay, CannotVerify, Bye, ShuttingDown, Delivered, ShardFull, ShardClosed, MailboxFull, OutOfMemory, NoUidLeft, MessageTooBig, NulByte}
 use Rattle.lmtp_machine.specs.Dialogue.{wire}
-use Rattle.laws_relay.specs.ReplyLaws.{IsInLine}
+use Rattle.laws_relay.specs.Handed.{IsInLine}
 use Rattle.laws_relay.proofs.Cuts.{all_joined, all_lines, all_uncut, around, is_inner, lines_of}
 
 -- lines with no LF

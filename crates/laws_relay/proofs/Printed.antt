@@ -13,7 +13,7 @@ use Rattle.lmtp_machine.specs.Dialogue.{wire}
 use Rattle.house_peers.specs.Caller.{GoesOn, Caller, Proceeds, Terms, Works, answers, fades, lingers, stalls, talks, waits, with_unsaid, works}
 use Rattle.house.specs.Printing.{ConnectionGoes, Leaves, Prints, goes, marked_connection, of_connection, prints_all, prints_none, stays}
 use Rattle.house.proofs.Callers.{does_serial}
-use Rattle.laws_relay.specs.ReplyLaws.{IsInLine}
+use Rattle.laws_relay.specs.Handed.{IsInLine}
 use Rattle.laws_relay.proofs.Marked.{prints_nothing, prints_tell}
 use Rattle.laws_relay.proofs.Seated.{IsKnown, proceeds_known, with_marks}
 

@@ -13,8 +13,7 @@ use Rattle.world.specs.World.{shard_of}
 use Rattle.world.proofs.Always.{always, kept_always}
 use Rattle.world.proofs.Kept.{Kept}
 use Rattle.laws_relay.specs.Concluded.{KnowsAll, MayConclude}
-use Rattle.laws_relay.specs.RecordLaws.{ByTheRecord, IsDone, OfAllEvents, OfScripts, unsaid_by}
-use Rattle.laws_relay.specs.Record.{came_for, has_vanished, new_house, told_to}
+use Rattle.laws_relay.specs.RecordLaws.{ByTheRecord, IsDone, OfAllEvents, OfScripts, unsaid_by, came_for, has_vanished, new_house, told_to, AreStill, Sessions, imap_sessions}
 use Rattle.laws_relay.proofs.Happening.{no_pasts, nothing_known, past_after, record_known}
 use Rattle.exactly_once.proofs.Histories.{every_in, history_was_put}
 use Rattle.laws_relay.proofs.RecordJoined.{Concludes, connection_concludes, connection_knows_all}
@@ -23,8 +22,6 @@ use Rattle.laws_relay.proofs.Printed.{HasEnded}
 use Rattle.laws_relay.proofs.Scenes.{SceneKnown}
 use Rattle.laws_relay.proofs.Seated.{IsOneOf}
 use Rattle.laws_relay.proofs.Seats.{Opened, opened_below, own_terms}
-use Rattle.laws_relay.specs.Sessions.{AreStill, Sessions}
-use Rattle.laws_relay.specs.ImapSessions.{imap_sessions}
 use Rattle.laws_relay.proofs.Sessions.{imap_is_still}
 
 abbrev serial_in : Option Caller → ℕ

@@ -21,9 +21,10 @@ use Rattle.lmtp_machine.specs.Dialogue.{Setting, Submission, wire}
 use Rattle.lmtp_machine.specs.Message.{stored_text}
 use Rattle.house_peers.specs.Caller.{Caller, Terms, copies_of, setting_of}
 use Rattle.laws_relay.specs.Conclusions.{MayForget}
-use Rattle.laws_relay.specs.Fates.{AreCut, Fate, HaveFates, IsSender, IsSubmitted, Names, all_submitted, all_told, was_stored}
-use Rattle.laws_relay.specs.Handed.{Handed, handed_over, is_taken}
-use Rattle.laws_relay.specs.ReplyLaws.{IsInLine, is_stored}
+use Rattle.laws_relay.specs.Fates.{AreCut, Fate, HaveFates, IsSubmitted, all_submitted, all_told, was_stored}
+use Rattle.laws_relay.specs.Concludes.{IsSender, Names}
+use Rattle.laws_relay.specs.Handed.{Handed, handed_over, is_taken, IsInLine}
+use Rattle.laws_relay.specs.ReplyLaws.{is_stored}
 use Rattle.laws_relay.specs.Numbers.{AreNumbered, no_submission, number_of, was_submitted}
 use Rattle.laws_relay.proofs.ReplyConcluding.{fronts_are_cut}
 use Rattle.laws_relay.proofs.Connected.{concludes}

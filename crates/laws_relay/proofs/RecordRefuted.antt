@@ -16,8 +16,7 @@ use Rattle.world.specs.Law.{pairs}
 use Rattle.world.specs.World.{World, empty_world}
 use Rattle.house.specs.Setup.{terms_of}
 use Rattle.house_peers.specs.Caller.{Caller, greeted}
-use Rattle.laws_relay.specs.RecordLaws.{IsDone}
-use Rattle.laws_relay.specs.ImapSessions.{imap_sessions}
+use Rattle.laws_relay.specs.RecordLaws.{IsDone, imap_sessions}
 use Rattle.laws_relay.specs.rows.RecordRows.{left, opened, setup, start}
 use Rattle.laws_relay.specs.Concluded.{MayConclude, StandsAsSent, StandsNowhere}
 
@@ -35,12 +34,12 @@ abbrev right : List ℕ
 right = codes "Return-Path: <s@a.example>\r\n.\r\n"
 
 -- what stands in the first mailbox, and in the second
-abbrev in_box : (first second : List (Job × ℕ)) → ℕ → List (Job × ℕ)
+abbrev pub in_box : (first second : List (Job × ℕ)) → ℕ → List (Job × ℕ)
 in_box first second zero = first
 in_box first second (suc zero) = second
 in_box first second (suc (suc m)) = []
 
-abbrev holds : (first second : List (Job × ℕ)) → World
+abbrev pub holds : (first second : List (Job × ℕ)) → World
 holds first second = record empty_world { box = λ m. record { log = []; base = 0; accepted = in_box first second m } }
 
 none_there : (x : Job × ℕ) → Contains [] x → ⊥

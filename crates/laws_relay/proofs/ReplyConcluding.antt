@@ -7,9 +7,8 @@ use Rattle.line_io.specs.Wire.{wire_lines, wire_rest}
 use Rattle.lmtp_machine.specs.declared.reply.Reply.{Reply}
 use Rattle.lmtp_machine.specs.declared.reply.Reply.TheVariants.{Greeting}
 use Rattle.lmtp_machine.specs.Dialogue.{Submission, dialogue, fresh, wire}
-use Rattle.laws_relay.specs.Relay.{is_code, last_lines, replies_of}
-use Rattle.laws_relay.specs.ReplyLaws.{IsInLine, last_line}
-use Rattle.laws_relay.specs.Handed.{Handed, Relay, Between, Begun, Sends, after_reply, ask_of, handed, handed_over, is_end, is_taken, no_message}
+use Rattle.laws_relay.specs.Handed.{is_code, last_lines, replies_of, IsInLine, Handed, Relay, Between, Begun, Sends, after_reply, ask_of, handed, handed_over, is_end, is_taken, no_message}
+use Rattle.laws_relay.specs.ReplyLaws.{last_line}
 use Rattle.laws_relay.specs.Fates.{Unheard, AreCut, AreKnown, cut, lines_of, none, same, was_stored}
 use Rattle.laws_relay.specs.Moments.{dialogue_over, events_of}
 use Rattle.laws_relay.specs.Conclusions.{FrontsAreCut, MayForget, MessagesAreKnownByBytes, RelaysMayForget, RelaysMayForgetWhileShardsAreShut, WhatIsReadStays}

@@ -5,8 +5,8 @@ use Rattle.line_io.specs.Wire.{joined, wire_lines, wire_rest}
 use Rattle.line_io.specs.inner.WireLaws.{reading_cut, wire_join, wire_joined}
 use Rattle.lmtp_machine.specs.declared.reply.Reply.{Reply}
 use Rattle.lmtp_machine.specs.Dialogue.{wire}
-use Rattle.laws_relay.specs.Relay.{goes_on, last_lines, replies_of}
-use Rattle.laws_relay.specs.ReplyLaws.{IsInLine, last_line}
+use Rattle.laws_relay.specs.Handed.{goes_on, last_lines, replies_of, IsInLine}
+use Rattle.laws_relay.specs.ReplyLaws.{last_line}
 use Rattle.laws_relay.proofs.Cuts.{replies_are_read}
 
 -- the lines of a front are the first of all lines

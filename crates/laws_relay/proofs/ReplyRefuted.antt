@@ -12,7 +12,8 @@ use Rattle.envelope.specs.declared.command.CommandFault.{CommandFault}
 use Rattle.envelope.specs.declared.directory.NoSuch.{NoSuch}
 use Rattle.lmtp_machine.specs.Dialogue.{Submission}
 use Rattle.laws_relay.specs.Handed.{Handed}
-use Rattle.laws_relay.specs.Fates.{Fate, Awaited, Judged, TurnedAway, Unheard, AreKnown, HaveFates, IsSubmitted, Names, all_ends, all_submitted, was_stored}
+use Rattle.laws_relay.specs.Fates.{Fate, Awaited, Judged, TurnedAway, Unheard, AreKnown, HaveFates, IsSubmitted, all_ends, all_submitted, was_stored}
+use Rattle.laws_relay.specs.Concludes.{Names}
 use Rattle.laws_relay.specs.rows.HandedRows.{alice, bob, home, message, path_to, the_submission}
 use Rattle.laws_relay.proofs.Taken.{taken_are_stored}
 

@@ -23,7 +23,7 @@ use Rattle.settings.specs.declared.config.ConfigFault.{ConfigFault}
 use Rattle.lane_work.specs.Account.{room_at}
 use Rattle.lane_work.specs.Consuming.{items_of}
 use Rattle.reckoning.proofs.Parts.{some_at}
-use Rattle.laws_relay.specs.ReplyLaws.{IsInLine}
+use Rattle.laws_relay.specs.Handed.{IsInLine}
 use Rattle.running_house.specs.Agree.{Agrees, accepted_of, answers, copies_taken, histories, notes_of, replies_of, texts_of}
 use Rattle.running_house.specs.Plan.{after_settings, connections_of, plan_fault, premises_for, producers_in}
 use Rattle.running_house.specs.Tells.{AccountsAreOfLines, TakenIsAProducers}

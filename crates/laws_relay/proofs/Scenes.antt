@@ -17,7 +17,7 @@ use Rattle.house.specs.Setup.{Setup, session_seat}
 use Rattle.house.specs.declared.event.Event.{Event}
 use Rattle.house.specs.declared.event.Event.TheVariants.{Bytes, Put, Hear}
 use Rattle.exactly_once.specs.Promise.{Lines, Replies, Silence}
-use Rattle.laws_relay.specs.Record.{came_in, is_meant, told_in, vanishes_in}
+use Rattle.laws_relay.specs.RecordLaws.{came_in, is_meant, told_in, vanishes_in, Sessions, peers_of}
 use Rattle.exactly_once.proofs.Lanes.{put_by}
 use Rattle.laws_relay.proofs.Printed.{Past, WentOn}
 use Rattle.laws_relay.proofs.Seated.{SentGrows}
@@ -25,7 +25,6 @@ use Rattle.laws_relay.proofs.Seats.{ArePast, IsNew, SeatKnown, own_terms, seat_s
 use Rattle.laws_relay.proofs.Worlds.{Bears}
 use Rattle.house.specs.AnyScene as any
 use Rattle.exactly_once.specs.AnyPromise as promised
-use Rattle.laws_relay.specs.Sessions.{Sessions, peers_of}
 
 module _ (sessions : Sessions) where
   abbrev Scene : Type 0

@@ -21,15 +21,15 @@ use Rattle.lmtp_machine.specs.Kept.{IsMessage}
 use Rattle.running_house.specs.Conversing.{IsConnection}
 use Rattle.running_house.specs.Laws.{TalkIsOfLines}
 use Rattle.laws_relay.specs.AccountLaws.{ConnectionsAreKnown}
-use Rattle.laws_relay.specs.Concluding.{key_at, message_at}
+use Rattle.laws_relay.specs.Concludes.{Names, StandsAsSent, WasHandedOver, key_at, message_at, of_history}
 use Rattle.laws_relay.specs.Conclusions.{FrontsAreCut, TakenAreStored, WhatIsReadStays}
-use Rattle.laws_relay.specs.Fates.{AreCut, AreNamed, IsSubmitted, Names}
+use Rattle.laws_relay.specs.Fates.{AreCut, AreNamed, IsSubmitted}
 use Rattle.laws_relay.specs.Handed.{Handed, handed_over, is_taken}
 use Rattle.laws_relay.specs.Numbers.{MessagesAreNumbered}
 use Rattle.laws_relay.specs.ReplyLaws.{is_stored}
-use Rattle.laws_relay.specs.Served.{ConnectionStands, ServedRelaysConclude, StandsInHistory, WasHandedOver}
+use Rattle.laws_relay.specs.Served.{ConnectionStands, ServedRelaysConclude}
 use Rattle.laws_relay.proofs.Concluded.{same_text}
-use Rattle.laws_relay.proofs.FateLaws.{Knows, front_read, front_same, front_taken, knows, named_at, one_number, reply_there, stored_at, stored_is, taken_there}
+use Rattle.laws_relay.proofs.FateLaws.{Knows, front_read, front_same, front_taken, knows, named_at, reply_there, stored_at, stored_is, taken_there}
 use Rattle.laws_relay.proofs.Ledger.{copy_key_at, whole_message}
 use Rattle.laws_relay.proofs.Positions.{at_map, at_unmap, same_some, within_at}
 use Rattle.laws_relay.proofs.ToldCopies.{IsToldOf, of_copy, of_message, taken_dialogue, told_copy}
@@ -103,7 +103,7 @@ read_so_far g k i t = elim (cases_lt i (length (message_at g.part k).replies)) [
 
 -- a recipient whose reply it has read as 250
 had : (g : Known) (k i : ℕ) → is_taken (message_at g.part k) i ≡ true
-    → (n : ℕ) × (g.knows_whole.number k ≡ Some n) × StandsInHistory g.directory g.history (key_at g.seat g.serial n i) (message_at g.part k) i
+    → (n : ℕ) × (g.knows_whole.number k ≡ Some n) × StandsAsSent g.directory (of_history g.history) (key_at g.seat g.serial n i) (message_at g.part k) i
 had g k i t =
     let t_all = front_taken g.stays g.part g.whole g.is_front k i t in
     let n = g.knows_whole.taken k i t_all in
@@ -119,39 +119,45 @@ had g k i t =
     let P : Job × Verdict → Type 0 = λ one. (uid : ℕ) → one.1 ≡ Stored uid → WasJudged g.history one.0 (Stored uid) in
     let stands = of_copy P j.0.message.keys j.0.message.mailboxes j.0.message.text j.0.verdicts i (key_at g.seat g.serial n.0 i) m.0 (Stored v.0) key m.1 v.1
     (of_message P g.judged n.0 j.0 j.1 g.stands.stood) v.0 refl in
+    let alone = alone_there g.history copy v.0 g.legal stands in
     let same = front_same g.is_front k (taken_there g.part k i t) in (
       n.0,
       n.1,
       record {
+        mailbox = m.0;
+        names = subst (λ (rs : List (List ℕ)). Names g.directory (slice_index_or rs i []) m.0) (sym same.recipients) (named_at g.directory (message_at g.whole k).recipients j.0.message.mailboxes is.names i m.0 m.1);
         copy = copy;
         keyed = refl;
-        uid = v.0;
-        names = subst (λ (rs : List (List ℕ)). Names g.directory (slice_index_or rs i []) m.0) (sym same.recipients) (named_at g.directory (message_at g.whole k).recipients j.0.message.mailboxes is.names i m.0 m.1);
         text = same_text (message_at g.part k) (message_at g.whole k) j.0.message.text same (record { sender = is.sender; from = is.from; is = is.text });
-        stands = stands;
-        once = alone_there g.history copy v.0 g.legal stands;
+        plain = refl;
+        uid = v.0;
+        stands = (refl, stands);
+        once = alone.once;
+        nowhere_else = alone.nowhere_else;
       },
     )
 
 -- one whose reply it has read as another
 not_had : (g : Known) (k i n : ℕ) → i < length (message_at g.part k).replies → is_taken (message_at g.part k) i ≡ false → g.knows_whole.number k ≡ Some n
-    → (copy : Job) (uid : ℕ) → Stands g.history copy uid → copy.key ≡ key_at g.seat g.serial n i → ⊥
-not_had g k i n under other e copy uid stands key =
-    let t = stands_told g copy uid stands (ap (λ (x : CopyKey). x.seat) key) (ap (λ (x : CopyKey). x.serial) key) in
+    → (mailbox : ℕ) (copy : Job) (uid : ℕ) → (of_history g.history).Stands mailbox copy uid → copy.key ≡ key_at g.seat g.serial n i → ⊥
+not_had g k i n under other e mailbox copy uid there key =
+    let t = stands_told g copy uid there.1 (ap (λ (x : CopyKey). x.seat) key) (ap (λ (x : CopyKey). x.serial) key) in
     let numbered : g.knows_whole.number k ≡ Some copy.key.message = e ∙ ap (λ (x : CopyKey). Some x.message) (sym key) in
     let taken : is_taken (message_at g.whole k) i ≡ true = ap (λ (x : CopyKey). is_taken (message_at g.whole k) x.recipient) (sym key) ∙ stands_taken g k copy uid t numbered in
     false≢true (sym other ∙ front_read g.stays g.part g.whole g.is_front k i under ∙ taken)
 
 -- whatever stands of the connection
-handed : (g : Known) (copy : Job) (uid : ℕ) → Stands g.history copy uid → copy.key.seat ≡ g.seat → copy.key.serial ≡ g.serial → WasHandedOver g.directory g.knows_whole.number g.part g.whole copy
-handed g copy uid stands own of_serial =
-    let t = stands_told g copy uid stands own of_serial in
+handed : (g : Known) (mailbox : ℕ) (copy : Job) (uid : ℕ) → (of_history g.history).Stands mailbox copy uid → copy.key.seat ≡ g.seat → copy.key.serial ≡ g.serial
+    → WasHandedOver g.directory g.knows_whole.number g.part g.whole mailbox copy
+handed g mailbox copy uid there own of_serial =
+    let t = stands_told g copy uid there.1 own of_serial in
     let k = g.knows_whole.each copy.key.message t.one.message (at_map (λ (x : Judged). x.message) g.judged copy.key.message t.one t.there) in
     let is = message_is g k.0 copy.key.message t.one k.1 t.there in
     record {
       k = k.0;
       numbered = k.1;
-      names = named_at g.directory (message_at g.whole k.0).recipients t.one.message.mailboxes is.names copy.key.recipient copy.mailbox t.mailbox;
+      names = subst (λ (m : ℕ). Names g.directory (slice_index_or (message_at g.whole k.0).recipients copy.key.recipient []) m) there.0
+          (named_at g.directory (message_at g.whole k.0).recipients t.one.message.mailboxes is.names copy.key.recipient copy.mailbox t.mailbox);
       text = record { sender = is.sender; from = is.from; is = t.text ∙ is.text };
       read = read_so_far g k.0 copy.key.recipient (stands_taken g k.0 copy uid t k.1);
     }
@@ -189,7 +195,6 @@ served_relays_conclude known lines fronts stays taken numbers house seat serial 
       rises = h.rises;
       taken = had g;
       refused = not_had g;
-      different = λ k m a b i j ea eb same. (one_number d all submissions answers h k m a b ea eb (ap (λ (x : CopyKey). x.message) same), ap (λ (x : CopyKey). x.recipient) same);
       nothing_else = handed g;
       in_order = λ mailbox. keys_in_order history mailbox seat legal;
     }

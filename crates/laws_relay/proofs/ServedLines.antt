@@ -10,8 +10,9 @@ use Rattle.lmtp_machine.specs.Conversation.{Conversation}
 use Rattle.lmtp_machine.specs.Dialogue.{Phase, Setting, Start, verdict_reply, wire}
 use Rattle.lmtp_machine.specs.declared.reply.Reply.{Reply}
 use Rattle.serving_workers.specs.Leaving.{AreWritten, HaveConversed, all_written, next, none, passed, AreRead, Spoken, Told, WereOver}
+use Rattle.laws_relay.specs.Concludes.{Concludes, of_history}
 use Rattle.laws_relay.specs.Handed.{handed_over}
-use Rattle.laws_relay.specs.Served.{AreReplies, nothing_said, replied, ConnectionConcludes, LineConcludes, LinesConclude, ServedConcludes, ServersConclude, WorkerConcludes, bytes_on, replies_on}
+use Rattle.laws_relay.specs.Served.{AreReplies, nothing_said, replied, ConnectionConcludes, LineConcludes, LinesConclude, ServersConclude, WorkerConcludes, bytes_on, replies_on}
 use Rattle.laws_relay.proofs.ServedWorkers.{earlier, is_this}
 
 abbrev quiet : Spoken
@@ -131,7 +132,7 @@ one_concludes {house} {seat} history conversed worker serial under came read =
       written = was.written;
       silent = was.silent;
       concludes = λ front untold e.
-          subst (λ (l : List ℕ). ServedConcludes house.directory seat serial history (handed_over l front) (handed_over l all)) is (worker.each serial under (was.dropped ++ read.0) front untold e);
+          subst (λ (l : List ℕ). Concludes house.directory (of_history history) seat serial (handed_over l front) (handed_over l all)) is (worker.each serial under (was.dropped ++ read.0) front untold e);
     }
 
 line_concludes : {house : Premises} {seat connections : ℕ} {spoken : List Spoken} {judged : List Judged} (history : List Event) (came : List (List ℕ)) (said : List (List ℕ × Bool)) (conversed : HaveConversed house seat connections spoken judged)

@@ -19,9 +19,9 @@ use Rattle.lmtp_machine.specs.Conversation.{Conversation}
 use Rattle.lmtp_machine.specs.Dialogue.{wire}
 use Rattle.running_house.specs.Laws.{TalkIsOfLines}
 use Rattle.serving_workers.specs.Leaving.{HaveConversed, next, none, passed, Spoken}
-use Rattle.laws_relay.specs.Handed.{Between, handed, handed_over}
-use Rattle.laws_relay.specs.ReplyLaws.{IsInLine}
-use Rattle.laws_relay.specs.Served.{ClientSlotsConclude, ConnectionStands, ServedConcludes, ServedRelaysConclude, ServersConclude, WorkersConclude, bytes_on, replies_on}
+use Rattle.laws_relay.specs.Concludes.{Concludes, of_history}
+use Rattle.laws_relay.specs.Handed.{Between, IsInLine, handed, handed_over}
+use Rattle.laws_relay.specs.Served.{ClientSlotsConclude, ConnectionStands, ServedRelaysConclude, ServersConclude, WorkersConclude, bytes_on, replies_on}
 use Rattle.laws_relay.proofs.FateLaws.{taken_there}
 use Rattle.laws_relay.proofs.Positions.{none_at}
 use Rattle.laws_relay.proofs.ToldCopies.{all_left, all_right, taken_copy, told_of}
@@ -137,7 +137,7 @@ none_handed (line ∷ lines) = refl
 
 silent : (directory : Directory) (seat serial : ℕ) (host sent : List ℕ) (said : List Reply) (judged : List Judged) (history : List Event) → said ≡ [] → judged ≡ []
     → Legal history → ConnectionStands seat serial history (told judged) → (front untold : List ℕ) → front ++ untold ≡ wire host said
-    → ServedConcludes directory seat serial history (handed_over sent front) (handed_over sent (wire host said))
+    → Concludes directory (of_history history) seat serial (handed_over sent front) (handed_over sent (wire host said))
 silent directory seat serial host sent said judged history none_said none_judged legal stands front untold e =
     let quiet : front ≡ [] = none_told front untold (e ∙ ap (wire host) none_said) in
     let nothing : handed_over sent front ≡ [] = ap (handed_over sent) quiet ∙ none_handed (wire_lines sent) in
@@ -146,17 +146,16 @@ silent directory seat serial host sent said judged history none_said none_judged
       number = λ k. None;
       rises = λ k m a b below ea eb. absurd (none_at ea);
       taken = λ k i t. absurd (let u = taken_there (handed_over sent front) k i t in omega (arith, u, few));
-      refused = λ k i n under other ea copy uid there key. absurd (none_at ea);
-      different = λ k m a b i j ea eb same. absurd (none_at ea);
-      nothing_else = λ copy uid there own of_serial. absurd
-          (let has : Contains (told []) (copy, Stored uid) = subst (λ (js : List Judged). Contains (told js) (copy, Stored uid)) none_judged (stands.all copy (Stored uid) own of_serial there) in
+      refused = λ k i n under other ea mailbox copy uid there key. absurd (none_at ea);
+      nothing_else = λ mailbox copy uid there own of_serial. absurd
+          (let has : Contains (told []) (copy, Stored uid) = subst (λ (js : List Judged). Contains (told js) (copy, Stored uid)) none_judged (stands.all copy (Stored uid) own of_serial there.1) in
           let u = has.1 in omega (arith, u));
       in_order = λ mailbox. keys_in_order history mailbox seat legal;
     }
 
 one_concludes : ServedRelaysConclude → (house : Premises) (seat serial : ℕ) (bytes : List ℕ) (said : List Reply) (judged : List Judged) (history : List Event) → IsInLine house.host
     → Legal history → ConnectionStands seat serial history (told judged) → IsTalkOrNone house seat serial bytes said judged → (more front untold : List ℕ) → front ++ untold ≡ wire house.host said
-    → ServedConcludes house.directory seat serial history (handed_over (bytes ++ more) front) (handed_over (bytes ++ more) (wire house.host said))
+    → Concludes house.directory (of_history history) seat serial (handed_over (bytes ++ more) front) (handed_over (bytes ++ more) (wire house.host said))
 one_concludes served house seat serial bytes said judged history in_line legal stands (inl talked) more front untold e =
     served (unclosed house) seat serial bytes said judged talked.at history in_line refl talked.talk legal stands more front untold e
 one_concludes served house seat serial bytes said judged history in_line legal stands (inr (none_said, none_judged)) more front untold e =

@@ -9,8 +9,7 @@ use Rattle.imap_session.specs.Exchange as calls
 use Rattle.imap_session.specs.Exchange.{Call, Look, Read as ReadCall, Count, Alter, Expunge as ExpungeCall, Feed as FeedCall, Leave as LeaveCall, Discard as DiscardCall, Enter as EnterCall, Entered, Looked, Found, Counted, Altered, Expunged, Fed, Left, Discarded, Refused}
 use Rattle.house.specs.Meets.{Meets, IsRefused, IsTurnedAway}
 use Rattle.imap_session.proofs.Carried.{Carries, converses_carried, turns_carried, verdict_carried}
-use Rattle.laws_relay.specs.Sessions.{AreStill, IsStill}
-use Rattle.laws_relay.specs.ImapSessions.{imap_sessions}
+use Rattle.laws_relay.specs.RecordLaws.{AreStill, IsStill, imap_sessions}
 
 -- ---- steps
 

@@ -10,8 +10,7 @@ use Rattle.shard_queue.specs.declared.lane.Entry.TheVariants.{Item}
 use Rattle.world.specs.World.{Config, World, empty_world}
 use Rattle.imap_session.specs.Exchange.{Discarded, Leave, Standing}
 use Rattle.house_peers.specs.Imap.{imap}
-use Rattle.laws_relay.specs.Sessions.{AreStill, IsStill, Sessions}
-use Rattle.laws_relay.specs.ImapSessions.{imap_sessions}
+use Rattle.laws_relay.specs.RecordLaws.{AreStill, IsStill, Sessions, imap_sessions}
 
 -- a copy of the first connection's first message
 abbrev copy : Job

@@ -13,8 +13,7 @@ use Rattle.lmtp_machine.specs.Dialogue.{Phase, Setting, Standing, Event, Opened,
 use Rattle.running_house.specs.Laws.{LinesAreTold}
 use Rattle.running_house.specs.Woven.{IsWholeDialogue, Woven, line, none, submits}
 use Rattle.running_house.specs.Woven as woven
-use Rattle.laws_relay.specs.ReplyLaws.{IsInLine}
-use Rattle.laws_relay.specs.Handed.{handed_over}
+use Rattle.laws_relay.specs.Handed.{IsInLine, handed_over}
 use Rattle.laws_relay.specs.Fates.{MayHappen, answers_of, lines_of}
 use Rattle.laws_relay.specs.Moments.{Moment, EachMomentMayHappen, dialogue_over, events_of}
 use Rattle.laws_relay.specs.Conclusions.{MayForget, RelaysMayForgetWhileShardsAreShut}

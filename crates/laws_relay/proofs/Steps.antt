@@ -13,10 +13,10 @@ use Rattle.lmtp_machine.specs.declared.reply.Reply.TheVariants.{MessageTooBig, N
 use Rattle.lmtp_machine.specs.Message.{outcome, plain, stored_text}
 use Rattle.lmtp_machine.specs.Conversation.{IsInData, IsListening}
 use Rattle.lmtp_machine.specs.Dialogue.{Line, Starved, Answered, Phase, Start, Ready, Transaction, Data, Waiting, Setting, Submission, Turn, turn, at_end, failed, is_dot, keys_from, on_line, on_outcome, on_starved, on_verdicts, verdict_reply}
-use Rattle.laws_relay.specs.Relay.{is_code}
+use Rattle.laws_relay.specs.Handed.{is_code, Handed, Between, Begun, Sends, after_reply, ask_of, handed, is_end}
 use Rattle.laws_relay.specs.ReplyLaws.{last_line}
-use Rattle.laws_relay.specs.Handed.{Handed, Between, Begun, Sends, after_reply, ask_of, handed, is_end}
-use Rattle.laws_relay.specs.Fates.{Fate, Judged, TurnedAway, AreNamed, AreRefusals, HaveFates, IsSender, all_ends, ends_in, all_submitted, all_told, judged, turned_away}
+use Rattle.laws_relay.specs.Fates.{Fate, Judged, TurnedAway, AreNamed, AreRefusals, HaveFates, all_ends, ends_in, all_submitted, all_told, judged, turned_away}
+use Rattle.laws_relay.specs.Concludes.{IsSender}
 use Rattle.laws_relay.proofs.Turned.{Stand, At, Pends, Goes, LooksSame, Spoken, begun, ended, handed_at, line_spoken, named_length, owed, owed_ends, ready, sends, start, waits}
 
 -- Behind an event of these lines and verdicts the relay stands somewhere else, and knows at most one message more.

@@ -6,7 +6,7 @@ use Rattle.house.specs.AnyScene.{Speaks, lingers, parts, remains, talks}
 use Rattle.house.specs.AnyScene as any
 use Rattle.house.specs.Setup.{Setup, session_seat}
 use Rattle.house_peers.specs.AnyVisitor.{GoesOn, SeatedVisitor, Works, answers, rests, stalls, told, waits, works}
-use Rattle.laws_relay.specs.Sessions.{AreStill, IsStill, Sessions, peers_of}
+use Rattle.laws_relay.specs.RecordLaws.{AreStill, IsStill, Sessions, peers_of}
 use Rattle.laws_relay.proofs.Sessions.{same_world, still_then}
 
 module _ (sessions : Sessions) (still : AreStill sessions) where

@@ -9,10 +9,9 @@ use Rattle.delivery_token.specs.declared.Verdict.TheVariants.{Stored, Refused}
 use Rattle.delivery_token.specs.declared.Refusal.TheVariants.{Full, MailboxFull, NoMemory, Shut, UidSpent}
 use Rattle.envelope.specs.Names.{Directory}
 use Rattle.lmtp_machine.specs.Dialogue.{verdict_reply}
-use Rattle.laws_relay.specs.Relay.{is_code}
+use Rattle.laws_relay.specs.Handed.{is_code, Handed, is_taken, no_message}
 use Rattle.laws_relay.specs.ReplyLaws.{DeliveredAloneIsTaken, is_stored, last_line}
 use Rattle.laws_relay.specs.Conclusions.{TakenAreStored}
-use Rattle.laws_relay.specs.Handed.{Handed, is_taken, no_message}
 use Rattle.laws_relay.specs.Fates.{Fate, Unheard, AreFarewells, AreRefusals, HaveFates, awaited, judged, none, turned_away, unheard, was_stored}
 
 pub delivered_alone : DeliveredAloneIsTaken

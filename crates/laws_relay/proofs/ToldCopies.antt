@@ -16,7 +16,7 @@ use Rattle.lmtp_machine.specs.Dialogue.{Setting}
 use Rattle.lmtp_machine.specs.Kept.{IsMessage}
 use Rattle.running_house.specs.Laws.{TalkIsOfLines}
 use Rattle.running_house.specs.Woven.{IsWholeDialogue}
-use Rattle.laws_relay.specs.Concluding.{key_at}
+use Rattle.laws_relay.specs.Concludes.{key_at}
 use Rattle.laws_relay.proofs.Ledger.{copy_key_at, whole_message}
 use Rattle.laws_relay.proofs.Positions.{contains_at, none_at, position_from, same_some}
 

@@ -16,7 +16,8 @@ use Rattle.lmtp_machine.specs.Conversation.{IsInData, IsListening}
 use Rattle.lmtp_machine.specs.Dialogue.{Phase, Start, Ready, Transaction, Data, Waiting, Ended, Standing, Submission, Turn, turn, refuse, fault_reply, last_number, on_command, on_command_line, on_mail, on_reading, on_recipient}
 use Rattle.laws_relay.specs.ReplyLaws.{last_line}
 use Rattle.laws_relay.specs.Handed.{Ask, Handed, Relay, Between, Begun, Sends, after_reply, ask_of, handed}
-use Rattle.laws_relay.specs.Fates.{AreNamed, IsSender, IsSubmitted, Names}
+use Rattle.laws_relay.specs.Fates.{AreNamed, IsSubmitted}
+use Rattle.laws_relay.specs.Concludes.{IsSender, Names}
 use Rattle.laws_relay.proofs.Asks.{IsNo, asks, line_asks, unchanged}
 
 -- ---- where a relay stands beside a dialogue

@@ -24,7 +24,8 @@ use Rattle.running_house.specs.Woven.{IsWholeDialogue, line, none, submits}
 use Rattle.running_house.specs.rows.Rows.{alice}
 use Rattle.running_house.proofs.ListLaws.{contains_cases, contains_none, first_of}
 use Rattle.running_house.specs.Lists.{IsOfCopy, IsTold, ListsAgree, MailboxAgrees}
-use Rattle.laws_relay.specs.Concluding.{RelaysConclude, key_at}
+use Rattle.laws_relay.specs.Concluding.{RelaysConclude}
+use Rattle.laws_relay.specs.Concludes.{key_at}
 use Rattle.laws_relay.specs.AccountLaws.{AccountsConclude, DoUidsRise, TakenIsItsOwn}
 use Rattle.laws_relay.proofs.Positions.{the_one}
 

@@ -6,7 +6,7 @@ use Rattle.exactly_once.proofs.Grown.{heard_stays_heard}
 use Rattle.exactly_once.proofs.Lanes.{IsNoPutOf, put_by, step_puts}
 use Rattle.laws_relay.proofs.Moving.{no_copy_grows, same_lanes}
 use Rattle.laws_relay.proofs.Seated.{SentGrows}
-use Rattle.laws_relay.specs.Sessions.{IsStill}
+use Rattle.laws_relay.specs.RecordLaws.{IsStill}
 
 -- more was heard at each seat, and none of the first seats put a copy
 pub record Bears (connections : ℕ) (w v : World) : Type 0 where

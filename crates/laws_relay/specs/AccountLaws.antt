@@ -14,8 +14,7 @@ use Rattle.shard_queue.specs.declared.lane.Entry.TheVariants.{Item}
 use Rattle.running_house.specs.Accounting.{AccountOfLines}
 use Rattle.running_house.specs.Conversing.{IsConnection}
 use Rattle.running_house.specs.Lists.{ListsAgree}
-use Rattle.laws_relay.specs.ReplyLaws.{IsInLine}
-use Rattle.laws_relay.specs.Handed.{handed_over}
+use Rattle.laws_relay.specs.Handed.{IsInLine, handed_over}
 use Rattle.laws_relay.specs.Conclusions.{MayForget}
 use Rattle.laws_relay.specs.Concluding.{RelaysConclude}
 use Rattle.laws_relay.specs.Entries.{with_uid}

@@ -10,7 +10,8 @@ use Rattle.lmtp_machine.specs.declared.reply.Reply.{Reply}
 use Rattle.lmtp_machine.specs.declared.reply.Reply.TheVariants.{Greeting}
 use Rattle.lmtp_machine.specs.Message.{stored_text}
 use Rattle.lmtp_machine.specs.Dialogue.{wire}
-use Rattle.laws_relay.specs.Fates.{Fate, Unheard, HaveFates, IsSender, Names}
+use Rattle.laws_relay.specs.Fates.{Fate, Unheard, HaveFates}
+use Rattle.laws_relay.specs.Concludes.{IsSender, Names}
 use Rattle.laws_relay.specs.Handed.{Handed, handed_over, is_taken, no_message}
 use Rattle.laws_relay.specs.Numbers.{number_of, was_submitted}
 use Rattle.world.specs.Law.{StandsOnce, accepted_of, keys, pairs}

@@ -1,26 +1,14 @@
 -- What a relay may conclude of a house that ran, by the bytes that it sent and was told on a connection.
 use Rattle.std.specs.Prelude.{◌≡◌, ◌<◌, ℕ, true, false, List, [], ◌∷◌, ◌++◌, length, Contains, Option, Some, slice_get, slice_index_or}
-use Rattle.delivery_token.specs.Text.{Text, undated}
+use Rattle.delivery_token.specs.Text.{Text}
 use Rattle.delivery_token.specs.declared.CopyKey.{CopyKey}
 use Rattle.delivery_token.specs.Keys.{Below}
 use Rattle.envelope.specs.Names.{Directory}
-use Rattle.lmtp_machine.specs.Message.{stored_text}
-use Rattle.laws_relay.specs.Handed.{Handed, handed_over, is_taken, no_message}
-use Rattle.laws_relay.specs.Fates.{IsSender, Names}
+use Rattle.laws_relay.specs.Handed.{Handed, handed_over, is_taken}
+use Rattle.laws_relay.specs.Concludes.{IsTextOf, Names, key_at, message_at}
 use Rattle.laws_relay.specs.Entries.{StandsNowhere, StandsOnce, with_uid}
 
 -- ---- a message that it handed over
-
--- the k-th, counted from 0
-abbrev pub message_at : List Handed → ℕ → Handed
-message_at messages k = slice_index_or messages k no_message
-
--- the text that is stored of it: that of the MAIL line's path and of the lines of the
--- data, without the dots that were put before them, and no date beside it
-pub record IsTextOf (message : Handed) (text : Text) : Type 0 where
-  pub sender : List ℕ
-  pub from : IsSender message.mail sender
-  pub is : text ≡ undated (stored_text sender message.lines)
 
 -- The i-th recipient's copy stands in the mailbox that the i-th accepted RCPT line names, once,
 -- and nowhere else. `texts`: the messages that are there still, each with its UID.
@@ -37,9 +25,6 @@ pub record IsStored (directory : Directory) (accepted : List (List (CopyKey × �
   pub text : (text : Text) → Contains (slice_index_or texts mailbox []) (uid, text) → IsTextOf message text
 
 -- ---- a connection
-
-abbrev pub key_at : (seat serial number recipient : ℕ) → CopyKey
-key_at seat serial number recipient = record { seat = seat; serial = serial; message = number; recipient = recipient }
 
 -- The connection with this serial number of the worker with this seat: these bytes were
 -- sent, and these replied in all. The relay was told any front of the replies.

@@ -5,8 +5,8 @@ use Rattle.envelope.specs.Names.{Directory}
 use Rattle.line_io.specs.Wire.{wire_lines}
 use Rattle.lmtp_machine.specs.declared.reply.Reply.TheVariants.{Greeting}
 use Rattle.lmtp_machine.specs.Dialogue.{Setting, Submission, Event, dialogue, fresh, wire}
-use Rattle.laws_relay.specs.ReplyLaws.{IsInLine, last_line}
-use Rattle.laws_relay.specs.Handed.{Handed, Between, handed, handed_over, is_taken, no_message}
+use Rattle.laws_relay.specs.ReplyLaws.{last_line}
+use Rattle.laws_relay.specs.Handed.{IsInLine, Handed, Between, handed, handed_over, is_taken, no_message}
 use Rattle.laws_relay.specs.Moments.{Moment, EachMomentMayHappen, dialogue_over, ends_over, events_of}
 use Rattle.laws_relay.specs.Fates.{Fate, Unheard, HaveFates, AreKnown, AreCut, EachMayHappen, all_submitted, all_told, answers_of, ends_of, lines_of, was_stored}
 

@@ -9,8 +9,7 @@ use Rattle.lmtp_machine.specs.declared.reply.Reply.TheVariants.{Greeting, Shutti
 use Rattle.lmtp_machine.specs.Conversation.{Conversation, IsListening, Leads, led_by, opened}
 use Rattle.lmtp_machine.specs.Dialogue.{Waiting, Setting, Submission, Answered, Shut, Turn, fresh, verdict_reply, wire}
 use Rattle.lmtp_machine.specs.Kept.{IsMessage}
-use Rattle.laws_relay.specs.ReplyLaws.{IsInLine}
-use Rattle.laws_relay.specs.Handed.{handed_over}
+use Rattle.laws_relay.specs.Handed.{IsInLine, handed_over}
 use Rattle.laws_relay.specs.Fates.{answers_of, lines_of}
 use Rattle.laws_relay.specs.Moments.{Moment, EachMomentMayHappen, dialogue_over, events_of}
 use Rattle.laws_relay.specs.Conclusions.{MayForget}

@@ -1,17 +1,15 @@
 -- What became of the messages that a relay handed over, by the dialogue that the server had with it.
-use Rattle.std.specs.Prelude.{◌≡◌, ℕ, Bool, true, false, codes, List, [], ◌∷◌, ◌++◌, length, map, not, Ok, if◌then◌else◌, slice_index_or}
+use Rattle.std.specs.Prelude.{◌≡◌, ℕ, Bool, true, false, codes, List, [], ◌∷◌, ◌++◌, length, map, not, if◌then◌else◌, slice_index_or}
 use Rattle.std.specs.List.{list_all}
 use Rattle.delivery_token.specs.Text.{undated}
 use Rattle.delivery_token.specs.declared.Verdict.{Verdict}
-use Rattle.envelope.specs.Values.{Path, Mail, Rcpt}
-use Rattle.envelope.specs.Names.{Directory, lookup}
-use Rattle.envelope.specs.Reading.{read}
+use Rattle.envelope.specs.Names.{Directory}
 use Rattle.lmtp_machine.specs.Conversation.{IsInData, IsListening}
 use Rattle.lmtp_machine.specs.Dialogue.{Phase, Data, Waiting, Standing, Setting, Submission, Event, Opened, Line, Starved, Answered, Shut, Turn, is_dot, on_event, verdict_reply}
-use Rattle.lmtp_machine.specs.Message.{sender_text, stored_text}
-use Rattle.laws_relay.specs.Relay.{is_code}
+use Rattle.lmtp_machine.specs.Message.{stored_text}
 use Rattle.laws_relay.specs.ReplyLaws.{is_stored, last_line}
-use Rattle.laws_relay.specs.Handed.{Handed}
+use Rattle.laws_relay.specs.Concludes.{IsSender, Names}
+use Rattle.laws_relay.specs.Handed.{Handed, is_code}
 
 -- ---- what happens on a connection
 
@@ -69,20 +67,12 @@ ends_of setting directory s (event ∷ events) =
 
 -- ---- what was handed over and what was submitted
 
--- this line names this mailbox: it reads as RCPT with a path whose mailbox it is
-abbrev pub Names : Directory → List ℕ → ℕ → Type 0
-Names directory line mailbox = (path : Path) × (read line ≡ Ok (Rcpt path)) × (lookup directory path ≡ Ok mailbox)
-
 -- the i-th line names the i-th mailbox, and there are as many of both
 abbrev pub AreNamed : Directory → List (List ℕ) → List ℕ → Type 0
 AreNamed directory [] [] = Unit {0}
 AreNamed directory [] (mailbox ∷ mailboxes) = ⊥
 AreNamed directory (line ∷ lines) [] = ⊥
 AreNamed directory (line ∷ lines) (mailbox ∷ mailboxes) = Names directory line mailbox × AreNamed directory lines mailboxes
-
--- this line names this sender: it reads as MAIL with a path that says so
-abbrev pub IsSender : List ℕ → List ℕ → Type 0
-IsSender line sender = (path : Path) × (read line ≡ Ok (Mail path)) × (sender ≡ sender_text path)
 
 -- The submission is of this message: its mailboxes are those that the accepted RCPT lines name, in
 -- their order, and its text is the return path of the MAIL line and then the lines of the data,

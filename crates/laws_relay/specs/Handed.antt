@@ -1,10 +1,28 @@
 -- What a relay handed over on a connection, by the lines that it sent and the replies that
--- it read (RFC 2033, 4.2; RFC 5321, 3.3), and by nothing else: no seat, no key,
--- no verdict and none of the server's words, but a reply's code.
-use Rattle.std.specs.Prelude.{ℕ, Bool, List, [], ◌∷◌, ◌++◌, codes, length, take, drop, ◌||◌, if◌then◌else◌, slice_index_or}
+-- it read (RFC 2033, 4.2; RFC 5321, 3.3), and by nothing else: no seat, no key, no verdict and none of the server's words, but a reply's code.
+use Rattle.std.specs.Prelude.{ℕ, Bool, List, [], ◌∷◌, ◌++◌, codes, length, take, drop, ◌||◌, if◌then◌else◌, slice_index_or, ◌≡◌, true, not, ◌==◌}
 use Rattle.std.specs.Str.{bytes_eq, str_eq_ignore_ascii_case as is_same}
 use Rattle.line_io.specs.Wire.{wire_lines}
-use Rattle.laws_relay.specs.Relay.{is_code, replies_of}
+use Rattle.std.specs.List.{list_all}
+
+-- ---- what it reads of the bytes that it is told (RFC 5321, 2.3.8 and 4.2)
+
+-- a line of a reply that another follows: a hyphen stands behind the code
+abbrev pub goes_on : List ℕ → Bool
+goes_on line = bytes_eq (take 1 (drop 3 line)) (45 ∷ [])
+
+-- the reply has this code
+abbrev pub is_code : List ℕ → List ℕ → Bool
+is_code digits reply = bytes_eq (take 3 reply) digits
+
+-- the replies that these lines are, each by its last line. One that has not ended is none yet
+abbrev pub last_lines : List (List ℕ) → List (List ℕ)
+last_lines [] = []
+last_lines (line ∷ lines) = if goes_on line then last_lines lines else line ∷ last_lines lines
+
+-- the replies in what was told
+abbrev pub replies_of : List ℕ → List (List ℕ)
+replies_of told = last_lines (wire_lines told)
 
 -- ---- what it sent
 
@@ -30,9 +48,8 @@ is_end line = bytes_eq line (codes ".")
 
 -- ---- what it knows
 
--- A message that it handed over: the MAIL line, the RCPT lines that were answered 250, the lines of the
--- data without the dot that ends it, and the replies that it read for it: one for each of those
--- RCPT lines, in their order, or fewer where what was told ends before.
+-- A message that it handed over: the MAIL line, the RCPT lines that were answered 250, the lines of the data without the dot that ends it, and the
+-- replies that it read for it: one for each of those RCPT lines, in their order, or fewer where what was told ends before.
 pub record Handed : Type 0 where
   pub mail : List ℕ
   pub recipients : List (List ℕ)
@@ -83,3 +100,7 @@ is_taken message i = is_code (codes "250") (slice_index_or message.replies i [])
 -- where there is no message of a number
 abbrev pub no_message : Handed
 no_message = record { mail = []; recipients = []; lines = []; replies = [] }
+
+-- a server's name that can stand in a line
+abbrev pub IsInLine : List ℕ → Type 0
+IsInLine host = list_all (λ b. not (b == 10)) host ≡ true

@@ -1,4 +1,3 @@
-pub mod Relay
 pub mod ReplyLaws
 pub mod Handed
 pub mod Fates
@@ -6,10 +5,8 @@ pub mod Moments
 pub mod Conclusions
 pub mod Numbers
 pub mod Connections
+pub mod Concludes
 pub mod Concluded
-pub mod Sessions
-pub mod ImapSessions
-pub mod Record
 pub mod RecordLaws
 pub mod Entries
 pub mod Concluding

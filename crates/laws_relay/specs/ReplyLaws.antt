@@ -1,17 +1,12 @@
 -- What holds of a relay that reads what a connection says.
-use Rattle.std.specs.Prelude.{◌≡◌, ◌⊎◌, ℕ, Bool, true, false, not, ◌==◌, List, [], ◌++◌, codes, length, map}
-use Rattle.std.specs.List.{list_all}
+use Rattle.std.specs.Prelude.{◌≡◌, ◌⊎◌, ℕ, Bool, true, false, List, [], ◌++◌, codes, length, map}
 use Rattle.delivery_token.specs.declared.Verdict.{Verdict}
 use Rattle.delivery_token.specs.declared.Verdict.TheVariants.{Stored, Refused}
 use Rattle.envelope.specs.Names.{Directory}
 use Rattle.lmtp_machine.specs.declared.reply.Reply.{Reply}
 use Rattle.lmtp_machine.specs.declared.reply.Reply.TheVariants.{Extensions}
 use Rattle.lmtp_machine.specs.Dialogue.{Phase, Start, Ready, Transaction, Data, Waiting, Setting, Turn, is_dot, on_line, on_starved, on_verdicts, verdict_reply, reply_text, wire}
-use Rattle.laws_relay.specs.Relay.{is_code, replies_of}
-
--- a server's name that can stand in a line
-abbrev pub IsInLine : List ℕ → Type 0
-IsInLine host = list_all (λ b. not (b == 10)) host ≡ true
+use Rattle.laws_relay.specs.Handed.{IsInLine, is_code, replies_of}
 
 -- the last line of a reply: all have one line but the answer to LHLO
 abbrev pub last_line : List ℕ → Reply → List ℕ

@@ -1,11 +1,9 @@
 -- What a relay may conclude of the mail connections of a server, by the bytes that it sent and was told there.
-use Rattle.std.specs.Prelude.{◌≡◌, ◌<◌, ◌≤◌, ◌==◌, ◌⊎◌, ℕ, Bool, true, false, List, [], ◌++◌, All, AllPairs, Contains, Option, Some, length, slice_get, slice_index_or, if◌then◌else◌}
+use Rattle.std.specs.Prelude.{◌≡◌, ◌<◌, ◌≤◌, ◌==◌, ℕ, Bool, false, List, [], ◌++◌, All, AllPairs, Contains, Some, length, slice_get, slice_index_or, if◌then◌else◌}
 use Rattle.delivery_token.specs.Keys.{Below}
-use Rattle.delivery_token.specs.declared.CopyKey.{CopyKey}
 use Rattle.delivery_token.specs.declared.Job.{Job}
 use Rattle.delivery_token.specs.declared.Verdict.{Verdict}
 use Rattle.delivery_token.specs.declared.Verdict.TheVariants.{Stored}
-use Rattle.envelope.specs.Names.{Directory}
 use Rattle.house_history.specs.declared.event.Event.{Event}
 use Rattle.house_history.specs.Events.{accepted_in, keys_of_seat}
 use Rattle.house_history.specs.Legal.{StandsAlone, Legal, Stands, WasJudged}
@@ -20,56 +18,8 @@ use Rattle.settings.specs.declared.config.Config.{Config}
 use Rattle.serving_workers.specs.Finished.{Finished}
 use Rattle.serving_workers.specs.Leaving.{AreWritten, HaveConversed, next, none, passed, Spoken}
 use Rattle.serving.specs.Kept.{HasKept}
-use Rattle.laws_relay.specs.Concluding.{IsTextOf, key_at, message_at}
-use Rattle.laws_relay.specs.Fates.{Names}
-use Rattle.laws_relay.specs.Handed.{Handed, handed_over, is_taken}
-use Rattle.laws_relay.specs.ReplyLaws.{IsInLine}
-
-module _ (directory : Directory) (history : List Event) where
-  -- The copy for the i-th recipient of this message, which has this key, is in the history that all
-  -- threads share: stored in the mailbox that the i-th accepted RCPT line names, with the text
-  -- that came, under one UID, once, and in no other mailbox.
-  pub record StandsInHistory (key : CopyKey) (message : Handed) (i : ℕ) : Type 0 where
-    pub copy : Job
-    pub keyed : copy.key ≡ key
-    pub uid : ℕ
-    pub names : Names directory (slice_index_or message.recipients i []) copy.mailbox
-    pub text : IsTextOf message copy.text
-    pub stands : Stands history copy uid
-    pub once : StandsAlone history copy uid
-
-module _ (directory : Directory) (number : ℕ → Option ℕ) where
-  -- This copy is the one for a recipient of a message that the relay handed over: in the
-  -- mailbox which that RCPT line names, with the text that was sent. And of its reply
-  -- the relay knows that it is 250, or it hasn't read it.
-  pub record WasHandedOver (known whole : List Handed) (copy : Job) : Type 0 where
-    pub k : ℕ
-    pub numbered : number k ≡ Some copy.key.message
-    pub names : Names directory (slice_index_or (message_at whole k).recipients copy.key.recipient []) copy.mailbox
-    pub text : IsTextOf (message_at whole k) copy.text
-    pub read : (is_taken (message_at known k) copy.key.recipient ≡ true) ⊎ (length (message_at known k).replies ≤ copy.key.recipient)
-
-module _ (directory : Directory) (seat serial : ℕ) (history : List Event) where
-  -- What a relay may conclude of the messages that it handed over on the connection with this seat
-  -- and serial: `known`, by what it was told so far; `whole`, by all that was said there.
-  pub record ServedConcludes (known whole : List Handed) : Type 0 where
-    -- The server numbered the messages that were submitted, in their order: this is the number of the k-th
-    -- that was handed over, if it was not refused as a whole. It is part of the keys of its copies.
-    pub number : ℕ → Option ℕ
-    pub rises : (k m a b : ℕ) → k < m → number k ≡ Some a → number m ≡ Some b → a < b
-    -- a recipient whose reply is 250 has its copy in the history
-    pub taken : (k i : ℕ) → is_taken (message_at known k) i ≡ true
-        → (n : ℕ) × (number k ≡ Some n) × StandsInHistory directory history (key_at seat serial n i) (message_at known k) i
-    -- one whose reply is another has no copy of this message there
-    pub refused : (k i n : ℕ) → i < length (message_at known k).replies → is_taken (message_at known k) i ≡ false → number k ≡ Some n
-        → (copy : Job) (uid : ℕ) → Stands history copy uid → copy.key ≡ key_at seat serial n i → ⊥
-    -- different recipients, also of one message, have different copies
-    pub different : (k m a b i j : ℕ) → number k ≡ Some a → number m ≡ Some b → key_at seat serial a i ≡ key_at seat serial b j → (k ≡ m) × (i ≡ j)
-    -- nothing else stands of this connection
-    pub nothing_else : (copy : Job) (uid : ℕ) → Stands history copy uid → copy.key.seat ≡ seat → copy.key.serial ≡ serial
-        → WasHandedOver directory number known whole copy
-    -- in each mailbox the copies of this worker stand in the order in which they were sent: by connection, by message, by recipient
-    pub in_order : (mailbox : ℕ) → AllPairs Below (keys_of_seat seat (accepted_in mailbox history))
+use Rattle.laws_relay.specs.Concludes.{Concludes, of_history}
+use Rattle.laws_relay.specs.Handed.{IsInLine, handed_over}
 
 -- ---- a connection, at any moment between two messages
 
@@ -80,9 +30,8 @@ pub record ConnectionStands (seat serial : ℕ) (history : List Event) (told : L
   pub all : (copy : Job) (verdict : Verdict) → copy.key.seat ≡ seat → copy.key.serial ≡ serial → WasJudged history copy verdict
       → Contains told (copy, verdict)
 
--- A connection of a worker that closes no shard has taken these bytes and said these replies, and of
--- its copies just those stand of which Stored was told. A relay that sent these bytes, and
--- perhaps more behind them, was told any front of the replies: it may conclude.
+-- A connection of a worker that closes no shard has taken these bytes and said these replies, and of its copies just those stand of which Stored was
+-- told. A relay that sent these bytes, and perhaps more behind them, was told any front of the replies: it may conclude.
 abbrev pub ServedRelaysConclude : Type 0
 ServedRelaysConclude =
     (house : Premises) (seat serial : ℕ) (bytes : List ℕ) (said : List Reply) (judged : List Judged) (at : Conversation) (history : List Event)
@@ -90,7 +39,8 @@ ServedRelaysConclude =
     → HasTaken (setting_at house seat serial) house.directory bytes said judged at
     → Legal history → ConnectionStands seat serial history (told judged)
     → (more front untold : List ℕ) → front ++ untold ≡ wire house.host said
-    → ServedConcludes house.directory seat serial history (handed_over (bytes ++ more) front) (handed_over (bytes ++ more) (wire house.host said))
+    → Concludes house.directory (of_history history) seat serial (handed_over (bytes ++ more) front)
+    (handed_over (bytes ++ more) (wire house.host said))
 
 -- ---- all connections of a worker
 
@@ -111,7 +61,7 @@ pub record WorkerConcludes (house : Premises) (seat : ℕ) (history : List Event
     (conversed : HaveConversed house seat connections spoken judged) : Type 0 where
   -- Of each connection: a relay that sent what came there, and perhaps more behind it, was told any front of the replies.
   pub each : (serial : ℕ) → serial < connections → (more front untold : List ℕ) → front ++ untold ≡ wire house.host (replies_on conversed serial)
-      → ServedConcludes house.directory seat serial history (handed_over (bytes_on conversed serial ++ more) front)
+      → Concludes house.directory (of_history history) seat serial (handed_over (bytes_on conversed serial ++ more) front)
       (handed_over (bytes_on conversed serial ++ more) (wire house.host (replies_on conversed serial)))
   -- whatever stands of this worker is of one of these connections
   pub nothing_else : (copy : Job) (uid : ℕ) → Stands history copy uid → copy.key.seat ≡ seat → copy.key.serial < connections
@@ -130,10 +80,9 @@ ServersConclude = (config : Config) (finished : Finished) (kept : HasKept config
 
 -- ---- what clients append
 
--- Of a client slot, whose clients appended these messages, of which these verdicts were told: just those stand
--- of which Stored was told. They are the very messages, in the mailboxes that were named, with
--- their texts and flags, each once, under the UID that was told, and in no other
--- mailbox; and in each mailbox they stand in the order in which they were appended.
+-- Of a client slot, whose clients appended these messages, of which these verdicts were told: just those stand of which Stored was told. They are the
+-- very messages, in the mailboxes that were named, with their texts and flags, each once, under the UID that was told, and in no other mailbox; and
+-- in each mailbox they stand in the order in which they were appended.
 pub record ClientSlotConcludes (seat : ℕ) (history : List Event) (copies : List (Job × Verdict)) : Type 0 where
   pub stand : StandAsTold seat history copies
   pub once : All (λ (one : Job × Verdict). (uid : ℕ) → one.1 ≡ Stored uid → StandsAlone history one.0 uid) copies
@@ -156,10 +105,9 @@ pub data AreReplies (house : Premises) (seat serial : ℕ) : (bytes : List ℕ) 
       → HasTaken (setting_at house seat serial) house.directory bytes replies judged at → AreReplies house seat serial bytes replies at.standing.phase
 
 module _ (house : Premises) (seat serial : ℕ) (history : List Event) where
-  -- The connection with this serial, whose peer sends this, and to which that was written, whose output
-  -- failed or didn't: what was written is the replies to the bytes that were taken of it,
-  -- and perhaps at last that the server shuts down; where the output failed, a
-  -- beginning; and nothing where nothing was said. By any beginning of the replies that it has read the peer may conclude.
+  -- The connection with this serial, whose peer sends this, and to which that was written, whose output failed or didn't: what was written is the
+  -- replies to the bytes that were taken of it, and perhaps at last that the server shuts down; where the output failed, a beginning; and nothing
+  -- where nothing was said. By any beginning of the replies that it has read the peer may conclude.
   pub record ConnectionConcludes (came said : List ℕ) (failed : Bool) : Type 0 where
     pub taken : List ℕ
     pub replies : List Reply
@@ -169,7 +117,7 @@ module _ (house : Premises) (seat serial : ℕ) (history : List Event) where
     pub written : AreWritten house.host taken replies phase said failed
     pub silent : replies ≡ [] → (said ≡ []) × (failed ≡ false)
     pub concludes : (front untold : List ℕ) → front ++ untold ≡ wire house.host replies
-        → ServedConcludes house.directory seat serial history (handed_over came front) (handed_over came (wire house.host replies))
+        → Concludes house.directory (of_history history) seat serial (handed_over came front) (handed_over came (wire house.host replies))
 
 module _ (house : Premises) (seat : ℕ) (history : List Event) where
   -- Of each connection that came in at this line of a worker, by what the line tells of it; and whatever stands of this worker is of one of them.

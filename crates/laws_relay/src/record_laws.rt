@@ -1,8 +1,6 @@
 //! Laws of what a relay may conclude, as functions that do nothing.
 
-ghost use Rattle.laws_relay.specs.RecordLaws.{ByTheRecord, OfAllEvents, OfScripts, SettingsAreInLine};
-ghost use Rattle.laws_relay.specs.Sessions.{AreStill, Sessions};
-ghost use Rattle.laws_relay.specs.ImapSessions.{imap_sessions};
+ghost use Rattle.laws_relay.specs.RecordLaws.{AreStill, ByTheRecord, OfAllEvents, OfScripts, RelaysConcludeByRecords, Sessions, SettingsAreInLine, imap_sessions};
 
 /// What the sessions of a house speak whose connections speak LMTP, and all that a relay asks of these: what they ask of mailboxes changes no lane.
 pub trait StillSessions {
@@ -19,7 +17,11 @@ pub trait StillSessions {
 /// nothing else stands: each copy of the connection is one of these, or one whose reply it hasn't read; and there are none of
 /// connections that weren't opened.
 pub fn relays_may_conclude_over_any<S: StillSessions>()
-    // So of every record of a house, of each connection that was opened; and its seats have no copies of one that wasn't.
+    // So of every record of a house, in the words in which it is said of a server too.
+    ensures concluded { RelaysConcludeByRecords S.sessions }
+
+    // And by what became of each message, with what is still to be printed, and of a relay that was told all: so of every record of a house, of each
+    // connection that was opened; and its seats have no copies of one that wasn't.
     ensures recorded { ByTheRecord S.sessions }
 
     // So of all events of a new house and what they printed.
@@ -33,7 +35,10 @@ pub fn imap_sessions_may_visit()
 
 /// So it is where sessions speak IMAP, and of all that a script has written. The name of a house that has settings is one that can stand in a line.
 pub fn relays_may_conclude()
-    // So of every record of a house, of each connection that was opened; and its seats have no copies of one that wasn't.
+    // So of every record of a house, in the words in which it is said of a server too.
+    ensures concluded { RelaysConcludeByRecords imap_sessions }
+
+    // And by what became of each message: so of every record of a house, of each connection that was opened; and its seats have no copies of one that wasn't.
     ensures recorded { ByTheRecord imap_sessions }
 
     // So of all events of a new house and what they printed, and of a script's lines that were played.

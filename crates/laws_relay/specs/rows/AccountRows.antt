@@ -6,9 +6,8 @@ use Rattle.delivery_token.specs.declared.CopyKey.{CopyKey}
 use Rattle.envelope.specs.Reading.{read, forward_at}
 use Rattle.envelope.specs.Values.{To}
 use Rattle.laws_relay.specs.Handed.{Handed, handed_over, is_taken}
-use Rattle.laws_relay.specs.Fates.{Names}
+use Rattle.laws_relay.specs.Concludes.{Names, IsTextOf, key_at, message_at}
 use Rattle.laws_relay.specs.rows.HandedRows.{alice, bob, greeting, home, message, path_to, three}
-use Rattle.laws_relay.specs.Concluding.{IsTextOf, key_at, message_at}
 use Rattle.laws_relay.specs.Entries.{StandsNowhere, StandsOnce, with_key, with_uid}
 
 -- ---- what the relay was told

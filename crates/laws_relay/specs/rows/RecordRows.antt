@@ -13,8 +13,7 @@ use Rattle.laws_relay.specs.rows.HandedRows.{home, the_submission}
 use Rattle.shard_queue.specs.Lane.{set_at}
 use Rattle.exactly_once.specs.Promise.{Entry, Other, Replies, Silence, Verdict}
 use Rattle.laws_relay.specs.Concluded.{key_at}
-use Rattle.laws_relay.specs.Record.{came_for, has_vanished, told_to}
-use Rattle.laws_relay.specs.ImapSessions.{imap_sessions}
+use Rattle.laws_relay.specs.RecordLaws.{came_for, has_vanished, told_to, imap_sessions}
 
 abbrev pub setup : Setup
 setup = record {

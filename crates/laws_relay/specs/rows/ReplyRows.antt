@@ -3,8 +3,7 @@ use Rattle.std.specs.Prelude.{◌≡◌, ℕ, true, false, List, [], ◌∷◌, 
 use Rattle.std.proofs.Common.{refl}
 use Rattle.lmtp_machine.specs.declared.reply.Reply.TheVariants.{Greeting, Extensions, SenderOk}
 use Rattle.lmtp_machine.specs.Dialogue.{wire}
-use Rattle.laws_relay.specs.Relay.{is_code, replies_of}
-use Rattle.laws_relay.specs.ReplyLaws.{IsInLine}
+use Rattle.laws_relay.specs.Handed.{is_code, replies_of, IsInLine}
 
 -- up to the reply to MAIL: that to LHLO has four lines, and is one reply
 abbrev pub begun : List ℕ
