@@ -25,18 +25,21 @@ use Rattle.house.specs.declared.event.Event.TheVariants.{Hear, Put, Say}
 use Rattle.exactly_once.specs.Promise.{Entry, IsEntry, IsRecord, Lines, Piece, Replies, Silence, text_of}
 use Rattle.exactly_once.proofs.Going.{record_append}
 use Rattle.exactly_once.proofs.Whole.{IsWhole, goes_whole, whole_append}
-use Rattle.laws_client.specs.Beliefs.{IsRight}
+use Rattle.laws_client.specs.Clients.{IsRight}
 use Rattle.laws_client.specs.Client.{Client as Reader, Known, knowing}
 use Rattle.imap_session.specs.Happenings.{Answer, Happening, Heard, Line, Literal, LongLine, Told, Turned, Words, bytes_in, leads_to, told_line, told_of, whole_line}
 use Rattle.laws_client.specs.Appends.{EndsWith}
 use Rattle.laws_client.specs.AtEntries.{AnswersAt, AnswersMakeCurrent, VerdictsMakeCurrent}
 use Rattle.laws_client.specs.Clients.{hears_all}
 use Rattle.laws_client.specs.Current.{shows_all}
-use Rattle.laws_client.specs.Lives.{Lives}
-use Rattle.laws_client.specs.ClientRecords.{IsPrintable, is_left, lets_in, sent_by_then, sent_in, shown_by_then, shown_in, unless, first_words}
-use Rattle.laws_client.specs.Sizes.{HasShortTexts, HasSmallNumbers}
+use Rattle.laws_client.specs.HouseClients.{Lives}
+use Rattle.laws_client.specs.ClientRecords.{is_left, lets_in, sent_by_then, sent_in, shown_by_then, unless, first_words}
+use Rattle.laws_client.specs.HouseClients.{IsPrintable, shown_in}
+use Rattle.laws_client.specs.Sizes.{HasShortTexts}
+use Rattle.laws_client.specs.HouseClients.{HasSmallNumbers}
 use Rattle.laws_client.specs.RecordTurns.{Stands}
-use Rattle.laws_client.specs.Views.{IsOfOthers, messages_of}
+use Rattle.laws_client.specs.Views.{messages_of}
+use Rattle.laws_client.specs.HouseClients.{IsOfOthers}
 use Rattle.laws_client.proofs.IdleTags.{AreTagsOf}
 use Rattle.laws_client.proofs.Answered.{Came, told_bytes}
 use Rattle.laws_client.proofs.LastLines.{IsWord}

@@ -277,7 +277,7 @@ one_more (Line line answers) bytes turn timely sends only e =
     let is = only line sends in
     let n = noop_turn answers turn (subst (λ (l : List ℕ). turn_of standing l answers ≡ Some turn) is e) in
     record { stands = n.0; nowhere = n.1; tells = inr (sends ∙ ap (λ (l : List ℕ). l ++ crlf) is, n.2) }
-one_more LongLine bytes turn timely (line, long, is) only e = absurd (let size : length line ≡ 6 = ap length (only line is) in omega (arith, size, long))
+one_more LongLine bytes turn timely (line, long, uncut, is) only e = absurd (let size : length line ≡ 6 = ap length (only line is) in omega (arith, size, long))
 one_more (Turned []) bytes turn timely sends only e =
     subst (DoesNothing (Turned []) bytes) (same_turn (nothing_more afters.Idle standing) turn e) (record { stands = refl; nowhere = refl; tells = inl (sends, refl) })
 one_more (Turned (one ∷ more)) bytes turn timely sends only e = absurd cc

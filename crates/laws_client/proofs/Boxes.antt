@@ -4,7 +4,7 @@ use Rattle.shard_queue.proofs.AtLaws.{at_cases}
 use Rattle.delivery_token.specs.declared.Job.{Job}
 use Rattle.change_ring.specs.declared.change.Change.{Change}
 use Rattle.world.specs.World.{Config, World, Box, Session, Event, Put, PutEnd, Take, Deliver, Answer, Hear, Enter, Status, Read, Store, Expunge, Feed, Leave, Step, Steps, IsWorld, put_joins, put_full, put_no_memory, put_shut, end_joins, end_full, takes, take_empty, delivers, deliver_spent, deliver_full, deliver_no_memory, answers, answer_full, hears_one, enters, enter_spent, enter_no_memory, MailStep, mails, mail_lapped, mail_spent, mail_no_memory, LeaveStep, leaves, leave_spent, Logs, last_uid, most_changes, next_uid, empty_world, Discard, DiscardStep, discards_them, discard_spent}
-use Rattle.laws_client.specs.Sizes.{HasSmallNumbers}
+use Rattle.laws_client.specs.HouseClients.{HasSmallNumbers}
 
 pub data Goes (k : Config) (old new : Box) : Type 0 where
   unmoved : new ≡ old → Goes k old new

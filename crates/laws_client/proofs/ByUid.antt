@@ -1,7 +1,7 @@
 -- Flags by UID.
 use Rattle.std.proofs.Common.{◌≡◌, ℕ, zero, suc, List, [], ◌∷◌, Contains, sym, subst, arith}
 use Rattle.std.specs.Prelude.{Some}
-use Rattle.laws_client.specs.Beliefs.{Each, IsOf}
+use Rattle.laws_client.specs.Clients.{Each, IsOf}
 use Rattle.laws_client.specs.Client.{Known}
 use Rattle.laws_client.specs.Flags.{Believes, FlagsOf, Point, counted}
 use Rattle.laws_client.specs.FlagLaws.{FlagsAreByUid}

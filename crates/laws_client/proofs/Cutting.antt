@@ -13,9 +13,12 @@ use Rattle.imap_session.specs.Exchange as calls
 use Rattle.laws_client.specs.ListTurns.{IsRead, IsRowOf, Sees, SeesAll}
 use Rattle.laws_client.proofs.IdleTags.{AreTagsOf}
 use Rattle.laws_client.specs.Cuts.{AnswersAreCut, AnswersWereCut, CutsSo, Cutter, EachIsOne, IsAnswered, IsOneAnswer, between, cut_between, cuts, ends, has_any, is_ended, leaves_open, opens}
-use Rattle.laws_client.specs.Lives.{Lives, comes, others, turns}
-use Rattle.laws_client.specs.ClientRecords.{IsPrintable, first_standing, first_words, shown_by_then, user_by_then}
-use Rattle.laws_client.specs.Sizes.{HasShortTexts, HasSmallNumbers}
+use Rattle.laws_client.specs.HouseClients.{comes, others, turns}
+use Rattle.laws_client.specs.HouseClients.{Lives}
+use Rattle.laws_client.specs.ClientRecords.{first_words, shown_by_then, user_by_then}
+use Rattle.laws_client.specs.HouseClients.{IsPrintable, first_standing}
+use Rattle.laws_client.specs.Sizes.{HasShortTexts}
+use Rattle.laws_client.specs.HouseClients.{HasSmallNumbers}
 use Rattle.laws_client.specs.RecordTurns.{Stands}
 use Rattle.laws_client.specs.Commands.{AreNames}
 use Rattle.imap_grammar.specs.Reading.{read}

@@ -21,9 +21,10 @@ use Rattle.house.specs.declared.event.Event as house
 use Rattle.house.specs.declared.event.Event.TheVariants.{Enter, Say, Idle, Leave}
 use Rattle.exactly_once.specs.Promise.{Lines, Piece, Silence}
 use Rattle.exactly_once.proofs.Whole.{IsWhole, greeting_whole, idles_whole, whole_append}
-use Rattle.laws_client.specs.ClientRecords.{began_in, is_left, lets_in, sent_in, shown_in, stays_in, unless, user_in, serial_in, first_words}
-use Rattle.laws_client.specs.Sizes.{HasSmallNumbers}
-use Rattle.laws_client.specs.Views.{IsOfOthers}
+use Rattle.laws_client.specs.ClientRecords.{began_in, is_left, lets_in, sent_in, stays_in, unless, user_in, serial_in, first_words}
+use Rattle.laws_client.specs.HouseClients.{shown_in}
+use Rattle.laws_client.specs.HouseClients.{HasSmallNumbers}
+use Rattle.laws_client.specs.HouseClients.{IsOfOthers}
 use Rattle.laws_client.proofs.Recording.{Arrival, Client, Walk, Watched, client_more, client_others, came_as, client_said, goes, heard_small, lingers_watched, parted, stands, still_whole, talks_walk, talks_watched, walk_call, walk_met, walk_parts, walk_then, walk_world, watched_others, watched_walk}
 use Rattle.laws_client.proofs.Seated.{IsHere, here_as, here_met, idle_here}
 use Rattle.laws_client.proofs.Talked.{idles_reached, talked_none}

@@ -11,7 +11,8 @@ use Rattle.imap_answers.specs.Answers.{answered, fetch_answer, flags_last, is_fl
 use Rattle.imap_grammar.specs.declared.items.FetchItem.{FetchItem}
 use Rattle.imap_grammar.specs.declared.items.FetchItem.TheVariants as fetch
 use Rattle.laws_client.specs.Client.{Messages, knowing, reads, told, words, into_first, items, unopened, fetched, on_list}
-use Rattle.laws_client.specs.Beliefs.{IsOf, Leaves}
+use Rattle.laws_client.specs.Beliefs.{Leaves}
+use Rattle.laws_client.specs.Clients.{IsOf}
 use Rattle.laws_client.specs.Fetches.{AreToldParts}
 use Rattle.laws_client.proofs.Bytes.{decimal_word, words_are_inner}
 use Rattle.laws_client.proofs.Each.{IsIn, is_told}

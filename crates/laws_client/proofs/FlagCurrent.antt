@@ -28,7 +28,7 @@ use Rattle.imap_session.specs.Happenings.{Answer as Answer_to, Line, Told, Words
 use Rattle.laws_client.specs.ListTurns.{IsTag}
 use Rattle.laws_client.proofs.Tags.{tags_are_tags}
 use Rattle.laws_client.specs.Clients.{has_ok, hears_all}
-use Rattle.laws_client.specs.Lives.{turns}
+use Rattle.laws_client.specs.HouseClients.{turns}
 use Rattle.laws_client.specs.Current.{IsAnswered}
 use Rattle.laws_client.specs.Views.{messages_of}
 use Rattle.laws_client.proofs.RecordEntering.{mapped, only_done, only_refused, refusal_has_none}
@@ -36,10 +36,12 @@ use Rattle.laws_client.proofs.Moved.{Calls, short_met}
 use Rattle.laws_client.proofs.RecordWorlds.{sound_always}
 use Rattle.laws_client.proofs.RecordCurrent.{all_shown, the_session}
 use Rattle.laws_client.proofs.Each.{each_weaker}
-use Rattle.laws_client.specs.Beliefs.{Each}
+use Rattle.laws_client.specs.Clients.{Each}
 use Rattle.laws_client.specs.Client.{Client}
 use Rattle.laws_client.specs.Flags.{Believes, BelievesNow, Point}
-use Rattle.laws_client.specs.Worlds.{DoneTellsFlags, HasFlagsNow, IsRightOnFlags, NoopTellsFlags, NothingPendingTellsFlags, point_of}
+use Rattle.laws_client.specs.Worlds.{DoneTellsFlags, HasFlagsNow, NoopTellsFlags, NothingPendingTellsFlags}
+use Rattle.laws_client.specs.HouseClients.{point_of}
+use Rattle.laws_client.specs.Flags.{IsRightOnFlags}
 use Rattle.laws_client.proofs.FlagKnown.{lives_flags}
 use Rattle.laws_client.proofs.Moments.{flags_are_current}
 use Rattle.laws_client.proofs.FlagWorlds.{the_point}

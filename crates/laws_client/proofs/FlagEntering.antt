@@ -15,7 +15,7 @@ use Rattle.laws_client.specs.Clients.{has_ok, reads_on}
 use Rattle.laws_client.proofs.RecordEntering.{IfOk, mapped, only_done, only_refused, selecting_known}
 use Rattle.laws_client.specs.Flags.{Believes, Point, counted}
 use Rattle.laws_client.specs.FlagTurns.{LeadsFlags, shown_in}
-use Rattle.laws_client.specs.Worlds.{IsRightOnFlags}
+use Rattle.laws_client.specs.Flags.{IsRightOnFlags}
 use Rattle.laws_client.proofs.FlagMoments.{SeesAllMoments, SeesMoments}
 use Rattle.laws_client.proofs.ToldAll.{HearsAll}
 use Rattle.laws_client.proofs.Turning.{grown_still, leaves}

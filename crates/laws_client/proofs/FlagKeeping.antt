@@ -5,7 +5,8 @@ use Rattle.house.specs.Scene.{empty_scene}
 use Rattle.script.specs.Promise.{entries_of}
 use Rattle.script.proofs.Parts.{parts_record}
 use Rattle.laws_client.specs.Clients.{hears_all}
-use Rattle.laws_client.specs.ClientRecords.{first_standing, user_by_then}
+use Rattle.laws_client.specs.ClientRecords.{user_by_then}
+use Rattle.laws_client.specs.HouseClients.{first_standing}
 use Rattle.laws_client.specs.Sizes.{HasShortTexts}
 use Rattle.laws_client.specs.RecordTurns.{Stands}
 use Rattle.laws_client.proofs.Folded.{folders_plain}

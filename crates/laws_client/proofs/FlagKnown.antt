@@ -23,8 +23,10 @@ use Rattle.imap_session.proofs.Barring.{refuses}
 use Rattle.imap_session.specs.declared.texts.ResponseText.{ResponseText}
 use Rattle.laws_client.proofs.Barred.{asked_has, line_case, login_asks, refused_turn}
 use Rattle.laws_client.specs.Clients.{Asked, answered, asked, asked_by, hears, hears_all, reads_on}
-use Rattle.laws_client.specs.Lives.{Lives, comes, turns, others}
-use Rattle.laws_client.specs.Sizes.{HasShortTexts, HasSmallNumbers}
+use Rattle.laws_client.specs.HouseClients.{comes, turns, others}
+use Rattle.laws_client.specs.HouseClients.{Lives}
+use Rattle.laws_client.specs.Sizes.{HasShortTexts}
+use Rattle.laws_client.specs.HouseClients.{HasSmallNumbers}
 use Rattle.laws_client.specs.RecordTurns.{Stands}
 use Rattle.laws_client.proofs.Boxes.{box_goes}
 use Rattle.laws_client.proofs.RecordEntering.{tagged_has}
@@ -39,7 +41,9 @@ use Rattle.laws_client.specs.FlagTurns.{LeadsFlags}
 use Rattle.laws_client.specs.Views.{view_of}
 use Rattle.laws_client.proofs.FlagMoments.{SeesAllMoments, at_moments}
 use Rattle.laws_client.proofs.ToldAll.{HearsAll}
-use Rattle.laws_client.specs.Worlds.{IsRightOnFlags, LivesTellFlags, TurnsTellFlags, point_of}
+use Rattle.laws_client.specs.Worlds.{LivesTellFlags, TurnsTellFlags}
+use Rattle.laws_client.specs.HouseClients.{point_of}
+use Rattle.laws_client.specs.Flags.{IsRightOnFlags}
 use Rattle.laws_client.proofs.FlagEntering.{closes_right, not_entered_right, not_left_right, reads_right, selects_right, still_right}
 use Rattle.laws_client.proofs.Idling.{idle_tells}
 use Rattle.laws_client.proofs.Saying.{answer_tells, verdict_tells}

@@ -13,7 +13,7 @@ use Rattle.imap_session.specs.Exchange.{Alter, Altered, Look, Looked, Turn}
 use Rattle.world.specs.World.{Box, mails}
 use Rattle.world.specs.First.{one_copy}
 use Rattle.imap_session.specs.Happenings.{Line}
-use Rattle.laws_client.specs.Lives.{turns}
+use Rattle.laws_client.specs.HouseClients.{turns}
 use Rattle.laws_client.specs.RecordLife.{one_last}
 use Rattle.laws_client.proofs.RecordOneLife.{one_life_is_lived, selects, shows_it}
 use Rattle.laws_client.specs.FlagLife.{OneLifeKnowsFlags}

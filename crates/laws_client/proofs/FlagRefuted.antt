@@ -11,7 +11,8 @@ use Rattle.change_ring.specs.Words.{flag_words}
 use Rattle.imap_session.specs.Exchange.{Alter, Altered, Fed, Feed}
 use Rattle.imap_session.specs.Commands.{unlimited}
 use Rattle.change_ring.specs.declared.flag_op.FlagOp.{FlagOp}
-use Rattle.laws_client.specs.Beliefs.{Each, Follows}
+use Rattle.laws_client.specs.Beliefs.{Follows}
+use Rattle.laws_client.specs.Clients.{Each}
 use Rattle.laws_client.specs.Client.{Client, Known, Messages, unknown}
 use Rattle.laws_client.specs.FlagLaws.{HearsFlags}
 use Rattle.laws_client.specs.Flags.{FlagsOf, KnowsFlags, HasNow, Point, flags_at}

@@ -17,19 +17,23 @@ use Rattle.delivery_core.specs.Clients.{Done, row_with, rows_then}
 use Rattle.imap_session.specs.Exchange.{Call, Answer, Event as Happened, Look, Read as ReadCall, Count, Alter, Expunge as ExpungeCall, Feed as FeedCall, Leave as LeaveCall, Enter as EnterCall, Entered, Looked, Found, Counted, Altered, Expunged, Fed, Left, Refused, Discard as DiscardCall, Discarded}
 use Rattle.imap_session.specs.Store.{Met}
 use Rattle.house.specs.Meets.{Meets}
-use Rattle.laws_client.specs.Beliefs.{Each}
+use Rattle.laws_client.specs.Clients.{Each}
 use Rattle.laws_client.specs.Client.{Client}
 use Rattle.laws_client.specs.ListTurns.{Sees}
 use Rattle.laws_client.proofs.Each.{each_weaker}
-use Rattle.laws_client.specs.Sizes.{HasShortTexts, HasSmallNumbers}
-use Rattle.laws_client.specs.Views.{IsOfOthers, view_in, view_of}
+use Rattle.laws_client.specs.Sizes.{HasShortTexts}
+use Rattle.laws_client.specs.HouseClients.{HasSmallNumbers}
+use Rattle.laws_client.specs.Views.{view_in, view_of}
+use Rattle.laws_client.specs.HouseClients.{IsOfOthers}
 use Rattle.laws_client.proofs.Boxes.{box_goes}
 use Rattle.laws_client.proofs.Moved.{Calls, moved, moved_extends, short_before, short_met, sound_moved}
 use Rattle.laws_client.proofs.Seen.{seen, turned_away, was_refused, discard_leaves}
 use Rattle.laws_client.proofs.RecordWorlds.{Grows, Sound, goes_grows, session_stays, sound_always}
 use Rattle.laws_client.specs.Flags.{Believes, KnowsFlags, Point, counted}
 use Rattle.laws_client.specs.FlagTurns.{IfInside, SeesAllFlags, SeesFlags, TellsFlags, shown_in}
-use Rattle.laws_client.specs.Worlds.{CallsTellFlags, IsRightOnFlags, OthersLeaveFlags, point_in, point_of}
+use Rattle.laws_client.specs.Worlds.{CallsTellFlags, OthersLeaveFlags}
+use Rattle.laws_client.specs.HouseClients.{point_in, point_of}
+use Rattle.laws_client.specs.Flags.{IsRightOnFlags}
 use Rattle.laws_client.proofs.Moments.{flags_outlast}
 
 -- ---- points

@@ -16,7 +16,8 @@ use Rattle.laws_client.proofs.Bytes.{first_of, rest_of}
 use Rattle.laws_client.proofs.Ends.{plain_words}
 use Rattle.settings.specs.declared.config.ConfigFault.{ConfigFault}
 use Rattle.settings.specs.Settings.{fault_of_numbers, names_first, words_of}
-use Rattle.laws_client.specs.ClientRecords.{AreFolders, SettingsCanBePrinted}
+use Rattle.laws_client.specs.ClientRecords.{SettingsCanBePrinted}
+use Rattle.laws_client.specs.HouseClients.{AreFolders}
 
 inner_byte : (b : ℕ) → is_folder_byte b ≡ true → is_inner b ≡ true
 inner_byte b h = rw (not_true (b == 10) (excludes is_folder_byte 10 refl b h)) refl

@@ -15,7 +15,8 @@ use Rattle.cursor_set.specs.Lines.{line, lines}
 use Rattle.change_ring.specs.View.{position}
 use Rattle.change_ring.specs.Words.{flag_words}
 use Rattle.laws_client.specs.Client.{Client, Known, knowing, reads}
-use Rattle.laws_client.specs.Beliefs.{ArePrinted, Each, Follows}
+use Rattle.laws_client.specs.Beliefs.{ArePrinted, Follows}
+use Rattle.laws_client.specs.Clients.{Each}
 use Rattle.laws_client.proofs.Bytes.{reads-append}
 use Rattle.laws_client.proofs.Each.{IsIn, WasTold, fetched_next, is_in}
 use Rattle.laws_client.proofs.Follows.{follows_one, position_most, printed_first, shown_most}

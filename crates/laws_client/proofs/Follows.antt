@@ -8,7 +8,8 @@ use Rattle.change_ring.specs.Log.{shown, replay, without, Names, FitsView}
 use Rattle.cursor_set.specs.Lines.{line, lines}
 use Rattle.change_ring.specs.View.{position}
 use Rattle.laws_client.specs.Client.{Known, Client, knowing, unknown, reads, exists}
-use Rattle.laws_client.specs.Beliefs.{Each, IsOf, ArePrinted, Follows}
+use Rattle.laws_client.specs.Beliefs.{ArePrinted, Follows}
+use Rattle.laws_client.specs.Clients.{Each, IsOf}
 use Rattle.laws_client.proofs.Bytes.{reads-append}
 use Rattle.laws_client.proofs.Each.{each_length, each_more, exists_one, is_in, goes, is_told}
 use Rattle.laws_client.proofs.LinesRead.{reads_exists, reads_expunge, reads_fetch, told_of}

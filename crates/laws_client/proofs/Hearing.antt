@@ -11,7 +11,7 @@ use Rattle.mailbox.specs.declared.clients.Row.{Row}
 use Rattle.imap_answers.specs.Answers.{answered, fetch_answer, flags_last, is_flags, item_text, row_answer, uid_first}
 use Rattle.imap_grammar.specs.declared.items.FetchItem.{FetchItem}
 use Rattle.imap_grammar.specs.declared.items.FetchItem.TheVariants as fetch
-use Rattle.laws_client.specs.Beliefs.{Each}
+use Rattle.laws_client.specs.Clients.{Each}
 use Rattle.laws_client.specs.Client.{Known, into_first, items, knowing, unopened, with_flags, words}
 use Rattle.laws_client.specs.Fetches.{AreToldParts, IsToldPart}
 use Rattle.laws_client.proofs.Chosen.{small_in}

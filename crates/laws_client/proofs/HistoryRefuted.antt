@@ -232,6 +232,16 @@ counts_two h =
     let found = found_before (within marked 5) (within emptied 5) 0 (steps.Expunge None) e.0 in
     let went : 2 ≡ 1 = e.3 ∙ ap (λ (l : List house.Event). length (logged (steps.Expunge None) (rows_of (changes_in 0 l)))) (sym found) in omega (arith, went)
 
+-- Another session removed the message, and this one has seen that. It counts that removal as its own, and does nothing.
+counts_anothers : ByHistory (within emptied 5) (Expunge None) (Expunged (7 ∷ 8 ∷ []) [] 1) (within emptied 5) → ⊥
+counts_anothers h =
+    let l = (expunged_at emptied 5 None _ _ 1 (within emptied 5) h).0 in
+    let there = ap length l.seen.1 in
+    let behind = ap length l.own in
+    let first = length-append (filter (concerns 0) emptied) l.seen.0 in
+    let last = length-append l.found (says (steps.Expunge None) 0) in
+    omega (arith, there, behind, first, last)
+
 -- ---- messages
 
 abbrev ReadAt : LockedStore → LockedStore → (uid : ℕ) (mark : Bool) → Option Row → Entry → Type 0

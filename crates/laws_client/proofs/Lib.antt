@@ -99,6 +99,11 @@ mod ServedCurrent
 mod ServedFlags
 mod ServedStays
 mod ServedVisits
+mod HouseClients
+mod ToldHolds
+mod ToldRefuted
+mod LivesRefuted
+mod VisitorRefuted
 mod AttendingRefuted
 mod AttendedRefuted
 mod HistoryHolds

@@ -5,8 +5,11 @@ use Rattle.world.specs.World.{Config, World}
 use Rattle.imap_session.specs.Exchange.{Standing}
 use Rattle.laws_client.specs.Client.{Client, fresh, reads}
 use Rattle.laws_client.specs.Clients.{Asked, IsRightAbout, KnowsWhereItIs, StaysThere, answered, hears, hears_all}
-use Rattle.laws_client.specs.Lives.{Lives, comes, turns, others, LivesAreKnown}
-use Rattle.laws_client.specs.Sizes.{HasShortTexts, HasSmallNumbers}
+use Rattle.laws_client.specs.Lives.{LivesAreKnown}
+use Rattle.laws_client.specs.HouseClients.{comes, turns, others}
+use Rattle.laws_client.specs.HouseClients.{Lives}
+use Rattle.laws_client.specs.Sizes.{HasShortTexts}
+use Rattle.laws_client.specs.HouseClients.{HasSmallNumbers}
 use Rattle.laws_client.specs.RecordTurns.{Stands}
 use Rattle.imap_session.specs.Happenings.{Answer, Told, Words, told_of}
 use Rattle.laws_client.specs.Views.{view_of}

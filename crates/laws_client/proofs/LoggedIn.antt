@@ -12,7 +12,8 @@ use Rattle.imap_session.specs.declared.standing.Selected.{Selected}
 use Rattle.imap_session.specs.Exchange.{Answer, ForDone, Sent, Standing, Turn, Waiting, is_idling, played, waiting}
 use Rattle.imap_session.specs.Commands.{barred_at, fault_text, logged_in, without_login, logs_in_as, on_command, on_found, on_idle_line, on_line, on_read, on_rest, on_verdict, says, turn_with, without_begun, without_sent, on_text_line, completed, turn_of}
 use Rattle.imap_session.specs.Texts.{response_text}
-use Rattle.laws_client.specs.Lives.{Lives, comes, turns, others}
+use Rattle.laws_client.specs.HouseClients.{comes, turns, others}
+use Rattle.laws_client.specs.HouseClients.{Lives}
 use Rattle.laws_client.specs.Selecting.{HasLoggedIn, LoginComesFirst}
 use Rattle.imap_session.specs.Happenings.{Happening, Heard, Line, Literal, LongLine, Told, Turned, leads_to}
 use Rattle.exactly_once.proofs.EachExchange.{idle_keeps}

@@ -11,8 +11,10 @@ use Rattle.imap_session.specs.Exchange.{Call, Answer, Event as Happened, Look, R
 use Rattle.imap_session.specs.Store.{Met}
 use Rattle.house.specs.Meets.{Meets}
 use Rattle.laws_client.specs.ListTurns.{SeesAll}
-use Rattle.laws_client.specs.Sizes.{HasShortTexts, HasSmallNumbers}
-use Rattle.laws_client.specs.Views.{IsOfOthers, view_of}
+use Rattle.laws_client.specs.Sizes.{HasShortTexts}
+use Rattle.laws_client.specs.HouseClients.{HasSmallNumbers}
+use Rattle.laws_client.specs.Views.{view_of}
+use Rattle.laws_client.specs.HouseClients.{IsOfOthers}
 use Rattle.laws_client.proofs.Boxes.{box_goes, goes_small}
 use Rattle.laws_client.proofs.Names.{Extends, extends_none, goes_extends}
 use Rattle.laws_client.proofs.Seen.{opened, seen, turned_away, was_refused, discarded}

@@ -34,7 +34,7 @@ in_either x (y ∷ xs) ys (inr more) = by (in_either x xs ys more)
     by (inl front) = inl (inr front)
     by (inr behind) = inr behind
 
-in_front : {A : Type 0} (x : A) (xs ys : List A) → IsIn x xs → IsIn x (xs ++ ys)
+pub in_front : {A : Type 0} (x : A) (xs ys : List A) → IsIn x xs → IsIn x (xs ++ ys)
 in_front x [] ys h = absurd h
 in_front x (y ∷ xs) ys (inl same) = inl same
 in_front x (y ∷ xs) ys (inr more) = inr (in_front x xs ys more)
@@ -135,7 +135,7 @@ the_rest [] = []
 the_rest (x ∷ xs) = xs
 
 -- UIDs that rise by one each name one copy
-one_copy : (a : ℕ) (xs : List (Job × ℕ)) → numbers xs ≡ range_with_len a (length xs) → (c d : Job) (u : ℕ) → IsIn (c, u) xs → IsIn (d, u) xs → d ≡ c
+pub one_copy : (a : ℕ) (xs : List (Job × ℕ)) → numbers xs ≡ range_with_len a (length xs) → (c d : Job) (u : ℕ) → IsIn (c, u) xs → IsIn (d, u) xs → d ≡ c
 one_copy a [] e c d u h i = absurd h
 one_copy a (x ∷ xs) e c d u h i = by (λ s t. one_copy (a + 1) xs (ap the_rest e) c d u s t) h i
   where

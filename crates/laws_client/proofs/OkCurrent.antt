@@ -29,11 +29,11 @@ use Rattle.laws_client.specs.Current.{DoneCommandsMakeCurrent, IsAnswered, IsCur
 use Rattle.laws_client.proofs.RecordCurrent.{FedAll, LastFed, fed_all, last_current, last_weaker}
 use Rattle.laws_client.proofs.RecordEntering.{only_done, only_refused}
 use Rattle.laws_client.specs.Clients.{Asked, Neither, IsRightAbout, answered, asked, asked_by, hears, hears_all}
-use Rattle.laws_client.specs.Beliefs.{IsRight}
+use Rattle.laws_client.specs.Clients.{IsRight}
 use Rattle.laws_client.specs.Client.{Client, Known, knowing, reads}
 use Rattle.laws_client.specs.Selecting.{Known_selected}
 use Rattle.laws_client.proofs.Selecting.{knowing_is_selected}
-use Rattle.laws_client.specs.Lives.{turns}
+use Rattle.laws_client.specs.HouseClients.{turns}
 use Rattle.laws_client.specs.Views.{messages_of, view_of}
 use Rattle.laws_client.proofs.Living.{hears_last, lives_known}
 use Rattle.laws_client.proofs.Moved.{short_met}

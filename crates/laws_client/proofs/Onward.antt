@@ -1,19 +1,23 @@
 -- From one moment of a record to a later one the world moves on by its events.
-use Rattle.std.proofs.Common.{◌≡◌, ℕ, false, List, [], ◌∷◌, ◌++◌, refl, sym, subst, ap}
+use Rattle.std.proofs.Common.{◌≡◌, ℕ, false, List, [], ◌∷◌, ◌++◌, refl, sym, subst, ap, ◌∙◌}
 use Rattle.std.specs.Prelude.{Option}
 use Rattle.world.specs.World as world
 use Rattle.world.specs.World.{Config, Event, Step, Steps, World}
-use Rattle.world.proofs.Always.{steps_join}
+use Rattle.world.proofs.Always.{kept_always, kept_steps, steps_join}
+use Rattle.world.proofs.Kept.{Kept}
+use Rattle.world.proofs.Mails.{IsIn, is_in_contains}
 use Rattle.imap_session.specs.Exchange as calls
 use Rattle.house.specs.Setup.{Setup, session_seat}
 use Rattle.house.specs.Printing.{with_session}
 use Rattle.house.specs.Scene as scene
-use Rattle.house.specs.Scene.{BytesPlay, HearPlay, IdlePlay, Plays, PutPlay, Scene, SessionGoes, connection_hears, connection_puts, goes_on, opens, place_of, seat_of, session_hears, session_puts}
+use Rattle.house.specs.Scene.{empty_scene, BytesPlay, HearPlay, IdlePlay, Plays, PutPlay, Scene, SessionGoes, connection_hears, connection_puts, goes_on, opens, place_of, seat_of, session_hears, session_puts}
 use Rattle.house.specs.declared.event.Event as house
 use Rattle.house.specs.declared.event.Event.TheVariants.{Bytes, Vanish, Put, Take, Deliver, Answer, Hear, End, Close, Enter, Say, Idle, Leave}
 use Rattle.house_peers.specs.Visitor.{SeatedVisitor}
 use Rattle.exactly_once.specs.Promise.{text_of}
 use Rattle.laws_client.specs.ClientRecords.{RecordsMoveOn}
+use Rattle.laws_client.specs.HouseClients.{UidsNameOneCopy}
+use Rattle.laws_client.proofs.Names.{in_front, is_in, one_copy, steps_extend}
 use Rattle.laws_client.proofs.Recording.{Walk, goes, stands, talks_walk, walk_call, walk_met, walk_parts}
 
 -- some events lead from the one world to the other
@@ -77,3 +81,17 @@ plays k s (Leave session) t printed p = here k s t _ p.after (walks k.config (pl
 pub records_move_on : RecordsMoveOn
 records_move_on k [] s t e = rests k.config s.world t.world (ap (λ (x : Scene). x.world) e)
 records_move_on k (entry ∷ entries) s t (one, more) = onward_then k.config s.world entry.after.world t.world (plays k s entry.event entry.after (text_of k entry.piece) one.plays) (records_move_on k entries entry.after t more)
+
+-- a copy that stands under a UID, over a record of a house
+pub uids_name_one_copy : UidsNameOneCopy
+uids_name_one_copy k before later s t mailbox uid copy is then_is has =
+    let first = records_move_on k before (empty_scene k) s is in
+    let onward = records_move_on k later s t then_is in
+    let now : Kept k.config t.world = kept_steps k.config s.world onward.0 t.world (kept_always k.config first.0 s.world first.1) onward.1 in
+    let x = steps_extend k.config s.world onward.0 t.world mailbox onward.1 in
+    let still : IsIn (copy, uid) (t.world.box mailbox).accepted = subst (IsIn (copy, uid)) (sym x.accepted)
+    (in_front (copy, uid) (s.world.box mailbox).accepted x.copies (is_in (copy, uid) (s.world.box mailbox).accepted has)) in (
+      is_in_contains (copy, uid) (t.world.box mailbox).accepted still,
+      λ other also. one_copy k.config.first_uid (t.world.box mailbox).accepted (sym (now.boxes mailbox).given ∙ (now.boxes mailbox).counted) copy other uid still
+          (is_in (other, uid) (t.world.box mailbox).accepted also),
+    )

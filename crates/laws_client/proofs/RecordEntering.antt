@@ -15,7 +15,8 @@ use Rattle.imap_session.specs.Exchange.{Answer, Entered, Left, Refused, Starved,
 use Rattle.imap_session.specs.Commands.{closing, entering, folder_of, on_folder, on_found, opened, says, selecting, telling_recent, wanting, wrong_state, entered_text}
 use Rattle.imap_answers.specs.Answers.{opening_text}
 use Rattle.laws_client.specs.Client.{Client, Known, fresh, more, reads, unknown}
-use Rattle.laws_client.specs.Beliefs.{Each, Follows, IsOf, Leads, TellsNothing}
+use Rattle.laws_client.specs.Beliefs.{Follows, Leads, TellsNothing}
+use Rattle.laws_client.specs.Clients.{Each, IsOf}
 use Rattle.laws_client.specs.Commands.{AreNames}
 use Rattle.laws_client.specs.ListTurns.{is_inner, IsPlain, IsTag}
 use Rattle.laws_client.proofs.Bytes.{first_of, reads-append, rest_of}

@@ -16,10 +16,12 @@ use Rattle.house.specs.declared.event.Event.TheVariants.{Bytes, Vanish, Put, Tak
 use Rattle.imap_session.specs.Exchange as calls
 use Rattle.exactly_once.specs.Promise.{Entry, HearsLines, IsOwn, IsRecord, Lines, Piece, PutsLines, Replies, Silence, text_of}
 use Rattle.exactly_once.proofs.Whole.{IsWhole, goes_whole, greeting_whole, idles_whole, whole_append}
-use Rattle.laws_client.specs.ClientRecords.{serial_by_then, TextsStayShort, ClientsKeepUp, ClientsKeptUp, ClientsOfHousesKeepUp, IsPrintable, KeepsUp, KeptUp, began_by_then, first_standing, is_left, lets_in, sent_by_then, sent_in, shown_by_then, stays_by_then, user_by_then, first_words}
-use Rattle.laws_client.specs.Sizes.{HasShortTexts, HasSmallNumbers}
+use Rattle.laws_client.specs.ClientRecords.{serial_by_then, TextsStayShort, ClientsKeepUp, ClientsKeptUp, ClientsOfHousesKeepUp, KeepsUp, KeptUp, began_by_then, is_left, lets_in, sent_by_then, sent_in, shown_by_then, stays_by_then, user_by_then, first_words}
+use Rattle.laws_client.specs.HouseClients.{IsPrintable, first_standing}
+use Rattle.laws_client.specs.Sizes.{HasShortTexts}
+use Rattle.laws_client.specs.HouseClients.{HasSmallNumbers}
 use Rattle.laws_client.specs.RecordTurns.{Stands}
-use Rattle.laws_client.specs.Views.{IsOfOthers}
+use Rattle.laws_client.specs.HouseClients.{IsOfOthers}
 use Rattle.laws_client.proofs.Entries.{IsAside, IsAt, SceneKnown, Speech, aside_known, differs, idle_known, leave_known, let_known, lines_at, lingers, moved_known, moves_known, say_known, says, sent_then, shown_then, users_then, silent_at, the_client}
 use Rattle.laws_client.proofs.Folded.{folders_plain}
 use Rattle.laws_client.proofs.Living.{lives_known}

@@ -21,7 +21,8 @@ use Rattle.laws_client.specs.Clients.{Asked, IsRightAbout, asked, asked_by, answ
 use Rattle.imap_session.proofs.Barring.{refuses}
 use Rattle.imap_session.specs.declared.texts.ResponseText.{ResponseText}
 use Rattle.laws_client.proofs.Barred.{asked_has, line_case, login_asks, refused_turn}
-use Rattle.laws_client.specs.Sizes.{HasShortTexts, HasSmallNumbers}
+use Rattle.laws_client.specs.Sizes.{HasShortTexts}
+use Rattle.laws_client.specs.HouseClients.{HasSmallNumbers}
 use Rattle.laws_client.specs.RecordTurns.{Stands, StandsStill, TurnIsKnown}
 use Rattle.laws_client.specs.Views.{view_of}
 use Rattle.laws_client.proofs.RecordEntering.{closes_right, entering_right, not_entered_right, not_left_right, reads_right, selected_known, still_right, tagged_has}

@@ -11,7 +11,7 @@ use Rattle.imap_session.specs.Commands.{unlimited}
 use Rattle.world.specs.World.{Put, Take, Deliver, Answer as AnswerEvent, Hear, put_joins, takes, delivers, answers, hears_one, enters, mails}
 use Rattle.world.specs.First.{one_copy, one_reply}
 use Rattle.imap_session.specs.Happenings.{Line}
-use Rattle.laws_client.specs.Lives.{comes, turns, others}
+use Rattle.laws_client.specs.HouseClients.{comes, turns, others}
 use Rattle.laws_client.specs.RecordLife.{OneLifeIsLived, one_last}
 use Rattle.world.proofs.FirstRun.{box}
 

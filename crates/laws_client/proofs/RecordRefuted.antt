@@ -15,7 +15,7 @@ use Rattle.imap_session.proofs.Telling.{words_tell_which}
 use Rattle.house.specs.Setup.{Setup}
 use Rattle.house.specs.Scene.{Scene, empty_scene}
 use Rattle.house_peers.specs.Visitor.{SeatedVisitor}
-use Rattle.laws_client.specs.Beliefs.{IsRight}
+use Rattle.laws_client.specs.Clients.{IsRight}
 use Rattle.laws_client.specs.Client.{Client, Known, Messages, fresh}
 use Rattle.imap_session.specs.Happenings.{IsSentFor, LongLine, Told, Turned, bytes_in}
 use Rattle.laws_client.specs.Appends.{Author, EndsWith, IsAnswered, SaysVerdict, TellsKept, TellsOfAppends, as_it_is, copy_under, tells_stored, SaysRefused, IsEarlier, SaysOfBatch, all_stored, awaits_next, has_no_number}
@@ -26,8 +26,10 @@ use Rattle.laws_client.proofs.LastRests.{no_apart}
 use Rattle.laws_client.proofs.LastWords.{uid_spares}
 use Rattle.exactly_once.specs.Promise.{Entry}
 use Rattle.exactly_once.proofs.Going.{below_itself}
-use Rattle.laws_client.specs.ClientRecords.{KeepsUp, KeptUp, began_by_then, first_standing, first_words}
-use Rattle.laws_client.specs.Views.{IsOfOthers, NamesTheSame}
+use Rattle.laws_client.specs.ClientRecords.{KeepsUp, KeptUp, began_by_then, first_words}
+use Rattle.laws_client.specs.HouseClients.{first_standing}
+use Rattle.laws_client.specs.Views.{NamesTheSame}
+use Rattle.laws_client.specs.HouseClients.{IsOfOthers}
 use Rattle.imap_session.specs.declared.standing.Profile.{Profile}
 use Rattle.imap_session.specs.declared.standing.Profile.TheVariants.{Standard, Compatible}
 use Rattle.imap_session.specs.Texts.{response_text}
@@ -56,7 +58,7 @@ idle_bytes : (answers : List StoreAnswer) → IsSentFor (Turned answers) (codes 
 idle_bytes answers e = absurd (omega (arith, ap length e))
 
 short_line : IsSentFor LongLine (codes "a\r\n") → ⊥
-short_line (line, many, e) = absurd (omega (arith, many, ap length e, length-append line crlf))
+short_line (line, many, uncut, e) = absurd (omega (arith, many, ap length e, length-append line crlf))
 
 -- each greeting says something
 greeting_some : (profile : Profile) → 0 < length (greeting profile)

@@ -11,8 +11,9 @@ use Rattle.world.specs.World.{Config, World, Box, Session, Event, Put, PutEnd, T
 use Rattle.world.proofs.Kept.{Kept, SessionOk}
 use Rattle.world.proofs.Always.{kept_always}
 use Rattle.laws_client.specs.Fetches.{AreSmall, IsNumbered}
-use Rattle.laws_client.specs.Sizes.{HasSmallNumbers}
-use Rattle.laws_client.specs.Views.{IsOfOthers, view_in, view_of}
+use Rattle.laws_client.specs.HouseClients.{HasSmallNumbers}
+use Rattle.laws_client.specs.Views.{view_in, view_of}
+use Rattle.laws_client.specs.HouseClients.{IsOfOthers}
 use Rattle.laws_client.specs.RecordLaws.{OthersLeaveViews, ViewsAreNumbered}
 use Rattle.laws_client.proofs.Boxes.{Goes, unmoved, logged, arrived, IsSmall, box_goes, small_always}
 use Rattle.laws_client.proofs.Logs.{length_replay, small_front, small_range, small_replay, view_stays}

@@ -26,9 +26,10 @@ use Rattle.house.proofs.Carried.{speaks_carried}
 use Rattle.exactly_once.specs.Promise.{Lines, text_of}
 use Rattle.exactly_once.proofs.Whole.{IsWhole, cut_of, goes_whole, whole_append}
 use Rattle.imap_session.specs.Happenings.{IsPrinted}
-use Rattle.laws_client.specs.ClientRecords.{first_standing, first_words}
-use Rattle.laws_client.specs.Sizes.{HasSmallNumbers}
-use Rattle.laws_client.specs.Views.{IsOfOthers}
+use Rattle.laws_client.specs.ClientRecords.{first_words}
+use Rattle.laws_client.specs.HouseClients.{first_standing}
+use Rattle.laws_client.specs.HouseClients.{HasSmallNumbers}
+use Rattle.laws_client.specs.HouseClients.{IsOfOthers}
 use Rattle.laws_client.proofs.Moved.{Calls, Moved, moved, rested, stepped}
 use Rattle.laws_client.proofs.Names.{in_range, is_in, numbers}
 use Rattle.laws_client.proofs.Answered.{Came}

@@ -1,12 +1,22 @@
 -- What the records of a run of a script refuse (`RunTold`, `RunWrote`): the small script of `RunRows` may be told and written as it is there, and in no other
 -- way. Above each stands what somebody would have seen.
-use Rattle.std.proofs.Common.{◌≡◌, ℕ, zero, suc, ◌+◌, ◌<◌, ◌≤◌, ◌&&◌, Bool, true, false, List, [], ◌∷◌, ◌++◌, length, take, drop, refl, ap, sym, subst, ◌∙◌, append-nil, append_assoc, arith, take-append-drop, eq-eqb, Option, Some, Result, Ok, Err}
+use Rattle.std.proofs.Common.{◌≡◌, ℕ, zero, suc, ◌+◌, ◌<◌, ◌≤◌, ◌&&◌, Bool, true, false, List, [], ◌∷◌, ◌++◌, length, take, drop, refl, ap, sym, subst, ◌∙◌, append-nil, append_assoc, arith, take-append-drop, eq-eqb, get_or, Option, Some, Result, Ok, Err}
 use Rattle.std.specs.Prelude.{codes}
+use Rattle.std.specs.Str.{bytes_eq}
 use Rattle.std.proofs.Math.Seq.{take-length}
 use Rattle.std.proofs.lemmas.List.{length-take-le}
+use Rattle.std.proofs.lemmas.List.Quantifiers.{position-Some}
+use Rattle.std.proofs.lemmas.Slice.Eq.{bytes_eq-Decides}
+use Rattle.envelope.specs.Names.{number_of}
+use Rattle.envelope.proofs.Numbers.{number_is_position}
+use Rattle.world.specs.World.{Box}
+use Rattle.world.specs.Law.{Headline}
 use Rattle.house.specs.Scene.{Scene}
 use Rattle.exactly_once.specs.rows.Entries.{the_house}
-use Rattle.script.specs.Promise.{RunWrote, WroteOnce}
+use Rattle.exactly_once.specs.rows.Worlds.{alices, bobs}
+use Rattle.exactly_once.proofs.WorldRefuted.{in_no_world, is_lost, twice as one_twice, with_alices}
+use Rattle.script.specs.Promise.{DeliveredOnce, IsPartFrom, Window}
+use Rattle.script.specs.Wrote.{RunWrote, WroteOnce}
 use Rattle.script.specs.Runs.{ScriptTold, ScriptWrote}
 use Rattle.script.specs.Script.{Script, ScriptLine, begins, held_after, none_held, script_of}
 use Rattle.script.specs.Telling.{LineByLine, RunTold, asked_by, joined, lines_of, told}
@@ -17,6 +27,8 @@ use Rattle.settings.specs.declared.asking.Form.{Form}
 use Rattle.settings.specs.declared.asking.Form.TheVariants.{Text, Json}
 use Rattle.settings.specs.declared.config.Config.{Config}
 use Rattle.settings.specs.declared.config.ConfigFault.{ConfigFault}
+use Rattle.script.proofs.Begins.{same_first}
+use Rattle.script.proofs.Printed.{connection_greeted, prints, window_shown}
 use Rattle.script.proofs.TellingLaws.{all_wrote, delivers, run_wrote}
 use Rattle.laws_client.specs.rows.RunRows.{all_objects, all_told, as_objects, as_printed, as_text, the_input, the_texts}
 use Rattle.laws_client.proofs.StillHouse.{Prints, at_first, bad_prints, comment_prints, may_play, nobody_prints, plays_so, window_prints}
@@ -123,15 +135,16 @@ module _ (old new : List ℕ) where
   abbrev Wrote : Type 0
   Wrote = WroteOnce the_house (script_of the_input) (Some old) (Some new)
 
-  has_run : (r : End) (w : Wrote) → HowItEnded r (length w.some) w.sent (length w.printed) → HasRun r old new
+  has_run : (r : End) (w : Wrote) → HowItEnded r (length w.some) w.delivered.sent (length w.delivered.printed) → HasRun r old new
   has_run r w ended =
-      let is = first_texts 1 (script_of the_input) the_texts each_prints w.some w.others w.split w.after w.printed w.script in
+      let d = w.delivered in
+      let is = first_texts 1 (script_of the_input) the_texts each_prints w.some w.others w.split d.after d.printed w.script in
       record {
         lines = length w.some;
-        sent = w.sent;
-        within = subst (λ (x : List ℕ). w.sent ≤ length x) is w.within;
-        out = subst (λ (x : List ℕ). new ≡ old ++ take w.sent x) is w.out;
-        ended = subst (λ (x : List ℕ). HowItEnded r (length w.some) w.sent (length x)) is ended;
+        sent = d.sent;
+        within = subst (λ (x : List ℕ). d.sent ≤ length x) is d.within;
+        out = subst (λ (x : List ℕ). new ≡ old ++ take d.sent x) is d.out;
+        ended = subst (λ (x : List ℕ). HowItEnded r (length w.some) d.sent (length x)) is ended;
       }
 
   all_lines : (w : Wrote) → w.others ≡ [] → length w.some ≡ 4
@@ -304,3 +317,57 @@ told_of_no_house form config fault t = let e : ◌≡◌ {A = Option (List ℕ)}
 
 wrote_of_no_house : (config : Config) (fault : ConfigFault) → ScriptWrote config (script_of the_input) (Err (script_faults.Config fault)) (Some []) (Some all_told) → ⊥
 wrote_of_no_house config fault w = let e : ◌≡◌ {A = Option (List ℕ)} (Some all_told) (Some []) = w in cc
+
+-- ---- what delivers nothing exactly once (`DeliveredOnce`) in this house, whatever the lines are; `Refuted.antt` of `script` has what does so in no house
+
+abbrev Delivered : List ℕ → Type 0
+Delivered new = DeliveredOnce the_house (Some []) (Some new)
+
+all_is_delivered : Delivered all_told
+all_is_delivered = all_is_written.wrote.delivered
+
+-- so no script wrote it
+by_no_script : (lines : List ScriptLine) (new : List ℕ) → (Delivered new → ⊥) → WroteOnce the_house lines (Some []) (Some new) → ⊥
+by_no_script lines new never w = never w.delivered
+
+-- A third connection is greeted, and there are two.
+third_of_two : Delivered (codes "L3 220 mx.example.org LMTP ready\n") → ⊥
+third_of_two d = let l = (connection_greeted the_house d.after 3 _ _ (prints the_house _ d)).1 in omega (arith, l)
+
+-- The window is Carol's, who has no mailbox.
+no_carol : (word rest more : List ℕ) (m : ℕ) → word ++ 32 ∷ rest ≡ 99 ∷ more → number_of the_house.directory word ≡ Some m → ⊥
+no_carol word rest more m e is =
+    let words = codes "alice" ∷ codes "bob" ∷ [] in
+    let at = position-Some (bytes_eq word) words m [] (sym (number_is_position the_house.directory words word refl) ∙ is) in
+    by m at.0 ((bytes_eq-Decides word (get_or words m [])).0 at.1)
+  where
+    by : (m : ℕ) → m < 2 → word ≡ get_or (codes "alice" ∷ codes "bob" ∷ []) m [] → ⊥
+    by zero l is = let b : 97 ≡ 99 = same_first 97 99 _ _ (ap (λ (w : List ℕ). w ++ 32 ∷ rest) (sym is) ∙ e) in omega (arith, b)
+    by (suc zero) l is = let b : 98 ≡ 99 = same_first 98 99 _ _ (ap (λ (w : List ℕ). w ++ 32 ∷ rest) (sym is) ∙ e) in omega (arith, b)
+    by (suc (suc m)) l is = omega (arith, l)
+
+window_of_nobody : Delivered (codes "T carol total 0\n") → ⊥
+window_of_nobody d = let w = window_shown the_house d.after _ _ (prints the_house _ d) in no_carol w.word w.rest _ w.is.0 w.begins w.is.1
+
+-- Bob's window shows Alice's messages; and Alice's shows none of the three that stand there.
+shown_as : (before : Scene) (word : List ℕ) (m : ℕ) (box : Box) → number_of the_house.directory word ≡ Some m → IsPartFrom the_house before (Window word box) → box ≡ before.world.box m
+shown_as before word m box named is = is.2 ∙ ap before.world.box (same m is.0 (sym named ∙ is.1))
+  where
+    same : (a b : ℕ) → ◌≡◌ {A = Option ℕ} (Some a) (Some b) → b ≡ a
+    same a b e = cc
+
+three_or_none : alices ≡ bobs → ⊥
+three_or_none e = let many : 3 ≡ 0 = ap (λ (b : Box). length b.log) e in omega (arith, many)
+
+anothers_messages : (before : Scene) → before.world.box 1 ≡ bobs → IsPartFrom the_house before (Window (codes "bob") alices) → ⊥
+anothers_messages before none is = three_or_none (shown_as before (codes "bob") 1 alices refl is ∙ none)
+
+three_too_few : (before : Scene) → before.world.box 0 ≡ alices → IsPartFrom the_house before (Window (codes "alice") bobs) → ⊥
+three_too_few before some is = three_or_none (sym some ∙ sym (shown_as before (codes "alice") 0 bobs refl is))
+
+-- A message stands twice; and one is lost whose sender heard that it is stored.
+copy_stands_twice : (new : List ℕ) (d : Delivered new) → d.after.world ≡ with_alices one_twice → ⊥
+copy_stands_twice new d is = in_no_world (subst (Headline the_house.config) is d.once.world)
+
+copy_is_lost : (new : List ℕ) (d : Delivered new) → d.after.world ≡ with_alices bobs → ⊥
+copy_is_lost new d is = is_lost (subst (Headline the_house.config) is d.once.world)

@@ -33,7 +33,8 @@ use Rattle.house.specs.Meets.{Meets, IsRefused, IsTurnedAway}
 use Rattle.laws_client.specs.Beliefs.{MayShow}
 use Rattle.laws_client.specs.Fetches.{AreSmall}
 use Rattle.laws_client.specs.ListTurns.{IsCounted, IsRowOf, Sees}
-use Rattle.laws_client.specs.Sizes.{HasShortTexts, HasSmallNumbers}
+use Rattle.laws_client.specs.Sizes.{HasShortTexts}
+use Rattle.laws_client.specs.HouseClients.{HasSmallNumbers}
 use Rattle.laws_client.specs.Views.{IsOpened, messages_of, view_in, view_of}
 use Rattle.laws_client.specs.RecordLaws.{CallsAreSeen, EntriesAreCounted, LeaversCountNothing}
 use Rattle.laws_client.proofs.RecordWorlds.{Sound, added_few, added_small, sound_always, Grows, goes_grows, session_stays, view_kept}

@@ -26,7 +26,8 @@ use Rattle.imap_session.specs.Happenings.{Happening, Heard, Line, Literal, LongL
 use Rattle.laws_client.proofs.Tags.{Tagged, read_tagged}
 use Rattle.world.specs.World.{Config, World}
 use Rattle.laws_client.specs.Clients.{Asked, answered, asked, asked_by, has_ok, hears, hears_all, reads_on}
-use Rattle.laws_client.specs.Lives.{Lives, comes, turns, others}
+use Rattle.laws_client.specs.HouseClients.{comes, turns, others}
+use Rattle.laws_client.specs.HouseClients.{Lives}
 use Rattle.laws_client.specs.Selecting.{KnowingIsSelected, Known_selected}
 use Rattle.laws_client.proofs.RecordEntering.{Only, Wrote, wanted, wrote, writes, mapped, only_done, only_refused, refusal_has_none, tagged_has, at_star, closed_line}
 use Rattle.exactly_once.proofs.EachExchange.{Plays, closed_so, idle_keeps, turn_so}

@@ -22,7 +22,7 @@ use Rattle.session_thread.specs.declared.locked_store.Entry.{Entry}
 use Rattle.session_thread.specs.ByHistory.{ByHistory, Moves, flags_in, Shows, WasShown, WasShownIn, shown_since, shown_then}
 use Rattle.session_thread.specs.Locks.{LockedStore}
 use Rattle.session_thread.proofs.ByHistory.{by_history, shown_by_history}
-use Rattle.laws_client.specs.Beliefs.{Each}
+use Rattle.laws_client.specs.Clients.{Each}
 use Rattle.laws_client.specs.Client.{Client}
 use Rattle.laws_client.specs.Clients.{hears, hears_all}
 use Rattle.laws_client.specs.Fetches.{IsNumbered}
@@ -31,9 +31,10 @@ use Rattle.laws_client.specs.FlagTurns.{IfInside, shown_in}
 use Rattle.laws_client.specs.ListTurns.{Sees}
 use Rattle.laws_client.specs.RecordTurns.{Stands}
 use Rattle.laws_client.specs.Served.{HasSmallCursor, counted_by, counted_in}
-use Rattle.laws_client.specs.ServedFlags.{OfToldFlags, ServedFlagsAreCurrent, ServedFlagsAreFound, ServedFlagsHaveMoments, ServedLivesTellFlags, ServedTurnTellsFlags, place_in, place_of}
+use Rattle.laws_client.specs.ServedFlags.{OfToldFlags, ServedFlagsAreCurrent, ServedFlagsAreFound, ServedFlagsHaveMoments, ServedLivesTellFlags, ServedTurnTellsFlags}
+use Rattle.laws_client.specs.Served.{place_in, place_of}
 use Rattle.imap_session.specs.Happenings.{Happening, Lived, Told, VerdictsArePrinted, comes, leads_to, told_of, turns}
-use Rattle.laws_client.specs.Worlds.{IsRightOnFlags}
+use Rattle.laws_client.specs.Flags.{IsRightOnFlags}
 use Rattle.laws_client.proofs.Each.{each_weaker}
 use Rattle.laws_client.proofs.FlagKnown.{turn_moments}
 use Rattle.laws_client.proofs.FlagMoments.{SeesAllMoments, SeesMoments, TellsMoments}

@@ -1,8 +1,15 @@
 -- The life of a visit, and what its client is right about.
-use Rattle.std.specs.Prelude.{[]}
+use Rattle.std.proofs.Common.{◌≡◌, ℕ, List, [], Option, Some, None, refl, subst}
+use Rattle.house_history.specs.declared.event.Event as house
+use Rattle.imap_session.specs.Exchange.{begun_with}
+use Rattle.imap_session.specs.Folders.{folders_of}
+use Rattle.session_thread.specs.declared.locked_store.Entry.{Entry}
 use Rattle.settings.specs.Settings.{directory_for}
 use Rattle.imap_stream.proofs.Living as visits
 use Rattle.laws_client.specs.ServedVisits.{AttendedClientsLive, CallsGoOn, VisitorsKeepUp, VisitorsStand, VisitsAreByHistory, VisitsBegin, VisitsGoOn}
+use Rattle.laws_client.specs.Clients.{IsRightAbout, hears_all}
+use Rattle.laws_client.specs.Flags.{counted}
+use Rattle.laws_client.specs.Served.{VisitorsAreRight, counted_in, place_in}
 use Rattle.laws_client.proofs.Folded.{folders_plain, settings_can_be_printed}
 use Rattle.laws_client.proofs.Served.{served_lives_are_known}
 use Rattle.laws_client.proofs.ServedFlags.{served_lives_tell_flags}
@@ -31,3 +38,14 @@ visitors_keep_up beginning heard told v none stands L = (
   served_lives_are_known beginning.first beginning.store L.answered told L.dialogue.standing v.selection none stands L.legal L.lives,
   served_lives_tell_flags beginning.first beginning.store L.answered told L.dialogue.standing v.selection none stands L.legal L.lives,
 )
+
+-- what it counts, by where it is
+counted_there : (history : List house.Event) (here : Option Entry) → counted_in history here ≡ counted (place_in history here)
+counted_there history None = refl
+counted_there history (Some here) = refl
+
+pub visitors_are_right : VisitorsAreRight
+visitors_are_right directory user admission store taken heard told v names none L =
+    let right = visitors_keep_up (record { first = begun_with admission (folders_of directory user); store = store; taken = taken }) heard told v none
+    (record { tags = (tt, tt, tt); names = folders_plain directory user names }) L in
+    (subst (λ (view : List ℕ). IsRightAbout view (hears_all None told)) (counted_there v.selection.history v.selection.entered) right.0, right.1)

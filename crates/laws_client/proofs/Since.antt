@@ -2,7 +2,7 @@
 use Rattle.std.proofs.Common.{◌≡◌, ℕ, List, [], ◌∷◌, ◌++◌, refl, sym, subst, ap, ap₂, ◌∙◌, append-nil, append_assoc}
 use Rattle.std.specs.Prelude.{Bool, Some, flat_map}
 use Rattle.std.proofs.lemmas.Grind.{flat_map-append}
-use Rattle.line_io.specs.Wire.{crlf}
+use Rattle.line_io.specs.Wire.{IsUncut, crlf}
 use Rattle.delivery_token.specs.declared.Verdict.{Verdict}
 use Rattle.delivery_token.specs.declared.log.Noted.{Noted}
 use Rattle.world.specs.World.{Config, World}
@@ -15,7 +15,8 @@ use Rattle.imap_session.specs.Dialogue.{AnswersLine, AnswersOne, Converses, Send
 use Rattle.house_peers.specs.Visitor.{Visitor, GoesOn, SeatedVisitor, Works}
 use Rattle.house_peers.specs.Visitor as seated
 use Rattle.imap_session.specs.Happenings.{Happening, Heard, IsSentFor, Line, Literal, LongLine, Told, VerdictsArePrinted, bytes_in, leads_to, told_of}
-use Rattle.laws_client.specs.Lives.{Lives, turns}
+use Rattle.laws_client.specs.HouseClients.{turns}
+use Rattle.laws_client.specs.HouseClients.{Lives}
 use Rattle.laws_client.proofs.Moved.{Calls}
 use Rattle.laws_client.proofs.Answered.{Came, HappensSo, so_printed, told_bytes}
 use Rattle.laws_client.proofs.Talked.{Heeds, Talked, turn_notes, verdict_so}
@@ -53,19 +54,19 @@ since_turn k n first began base sent said now w happening bytes turn v t is so e
 -- ---- what its client sends
 
 line_since : (k : Config) (n : ℕ) (first : Came) (began : World) (base : List Told) (sent heard : List ℕ) (now : Standing) (line : List ℕ) (old new : World) (said : List ℕ) (how : After) (next : Standing)
-    → AnswersLine (Calls k n) now line old new [] said how next → due_of now.mailing.begun ≡ 0 → Since k n first began base sent heard now old → Since k n first began base (sent ++ (line ++ crlf)) (heard ++ said) next new
-line_since k n first began base sent heard now line old new said how next (reads few a) due t =
+    → AnswersLine (Calls k n) now line old new [] said how next → due_of now.mailing.begun ≡ 0 → IsUncut line → Since k n first began base sent heard now old → Since k n first began base (sent ++ (line ++ crlf)) (heard ++ said) next new
+line_since k n first began base sent heard now line old new said how next (reads few a) due uncut t =
     let turn : Turn = record { events = a.events; bytes = a.bytes; after = how; standing = next } in
     subst (λ (b : List ℕ). Since k n first began base (sent ++ (line ++ crlf)) (heard ++ b) next new) (sym a.wrote)
     (since_turn k n first began base sent heard now old (Line line a.answers) (line ++ crlf) turn new t refl (due, tt) a.played a.met)
-line_since k n first began base sent heard now line old new said how next (too_long many same w h e) due t =
+line_since k n first began base sent heard now line old new said how next (too_long many same w h e) due uncut t =
     subst (λ (s : Standing). Since k n first began base (sent ++ (line ++ crlf)) (heard ++ said) s new) (sym e)
     (subst (λ (b : List ℕ). Since k n first began base (sent ++ (line ++ crlf)) (heard ++ b) (turn_of_long_line now).standing new) (sym w)
-    (since_turn k n first began base sent heard now old LongLine (line ++ crlf) (turn_of_long_line now) new t (line, many, refl) (tt, tt) refl same))
+    (since_turn k n first began base sent heard now old LongLine (line ++ crlf) (turn_of_long_line now) new t (line, many, uncut, refl) (tt, tt) refl same))
 
 one_since : (k : Config) (n : ℕ) (first : Came) (began : World) (base : List Told) (sent heard : List ℕ) (now : Standing) (one : Sends) (old new : World) (said : List ℕ) (how : After) (next : Standing)
     → AnswersOne (Calls k n) now one old new [] said how next → Since k n first began base sent heard now old → Since k n first began base (sent ++ spelled one) (heard ++ said) next new
-one_since k n first began base sent heard now (dialogue.Line line) old new said how next a t = line_since k n first began base sent heard now line old new said how next a.2 a.1 t
+one_since k n first began base sent heard now (dialogue.Line line) old new said how next a t = line_since k n first began base sent heard now line old new said how next a.2 a.1 a.3 t
 one_since k n first began base sent heard now (dialogue.Bytes bytes) old new said how next a t =
     let kept : Bool = a.takes.0 in
     let turn : Turn = nothing_more (may_send (with_bytes kept bytes now)) (with_bytes kept bytes now) in

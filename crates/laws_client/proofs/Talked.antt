@@ -2,7 +2,7 @@
 use Rattle.std.proofs.Common.{◌≡◌, ℕ, List, [], ◌∷◌, ◌++◌, Contains, refl, sym, subst, ap, ap₂, ◌∙◌, append-nil, append_assoc}
 use Rattle.std.specs.Prelude.{Bool, IfSome, Option, Some, None, flat_map}
 use Rattle.std.proofs.lemmas.Grind.{flat_map-append}
-use Rattle.line_io.specs.Wire.{crlf}
+use Rattle.line_io.specs.Wire.{IsUncut, crlf}
 use Rattle.delivery_token.specs.declared.Verdict.{Verdict}
 use Rattle.delivery_token.specs.Copies.{HeardFor}
 use Rattle.delivery_token.specs.declared.log.Noted.{Noted}
@@ -16,8 +16,9 @@ use Rattle.imap_session.specs.Dialogue.{AnswersLine, AnswersOne, Converses, Send
 use Rattle.house_peers.specs.Visitor.{Visitor, GoesOn, IsAnswered, SeatedVisitor, Works, keys_of, sent_by}
 use Rattle.house_peers.specs.Visitor as seated
 use Rattle.imap_session.specs.Happenings.{Happening, Heard, IsPrinted, IsSentFor, Line, Literal, LongLine, Told, Turned, bytes_in, leads_to, told_of}
-use Rattle.laws_client.specs.Lives.{Lives, comes, turns, others}
-use Rattle.laws_client.specs.Views.{IsOfOthers}
+use Rattle.laws_client.specs.HouseClients.{comes, turns, others}
+use Rattle.laws_client.specs.HouseClients.{Lives}
+use Rattle.laws_client.specs.HouseClients.{IsOfOthers}
 use Rattle.laws_client.proofs.Out.{Fate, copy_of, fate_met, fate_step}
 use Rattle.laws_client.proofs.Answered.{Came, KnownAt, HappensSo, HasHeard, Notes, no_notes, notes_later, notes_turn, so_printed, told_bytes}
 use Rattle.laws_client.proofs.LastLines.{IsWord}
@@ -78,19 +79,19 @@ talked_others k n first began sent said now w event v t o step = record {
 -- ---- what its client sends
 
 line_talked : (k : Config) (n : ℕ) (first : Came) (began : World) (sent heard : List ℕ) (now : Standing) (line : List ℕ) (old new : World) (said : List ℕ) (how : After) (next : Standing)
-    → AnswersLine (Calls k n) now line old new [] said how next → due_of now.mailing.begun ≡ 0 → Talked k n first began sent heard now old → Talked k n first began (sent ++ (line ++ crlf)) (heard ++ said) next new
-line_talked k n first began sent heard now line old new said how next (reads few a) due t =
+    → AnswersLine (Calls k n) now line old new [] said how next → due_of now.mailing.begun ≡ 0 → IsUncut line → Talked k n first began sent heard now old → Talked k n first began (sent ++ (line ++ crlf)) (heard ++ said) next new
+line_talked k n first began sent heard now line old new said how next (reads few a) due uncut t =
     let turn : Turn = record { events = a.events; bytes = a.bytes; after = how; standing = next } in
     subst (λ (b : List ℕ). Talked k n first began (sent ++ (line ++ crlf)) (heard ++ b) next new) (sym a.wrote)
     (talked_turn k n first began sent heard now old (Line line a.answers) (line ++ crlf) turn new t refl (due, tt) a.played a.met)
-line_talked k n first began sent heard now line old new said how next (too_long many same w h e) due t =
+line_talked k n first began sent heard now line old new said how next (too_long many same w h e) due uncut t =
     subst (λ (s : Standing). Talked k n first began (sent ++ (line ++ crlf)) (heard ++ said) s new) (sym e)
     (subst (λ (b : List ℕ). Talked k n first began (sent ++ (line ++ crlf)) (heard ++ b) (turn_of_long_line now).standing new) (sym w)
-    (talked_turn k n first began sent heard now old LongLine (line ++ crlf) (turn_of_long_line now) new t (line, many, refl) (tt, tt) refl same))
+    (talked_turn k n first began sent heard now old LongLine (line ++ crlf) (turn_of_long_line now) new t (line, many, uncut, refl) (tt, tt) refl same))
 
 one_talked : (k : Config) (n : ℕ) (first : Came) (began : World) (sent heard : List ℕ) (now : Standing) (one : Sends) (old new : World) (said : List ℕ) (how : After) (next : Standing)
     → AnswersOne (Calls k n) now one old new [] said how next → Talked k n first began sent heard now old → Talked k n first began (sent ++ spelled one) (heard ++ said) next new
-one_talked k n first began sent heard now (dialogue.Line line) old new said how next a t = line_talked k n first began sent heard now line old new said how next a.2 a.1 t
+one_talked k n first began sent heard now (dialogue.Line line) old new said how next a t = line_talked k n first began sent heard now line old new said how next a.2 a.1 a.3 t
 one_talked k n first began sent heard now (dialogue.Bytes bytes) old new said how next a t =
     let kept : Bool = a.takes.0 in
     let turn : Turn = nothing_more (may_send (with_bytes kept bytes now)) (with_bytes kept bytes now) in

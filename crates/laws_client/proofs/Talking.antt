@@ -4,7 +4,8 @@ use Rattle.std.specs.Prelude.{Option, Some, None, IfSome}
 use Rattle.imap_session.specs.Exchange.{Standing, Turn, PendingLiteral, is_idling, may_send}
 use Rattle.imap_session.specs.Happenings.{kept_behind, Happening, Heard, Line, Literal, LongLine, Turned, leads_to}
 use Rattle.imap_session.specs.Commands.{turn_of_long_line, with_bytes}
-use Rattle.laws_client.specs.Beliefs.{IsOf, Follows, Leads}
+use Rattle.laws_client.specs.Beliefs.{Follows, Leads}
+use Rattle.laws_client.specs.Clients.{IsOf}
 use Rattle.laws_client.specs.ListLaws.{TalkIsFollowed}
 use Rattle.laws_client.specs.Talks.{MayHappen}
 use Rattle.laws_client.specs.ListTurns.{AreTags, IsTag, SeesAll}

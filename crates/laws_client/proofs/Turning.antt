@@ -12,7 +12,8 @@ use Rattle.change_ring.specs.declared.change.Flags.{Flags}
 use Rattle.imap_session.specs.declared.standing.After.{After}
 use Rattle.imap_session.specs.Exchange.{Call, Answer, Looked, Found, Counted, Altered, Refused, Event, Exchange, Done, Wait, Write, Put, Enter, Look, Read, Count, Alter, Expunge, Feed, Leave, Standing, Turn, refusal_text, refusal_after, refused, closed, nothing_more, having, tagged, Discard, Discarded}
 use Rattle.laws_client.specs.Client.{Known, Client, knowing, reads}
-use Rattle.laws_client.specs.Beliefs.{Each, Follows, MayShow, TellsNothing}
+use Rattle.laws_client.specs.Beliefs.{Follows, MayShow, TellsNothing}
+use Rattle.laws_client.specs.Clients.{Each}
 use Rattle.laws_client.proofs.Bytes.{reads-append}
 use Rattle.laws_client.proofs.Each.{each_weaker}
 use Rattle.exactly_once.proofs.EachExchange.{at_turn}

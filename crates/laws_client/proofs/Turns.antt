@@ -10,7 +10,8 @@ use Rattle.imap_session.specs.declared.standing.After.{After}
 use Rattle.imap_session.specs.Exchange.{Call, Answer, Refused, Event, Standing, Turn, refusal_text, refusal_after, refused, closed, nothing_more, having}
 use Rattle.imap_session.specs.Store.{ViewAfter}
 use Rattle.laws_client.specs.Client.{Known, Client, knowing, reads}
-use Rattle.laws_client.specs.Beliefs.{Each, IsOf, Follows, Leads, Leaves, MayShow}
+use Rattle.laws_client.specs.Beliefs.{Follows, Leads, Leaves, MayShow}
+use Rattle.laws_client.specs.Clients.{Each, IsOf}
 use Rattle.laws_client.specs.ListTurns.{Fits, SeesAll}
 use Rattle.laws_client.proofs.Bytes.{reads-append}
 use Rattle.exactly_once.proofs.EachExchange.{at_turn, closed_so}

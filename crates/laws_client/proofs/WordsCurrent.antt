@@ -15,7 +15,7 @@ use Rattle.imap_session.specs.declared.standing.Selected.{Selected}
 use Rattle.imap_session.specs.Exchange.{Answer, Event as Happened, PendingLiteral, Counted, Refused, Count, Done, Feed, Sent, Standing, Turn, having, is_idling, played, refusal_text, refused, untagged, Origin, Batch, Copied, Discard, Discarded, Exchange, ForVerdict, Mailing, Wait, Client as FromClient, tagged}
 use Rattle.imap_session.specs.Commands.{appended_words, completed, on_idle_line, on_verdict, refused_text, says, showing, turn_of, turn_with, unlimited, without_begun, without_sent, moving, copied_words, moved_words, on_stored, told_copied, told_appended, with_validity, submitting_first, taking_back, with_copy, copies_of, last_number}
 use Rattle.imap_session.specs.Store.{Met}
-use Rattle.laws_client.specs.Beliefs.{IsRight}
+use Rattle.laws_client.specs.Clients.{IsRight}
 use Rattle.laws_client.specs.Client.{Client, Known, knowing, reads}
 use Rattle.imap_session.specs.Happenings.{Answer as Answer_to, Happening, Heard, IsSentFor, Line, Literal, LongLine, Told, Turned, VerdictsArePrinted, Words, leads_to, told_line, told_of, whole_line}
 use Rattle.laws_client.proofs.IdleTags.{AreTagsOf}
@@ -24,9 +24,11 @@ use Rattle.laws_client.proofs.Turns.{the_turn}
 use Rattle.laws_client.specs.Appends.{EndsWith}
 use Rattle.laws_client.specs.Clients.{IsRightAbout, begins, hears, hears_all}
 use Rattle.laws_client.specs.Current.{IsCurrent}
-use Rattle.laws_client.specs.Lives.{Lives, comes, others, turns}
+use Rattle.laws_client.specs.HouseClients.{comes, others, turns}
+use Rattle.laws_client.specs.HouseClients.{Lives}
 use Rattle.laws_client.specs.Selecting.{Known_selected}
-use Rattle.laws_client.specs.Sizes.{HasShortTexts, HasSmallNumbers}
+use Rattle.laws_client.specs.Sizes.{HasShortTexts}
+use Rattle.laws_client.specs.HouseClients.{HasSmallNumbers}
 use Rattle.laws_client.specs.RecordTurns.{Stands}
 use Rattle.laws_client.specs.Views.{messages_of, view_of}
 use Rattle.laws_client.proofs.RecordCurrent.{fed_or_refused, LastFed, last_current}

@@ -27,7 +27,8 @@ use Rattle.house.specs.Scene.{Scene, empty_scene}
 use Rattle.house.specs.Setup.{Setup, session_seat}
 use Rattle.exactly_once.specs.Promise.{Entry, IsRecord}
 use Rattle.imap_session.specs.Happenings.{Told, bytes_in}
-use Rattle.laws_client.specs.ClientRecords.{IsPrintable, KeepsUp, KeptUp, sent_by_then, serial_by_then, stays_by_then, user_by_then}
+use Rattle.laws_client.specs.ClientRecords.{KeepsUp, KeptUp, sent_by_then, serial_by_then, stays_by_then, user_by_then}
+use Rattle.laws_client.specs.HouseClients.{IsPrintable}
 use Rattle.imap_session.specs.Texts.{response_text}
 use Rattle.imap_grammar.specs.Sets.{named_in}
 use Rattle.imap_grammar.specs.Verbs.{copy_verb}

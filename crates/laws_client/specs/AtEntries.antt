@@ -12,13 +12,14 @@ use Rattle.house.specs.Setup.{Setup, session_seat}
 use Rattle.house.specs.declared.event.Event as house
 use Rattle.house.specs.declared.event.Event.TheVariants.{Hear, Put, Say}
 use Rattle.exactly_once.specs.Promise.{Entry, IsEntry, IsRecord, Piece}
-use Rattle.laws_client.specs.Beliefs.{IsRight}
+use Rattle.laws_client.specs.Clients.{IsRight}
 use Rattle.laws_client.specs.Client.{Client, Known, knowing}
 use Rattle.laws_client.specs.Appends.{EndsWith}
 use Rattle.laws_client.specs.Clients.{hears_all}
 use Rattle.imap_session.specs.Happenings.{Answer, Told, Words, bytes_in}
 use Rattle.laws_client.specs.Current.{shows_all}
-use Rattle.laws_client.specs.ClientRecords.{IsPrintable, KeepsUp, first_words, shown_by_then, user_by_then}
+use Rattle.laws_client.specs.ClientRecords.{KeepsUp, first_words, shown_by_then, user_by_then}
+use Rattle.laws_client.specs.HouseClients.{IsPrintable}
 use Rattle.laws_client.specs.Views.{messages_of}
 use Rattle.imap_session.specs.declared.texts.ResponseText.TheVariants as texts
 use Rattle.imap_session.specs.Texts.{response_text}

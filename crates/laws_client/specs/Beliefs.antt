@@ -5,22 +5,7 @@ use Rattle.change_ring.specs.declared.change.Change.TheVariants.{Add, Gone, Flag
 use Rattle.change_ring.specs.Log.{FitsView}
 use Rattle.change_ring.specs.View.{position}
 use Rattle.laws_client.specs.Client.{Known, Messages, knowing, reads}
-
--- the list is as long as the view, and this holds of each message of the view and of what is known of it
-abbrev pub Each : (ℕ → Known → Type 0) → List ℕ → List Known → Type 0
-Each P [] [] = Unit {0}
-Each P [] (message ∷ list) = ⊥
-Each P (uid ∷ view) [] = ⊥
-Each P (uid ∷ view) (message ∷ list) = P uid message × Each P view list
-
--- the UID, where it is known, is the message's own (RFC 9051, 2.3.1.1)
-abbrev pub IsOf : ℕ → Known → Type 0
-IsOf uid message = (n : ℕ) → message.uid ≡ Some n → n ≡ uid
-
--- The client is right about the messages that its session counts: each has its position in the
--- list, and no other, and where the client knows a UID it is the one at that position.
-abbrev pub IsRight : List ℕ → List Known → Type 0
-IsRight view list = Each IsOf view list
+use Rattle.laws_client.specs.Clients.{Each, IsOf, IsRight}
 
 -- A client that was between two lines read these bytes and is between two lines again. It was
 -- told no number that it can't have, its list is as long as the view, and what it

@@ -76,9 +76,8 @@ abbrev pub into_first : ℕ → List (List ℕ) → List (List ℕ)
 into_first b [] = (b ∷ []) ∷ []
 into_first b (word ∷ rest) = (b ∷ word) ∷ rest
 
--- The words of a line, of which a bracket is open or not: it is cut at each space outside of
--- brackets. Within them may stand names of header fields (6.4.5), which may be
--- named as items are.
+-- The words of a line, of which a bracket is open or not: it is cut at each space outside of brackets. Within them may stand names of header fields
+-- (6.4.5), which may be named as items are.
 abbrev pub words_from : Bool → List ℕ → List (List ℕ)
 words_from inside [] = [] ∷ []
 words_from inside (b ∷ bytes) = if not inside && (b == 32) then [] ∷ words_from false bytes else into_first b (words_from (in_bracket inside b) bytes)

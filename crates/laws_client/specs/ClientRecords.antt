@@ -1,37 +1,23 @@
 -- What the client of a house's session knows, over a record of all that happened in the house and was printed.
-use Rattle.std.specs.Prelude.{◌≡◌, ℕ, ◌+◌, ◌<◌, ◌^◌, ◌==◌, Bool, true, false, List, [], ◌∷◌, ◌++◌, flat_map, IfSome, Some, None, if◌then◌else◌}
-use Rattle.envelope.specs.Names.{Home, is_folder}
-use Rattle.line_io.specs.Wire.{joined}
+use Rattle.std.specs.Prelude.{◌≡◌, ℕ, ◌+◌, ◌<◌, ◌^◌, ◌==◌, Bool, true, false, List, [], ◌∷◌, ◌++◌, flat_map, Some, None, if◌then◌else◌}
 use Rattle.world.specs.World.{Event as WorldEvent, IsWorld, Session, Steps, World, empty_world, pending}
 use Rattle.imap_session.specs.Commands.{greeting}
 use Rattle.imap_session.specs.Exchange.{Standing}
-use Rattle.imap_session.specs.Folders.{folders_of}
-use Rattle.house_peers.specs.Visitor.{greeted, SeatedVisitor}
+use Rattle.house_peers.specs.Visitor.{SeatedVisitor}
 use Rattle.house.specs.Scene.{LeavesMailbox, Scene, empty_scene, place_of}
-use Rattle.house.specs.Setup.{Setup, admitted_in, setup_of}
+use Rattle.house.specs.Setup.{Setup, setup_of}
 use Rattle.settings.specs.declared.config.Config.{Config}
 use Rattle.settings.specs.Settings.{IsInRange, config_fault}
 use Rattle.house.specs.declared.event.Event as house
 use Rattle.house.specs.declared.event.Event.TheVariants.{Enter, Leave, Say}
-use Rattle.exactly_once.specs.Promise.{Entry, ExactlyOnce, IsRecord, Lines, Piece}
+use Rattle.exactly_once.specs.Promise.{Entry, ExactlyOnce, IsRecord}
 use Rattle.laws_client.specs.Clients.{IsRightAbout, hears_all}
 use Rattle.imap_session.specs.Happenings.{Told, bytes_in}
-use Rattle.laws_client.specs.Lives.{Lives}
-use Rattle.laws_client.specs.Sizes.{HasShortTexts, HasSmallNumbers}
+use Rattle.laws_client.specs.HouseClients.{Lives, IsPrintable, shown_in, first_standing}
+use Rattle.laws_client.specs.Sizes.{HasShortTexts}
 use Rattle.laws_client.specs.Views.{messages_of, view_of}
 
 -- ---- what is settled at the start
-
--- the folders have names of letters, digits, _ and -
-abbrev pub AreFolders : List Home → Type 0
-AreFolders [] = Unit {0}
-AreFolders (home ∷ homes) = IfSome home.folder (λ name. is_folder name ≡ true) × AreFolders homes
-
--- whatever a session prints of its mailboxes can be read
-pub record IsPrintable (k : Setup) : Type 0 where
-  pub numbers : HasSmallNumbers k.config
-  pub names : AreFolders k.directory.homes
-  pub texts : k.max_message < 2 ^ 31
 
 -- ---- of the session at a place
 
@@ -67,11 +53,6 @@ abbrev pub sent_in : (place : ℕ) → house.Event → List ℕ
 sent_in place (Say session bytes) = if place_of session == place then bytes.now else []
 sent_in place event = []
 
--- these of its bytes were printed, without their marks. Sessions are numbered from 1, their places from 0
-abbrev pub shown_in : (place : ℕ) → Piece → List ℕ
-shown_in place (Lines number lines) = if number == place + 1 then joined lines else []
-shown_in place piece = []
-
 -- nothing of what came before it was let in is its own
 abbrev pub unless : Bool → List ℕ → List ℕ
 unless true bytes = []
@@ -106,10 +87,6 @@ sent_by_then place before (entry ∷ entries) = sent_by_then place (unless (lets
 abbrev pub shown_by_then : (place : ℕ) → List ℕ → List Entry → List ℕ
 shown_by_then place before [] = before
 shown_by_then place before (entry ∷ entries) = shown_by_then place (unless (lets_in place entry.event) before ++ shown_in place entry.piece) entries
-
--- a session of this user that was just let in stands so
-abbrev pub first_standing : Setup → (user : List ℕ) → Standing
-first_standing k user = (greeted (admitted_in k user) (folders_of k.directory user)).standing
 
 -- and was greeted so
 abbrev pub first_words : Setup → (user : List ℕ) → List ℕ

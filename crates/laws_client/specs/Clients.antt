@@ -7,7 +7,6 @@ use Rattle.imap_grammar.specs.declared.command.Command.TheVariants as commands
 use Rattle.imap_grammar.specs.declared.command.ImapFault.{ImapFault}
 use Rattle.laws_client.specs.Client.{Client, Known, fresh, knowing, reads}
 use Rattle.imap_session.specs.Happenings.{Answer, Told, Words}
-use Rattle.laws_client.specs.Beliefs.{IsRight}
 
 -- ---- what it asked
 
@@ -63,11 +62,33 @@ abbrev pub hears_all : Option Client → List Told → Option Client
 hears_all client [] = client
 hears_all client (one ∷ more) = hears_all (hears client one) more
 
--- Where it knows that it is in a mailbox it is between two lines, it was told no number that it can't
--- have, its list is as long as this view, and each UID that it knows is the one at that position.
+-- ---- when it is right
+
+-- the list is as long as the view, and this holds of each message of the view and of what is known of it
+abbrev pub Each : (ℕ → Known → Type 0) → List ℕ → List Known → Type 0
+Each P [] [] = Unit {0}
+Each P [] (message ∷ list) = ⊥
+Each P (uid ∷ view) [] = ⊥
+Each P (uid ∷ view) (message ∷ list) = P uid message × Each P view list
+
+-- the UID, where it is known, is the message's own (RFC 9051, 2.3.1.1)
+abbrev pub IsOf : ℕ → Known → Type 0
+IsOf uid message = (n : ℕ) → message.uid ≡ Some n → n ≡ uid
+
+-- The client is right about the messages that its session counts: each has its position in the
+-- list, and no other, and where the client knows a UID it is the one at that position.
+abbrev pub IsRight : List ℕ → List Known → Type 0
+IsRight view list = Each IsOf view list
+
+-- Where a client knows that it is in a mailbox it is between two lines, it was told no number that it can't have, and its list is as long as this
+-- view. This holds of each message of the view and of what is known of it.
+abbrev pub IsRightBy : (ℕ → Known → Type 0) → List ℕ → Option Client → Type 0
+IsRightBy P view None = Unit {0}
+IsRightBy P view (Some client) = (list : List Known) × (client ≡ knowing (Some list)) × Each P view list
+
+-- each UID that it knows is the one at that position
 abbrev pub IsRightAbout : List ℕ → Option Client → Type 0
-IsRightAbout view None = Unit {0}
-IsRightAbout view (Some client) = (list : List Known) × (client ≡ knowing (Some list)) × IsRight view list
+IsRightAbout view client = IsRightBy IsOf view client
 
 -- ---- when it knows where it is
 

@@ -12,12 +12,13 @@ use Rattle.imap_session.specs.Exchange.{Call, Answer, Event as Happened, Fed, Fe
 use Rattle.imap_session.specs.Commands.{turn_of, unlimited}
 use Rattle.imap_session.specs.Store.{Met}
 use Rattle.house.specs.Meets.{Meets}
-use Rattle.laws_client.specs.Beliefs.{IsRight}
+use Rattle.laws_client.specs.Clients.{IsRight}
 use Rattle.laws_client.specs.Client.{Client, Known, knowing}
 use Rattle.laws_client.specs.Clients.{has_ok, hears_all}
 use Rattle.imap_session.specs.Happenings.{Answer as Answer_to, Told, whole_line}
-use Rattle.laws_client.specs.Lives.{Lives}
-use Rattle.laws_client.specs.Sizes.{HasShortTexts, HasSmallNumbers}
+use Rattle.laws_client.specs.HouseClients.{Lives}
+use Rattle.laws_client.specs.Sizes.{HasShortTexts}
+use Rattle.laws_client.specs.HouseClients.{HasSmallNumbers}
 use Rattle.laws_client.specs.RecordTurns.{Stands}
 use Rattle.laws_client.specs.Views.{messages_of, view_of}
 use Rattle.imap_session.specs.declared.texts.ResponseText.TheVariants as texts

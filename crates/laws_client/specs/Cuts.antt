@@ -14,7 +14,8 @@ use Rattle.exactly_once.specs.Promise.{Entry, IsRecord}
 use Rattle.laws_client.specs.Client.{literal_of}
 use Rattle.laws_client.specs.Clients.{begins}
 use Rattle.imap_session.specs.Happenings.{Answer, Told, bytes_in}
-use Rattle.laws_client.specs.ClientRecords.{IsPrintable, KeepsUp, KeptUp, first_standing, shown_by_then, stays_by_then, user_by_then}
+use Rattle.laws_client.specs.ClientRecords.{KeepsUp, KeptUp, shown_by_then, stays_by_then, user_by_then}
+use Rattle.laws_client.specs.HouseClients.{IsPrintable, first_standing}
 
 -- ---- a client that cuts
 

@@ -14,7 +14,8 @@ use Rattle.imap_answers.specs.Answers.{is_flags, row_answer, flags_answer}
 use Rattle.imap_grammar.specs.declared.items.FetchItem.{FetchItem}
 use Rattle.imap_session.specs.Exchange.{Answer, Standing, Turn}
 use Rattle.imap_session.specs.Commands.{idle_turn, turn_of, turn_of_verdict}
-use Rattle.laws_client.specs.Beliefs.{Follows, IsRight, MayShow}
+use Rattle.laws_client.specs.Beliefs.{Follows, MayShow}
+use Rattle.laws_client.specs.Clients.{IsRight}
 use Rattle.laws_client.specs.Client.{Known}
 use Rattle.laws_client.specs.Commands.{IsFollowed}
 use Rattle.imap_session.specs.Happenings.{IsPrinted}

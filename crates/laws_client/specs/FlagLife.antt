@@ -7,9 +7,9 @@ use Rattle.world.specs.World.{World, empty_world}
 use Rattle.laws_client.specs.Client.{knowing}
 use Rattle.laws_client.specs.Clients.{hears_all}
 use Rattle.imap_session.specs.Happenings.{Answer, Told}
-use Rattle.laws_client.specs.Lives.{Lives}
+use Rattle.laws_client.specs.HouseClients.{Lives}
 use Rattle.laws_client.specs.RecordLife.{one_first, one_last, selects_empty}
-use Rattle.laws_client.specs.Worlds.{point_of}
+use Rattle.laws_client.specs.HouseClients.{point_of}
 
 abbrev pub flag_sent : List ℕ
 flag_sent = codes "a1 SELECT INBOX\r\na2 NOOP\r\na3 STORE 1 +FLAGS (\\Flagged)\r\n"

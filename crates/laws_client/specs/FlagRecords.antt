@@ -8,8 +8,11 @@ use Rattle.world.specs.World.{Session, pending}
 use Rattle.exactly_once.specs.Promise.{Entry, ExactlyOnce, IsRecord}
 use Rattle.script.specs.Promise.{DeliversOnce, entries_of}
 use Rattle.laws_client.specs.Clients.{hears_all}
-use Rattle.laws_client.specs.ClientRecords.{IsPrintable, KeepsUp}
-use Rattle.laws_client.specs.Worlds.{HasFlagsNow, IsRightOnFlags, point_of}
+use Rattle.laws_client.specs.ClientRecords.{KeepsUp}
+use Rattle.laws_client.specs.HouseClients.{IsPrintable}
+use Rattle.laws_client.specs.Worlds.{HasFlagsNow}
+use Rattle.laws_client.specs.HouseClients.{point_of}
+use Rattle.laws_client.specs.Flags.{IsRightOnFlags}
 
 module _ (k : Setup) where
   -- The client of a session that is there keeps up, and is right about flags by the very same

@@ -5,8 +5,8 @@ use Rattle.change_ring.specs.declared.change.Flags.{Flags}
 use Rattle.change_ring.specs.Log.{Row, rows_of, view_at}
 use Rattle.change_ring.specs.Words.{flag_words}
 use Rattle.delivery_core.specs.Clients.{row_with}
-use Rattle.laws_client.specs.Beliefs.{Each}
-use Rattle.laws_client.specs.Client.{Known}
+use Rattle.laws_client.specs.Clients.{Each, IsRightBy}
+use Rattle.laws_client.specs.Client.{Client, Known}
 
 -- Where a session is in its mailbox: what the mailbox has logged, and how many of these changes the session was shown.
 pub record Point : Type 0 where
@@ -21,9 +21,8 @@ counted p = view_at p.log p.cursor
 abbrev pub flags_at : ℕ → List Change → Option Flags
 flags_at uid log = option_map (λ (row : Row). row.flags) (row_with uid (rows_of log))
 
--- These are the names of flags that the message had at some moment which isn't before the
--- session's cursor. A client may know newer flags than those at the cursor, by its
--- own STORE or a FETCH, and may then be told older ones first; but never such that are older than what it was shown.
+-- These are the names of flags that the message had at some moment which isn't before the session's cursor. A client may know newer flags than those
+-- at the cursor, by its own STORE or a FETCH, and may then be told older ones first; but never such that are older than what it was shown.
 pub record FlagsOf (log : List Change) (cursor uid : ℕ) (names : List (List ℕ)) : Type 0 where
   -- the moment, as the number of changes that were logged by then
   pub moment : ℕ
@@ -50,3 +49,7 @@ pub record HasNow (log : List Change) (uid : ℕ) (names : List (List ℕ)) : Ty
 -- what is known of a message's flags is what they are now
 abbrev pub BelievesNow : List Change → ℕ → Known → Type 0
 BelievesNow log uid message = (names : List (List ℕ)) → message.flags ≡ Some names → HasNow log uid names
+
+-- all that it knows of flags is such as the message had at some moment not before the session's cursor, whether its UID is known or not
+abbrev pub IsRightOnFlags : Point → Option Client → Type 0
+IsRightOnFlags p client = IsRightBy (Believes p) (counted p) client

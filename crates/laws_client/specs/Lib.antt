@@ -10,6 +10,7 @@ pub mod Views
 pub mod RecordLaws
 pub mod Clients
 pub mod RecordTurns
+pub mod HouseClients
 pub mod Lives
 pub mod Current
 pub mod ClientRecords

@@ -20,7 +20,8 @@ use Rattle.imap_session.specs.declared.standing.Profile.{Profile}
 use Rattle.imap_session.specs.Commands.{greeting, idle_turn, turn_of, turn_of_long_line, turn_of_verdict}
 use Rattle.delivery_token.specs.declared.Verdict.{Verdict}
 use Rattle.laws_client.specs.Client.{Client, Known, Messages, reads, within}
-use Rattle.laws_client.specs.Beliefs.{Each, Follows, HearsUid, IsKnownTo, IsOf, IsRight, KeepsUids, Leads, Leaves, MayShow, TellsNothing}
+use Rattle.laws_client.specs.Beliefs.{Follows, HearsUid, IsKnownTo, KeepsUids, Leads, Leaves, MayShow, TellsNothing}
+use Rattle.laws_client.specs.Clients.{Each, IsOf, IsRight}
 use Rattle.laws_client.specs.Commands.{IsFollowed}
 use Rattle.laws_client.specs.Fetches.{AreToldParts, IsNumbered}
 use Rattle.laws_client.specs.Talks.{Talks}

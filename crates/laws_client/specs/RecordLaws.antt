@@ -6,8 +6,10 @@ use Rattle.imap_session.specs.Exchange.{Call, Answer, Enter, Leave, Entered, Lef
 use Rattle.house.specs.Meets.{Meets}
 use Rattle.laws_client.specs.Fetches.{IsNumbered}
 use Rattle.laws_client.specs.ListTurns.{Sees}
-use Rattle.laws_client.specs.Sizes.{HasShortTexts, HasSmallNumbers}
-use Rattle.laws_client.specs.Views.{IsOfOthers, IsOpened, NamesTheSame, messages_of, view_of}
+use Rattle.laws_client.specs.Sizes.{HasShortTexts}
+use Rattle.laws_client.specs.HouseClients.{HasSmallNumbers}
+use Rattle.laws_client.specs.Views.{IsOpened, NamesTheSame, messages_of, view_of}
+use Rattle.laws_client.specs.HouseClients.{IsOfOthers}
 
 -- its UIDs and its positions are numbers that a line can have
 abbrev pub ViewsAreNumbered : Type 0

@@ -7,7 +7,7 @@ use Rattle.world.specs.World.{World, empty_world}
 use Rattle.laws_client.specs.Client.{knowing, unknown}
 use Rattle.laws_client.specs.Clients.{hears_all}
 use Rattle.imap_session.specs.Happenings.{Answer, Told}
-use Rattle.laws_client.specs.Lives.{Lives}
+use Rattle.laws_client.specs.HouseClients.{Lives}
 use Rattle.laws_client.specs.Views.{view_of}
 
 -- its mailbox is INBOX, and it takes no messages

@@ -9,7 +9,8 @@ use Rattle.laws_client.specs.Commands.{AreNames}
 use Rattle.imap_session.specs.Happenings.{Happening, VerdictsArePrinted, leads_to, told_of}
 use Rattle.laws_client.specs.ListTurns.{AreTags}
 use Rattle.laws_client.specs.Clients.{IsRightAbout, hears}
-use Rattle.laws_client.specs.Sizes.{HasShortTexts, HasSmallNumbers}
+use Rattle.laws_client.specs.Sizes.{HasShortTexts}
+use Rattle.laws_client.specs.HouseClients.{HasSmallNumbers}
 use Rattle.laws_client.specs.Views.{view_of}
 
 -- What a session knows that a client's list rests on: its tags are tags, and the names of its mailboxes stand in lines.

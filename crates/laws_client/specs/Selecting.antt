@@ -11,7 +11,7 @@ use Rattle.house.specs.Meets.{Meets}
 use Rattle.laws_client.specs.Client.{Client}
 use Rattle.laws_client.specs.Clients.{Entering, asked, has_ok, hears_all}
 use Rattle.imap_session.specs.Happenings.{Told, whole_line}
-use Rattle.laws_client.specs.Lives.{Lives}
+use Rattle.laws_client.specs.HouseClients.{Lives}
 
 abbrev pub Known_selected : Option Client → Standing → Type 0
 Known_selected client now = IfSome client (λ (c : Client). (s : Selected) × (now.selected ≡ Some s))

@@ -14,19 +14,45 @@ use Rattle.imap_grammar.specs.declared.command.Command.{Command}
 use Rattle.imap_grammar.specs.Verbs.{verb_of}
 use Rattle.imap_session.specs.declared.standing.Selected.{Selected}
 use Rattle.imap_session.specs.declared.texts.ResponseText.TheVariants as texts
-use Rattle.imap_session.specs.Exchange.{Answer, Event, Fed, Feed, Standing, Turn, tagged}
+use Rattle.imap_session.specs.Exchange.{Admission, Answer, begun_with, Event, Fed, Feed, Standing, Turn, tagged}
 use Rattle.imap_session.specs.Commands.{turn_of, unlimited}
 use Rattle.imap_session.specs.Texts.{response_text}
 use Rattle.imap_session.specs.Store.{Met}
 use Rattle.session_thread.specs.declared.locked_store.Entry.{Entry}
 use Rattle.session_thread.specs.ByHistory.{ByHistory, WasShown}
 use Rattle.session_thread.specs.Locks.{HasItsText, LockedStore}
-use Rattle.laws_client.specs.Beliefs.{IsRight}
+use Rattle.laws_client.specs.Clients.{IsRight}
 use Rattle.laws_client.specs.Client.{Client, Known, knowing}
 use Rattle.laws_client.specs.Clients.{IsRightAbout, has_ok, hears, hears_all}
 use Rattle.laws_client.specs.Current.{shows_all}
 use Rattle.laws_client.specs.RecordTurns.{Stands}
+use Rattle.laws_client.specs.Flags.{IsRightOnFlags, Point, counted}
+use Rattle.laws_client.specs.HouseClients.{AreFolders}
+use Rattle.envelope.specs.Names.{Directory}
+use Rattle.imap_session.specs.Folders.{folders_of}
+use Rattle.imap_stream.specs.Visits.{HasLived, Visit}
 use Rattle.imap_session.specs.Happenings.{Answer as Answer_to, Happening, Lived, Told, VerdictsArePrinted, leads_to, told_of, whole_line}
+
+-- ---- where it is
+
+-- where a session is in the mailbox that it has entered, by a history; nowhere in an empty one, where it has entered none
+abbrev pub place_in : List house.Event → Option Entry → Point
+place_in history None = record { log = []; cursor = 0 }
+place_in history (Some here) = record { log = changes_in here.mailbox history; cursor = here.handle.at }
+
+-- as far as it has seen the history
+abbrev pub place_of : LockedStore → Point
+place_of selection = place_in selection.history selection.entered
+
+-- ---- a visit
+
+-- At each moment of a visit its client is right about what its session counts, by the history as far as the session has seen it, and about flags. The
+-- session began in no mailbox.
+abbrev pub VisitorsAreRight : Type 0
+VisitorsAreRight = (directory : Directory) (user : List ℕ) (admission : Admission) (store : LockedStore) (taken : Option (List ℕ))
+    (heard : List ℕ) (told : List Told) (visit : Visit) → AreFolders directory.homes → store.entered ≡ None
+    → HasLived ByHistory (record { first = begun_with admission (folders_of directory user); store = store; taken = taken }) heard told visit
+    → IsRightAbout (counted (place_of visit.selection)) (hears_all None told) × IsRightOnFlags (place_of visit.selection) (hears_all None told)
 
 -- ---- what it counts
 
@@ -45,9 +71,8 @@ HasSmallCursor selection = IfSome selection.entered (λ here. here.handle.at ≤
 
 -- ---- a turn
 
--- Whatever happens, whatever is refused, and whatever others do between two holds of a lock: a
--- client that was right about what its session counts before a turn hears what is said
--- in it, and is right about what the session counts then.
+-- Whatever happens, whatever is refused, and whatever others do between two holds of a lock: a client that was right about what its session counts
+-- before a turn hears what is said in it, and is right about what the session counts then.
 abbrev pub ServedTurnIsKnown : Type 0
 ServedTurnIsKnown = (old new : LockedStore) (shown : List Change) (now : Standing) (happening : Happening) (turn : Turn) (client : Option Client)
     → WasShown old shown → HasSmallCursor old → Stands now → VerdictsArePrinted happening → Legal new.history

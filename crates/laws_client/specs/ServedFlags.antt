@@ -11,23 +11,14 @@ use Rattle.imap_session.specs.Store.{Met}
 use Rattle.session_thread.specs.declared.locked_store.Entry.{Entry}
 use Rattle.session_thread.specs.ByHistory.{ByHistory, WasShown}
 use Rattle.session_thread.specs.Locks.{LockedStore}
-use Rattle.laws_client.specs.Beliefs.{Each}
+use Rattle.laws_client.specs.Clients.{Each}
 use Rattle.laws_client.specs.Client.{Client, Known, knowing}
 use Rattle.laws_client.specs.Clients.{hears, hears_all}
-use Rattle.laws_client.specs.Flags.{BelievesNow, FlagsOf, HasNow, Point}
+use Rattle.laws_client.specs.Flags.{BelievesNow, FlagsOf, HasNow}
 use Rattle.laws_client.specs.RecordTurns.{Stands}
-use Rattle.laws_client.specs.Served.{HasSmallCursor, IsAtEnd, messages_in}
+use Rattle.laws_client.specs.Served.{HasSmallCursor, IsAtEnd, messages_in, place_in, place_of}
 use Rattle.imap_session.specs.Happenings.{Happening, Lived, Told, VerdictsArePrinted, leads_to, told_of}
-use Rattle.laws_client.specs.Worlds.{IsRightOnFlags}
-
--- where a session is in the mailbox that it has entered, by a history; nowhere in an empty one, where it has entered none
-abbrev pub place_in : List house.Event → Option Entry → Point
-place_in history None = record { log = []; cursor = 0 }
-place_in history (Some here) = record { log = changes_in here.mailbox history; cursor = here.handle.at }
-
--- as far as it has seen the history
-abbrev pub place_of : LockedStore → Point
-place_of selection = place_in selection.history selection.entered
+use Rattle.laws_client.specs.Flags.{IsRightOnFlags}
 
 -- ---- a call
 

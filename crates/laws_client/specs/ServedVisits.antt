@@ -14,8 +14,8 @@ use Rattle.imap_stream.specs.Visits.{Beginning, HasLived, IsGreeted, Visit, is_o
 use Rattle.laws_client.specs.Clients.{IsRightAbout, hears_all}
 use Rattle.laws_client.specs.RecordTurns.{Stands}
 use Rattle.laws_client.specs.Served.{counted_by}
-use Rattle.laws_client.specs.ServedFlags.{place_of}
-use Rattle.laws_client.specs.Worlds.{IsRightOnFlags}
+use Rattle.laws_client.specs.Served.{place_of}
+use Rattle.laws_client.specs.Flags.{IsRightOnFlags}
 
 -- A client that was greeted has begun its visit, however its session was to begin.
 abbrev pub VisitsBegin : Type 0

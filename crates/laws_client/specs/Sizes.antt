@@ -1,12 +1,7 @@
 -- What has to be small, so that each number in a session's lines can be printed.
-use Rattle.std.specs.Prelude.{ℕ, ◌<◌, ◌≤◌, ◌^◌, length, All}
+use Rattle.std.specs.Prelude.{ℕ, ◌<◌, ◌^◌, length, All}
 use Rattle.delivery_token.specs.declared.Job.{Job}
-use Rattle.world.specs.World.{Config, World, last_uid}
-
--- UIDs are given from one on that there is, and the number that tells mailboxes of one name apart has 32 bits (RFC 9051, 2.3.1.1)
-pub record HasSmallNumbers (k : Config) : Type 0 where
-  pub first_uid : k.first_uid ≤ last_uid
-  pub uidvalidity : k.uidvalidity < 2 ^ 32
+use Rattle.world.specs.World.{World}
 
 -- each text that was accepted has a length of 32 bits (RFC 9051, 4.3 and 9)
 abbrev pub HasShortTexts : World → Type 0

@@ -1,10 +1,10 @@
 -- What a session counts in a world.
-use Rattle.std.specs.Prelude.{◌≡◌, ◌≢◌, ℕ, ◌<◌, ◌^◌, List, [], length, map, Contains, Option, Some, None}
+use Rattle.std.specs.Prelude.{◌≡◌, ℕ, ◌<◌, ◌^◌, List, [], length, map, Contains, Option, Some, None}
 use Rattle.mailbox.specs.declared.clients.Opening.{Opening}
 use Rattle.delivery_token.specs.declared.Job.{Job}
 use Rattle.change_ring.specs.Log.{Row, rows_of, view_at}
 use Rattle.delivery_core.specs.Clients.{text_with}
-use Rattle.world.specs.World.{Config, World, Box, Session, Event, Enter, Read, Store, Expunge, Feed, Leave}
+use Rattle.world.specs.World.{Config, World, Box, Session}
 
 -- the UIDs that the log of its mailbox leaves, up to the session's cursor; none where it has selected no mailbox
 abbrev pub view_in : World → Option Session → List ℕ
@@ -17,16 +17,6 @@ view_of w n = view_in w (w.session n)
 -- the UIDs of a mailbox's messages, in their order
 abbrev pub messages_of : Box → List ℕ
 messages_of b = map (λ (row : Row). row.uid) (rows_of b.log)
-
--- the event is none of session n's
-abbrev pub IsOfOthers : ℕ → Event → Type 0
-IsOfOthers n (Enter session mailbox) = n ≢ session
-IsOfOthers n (Read session uid mark) = n ≢ session
-IsOfOthers n (Store session uid op) = n ≢ session
-IsOfOthers n (Expunge session may_go) = n ≢ session
-IsOfOthers n (Feed session limit) = n ≢ session
-IsOfOthers n (Leave session removing) = n ≢ session
-IsOfOthers n event = Unit {0}
 
 -- What a session is told of the mailbox that it enters: it counts all messages that are there,
 -- they are as many as is told, each number can be printed, and the UIDVALIDITY is

@@ -6,32 +6,19 @@ use Rattle.imap_grammar.specs.declared.command.Command.TheVariants.{Noop}
 use Rattle.imap_session.specs.Exchange.{Call, Answer as StoreAnswer, Standing, Turn}
 use Rattle.imap_session.specs.Store.{Met}
 use Rattle.house.specs.Meets.{Meets}
-use Rattle.laws_client.specs.Beliefs.{Each}
+use Rattle.laws_client.specs.Clients.{Each}
 use Rattle.laws_client.specs.Client.{Client, Known, knowing}
 use Rattle.imap_session.specs.Happenings.{Answer, Happening, Told, VerdictsArePrinted, Words, leads_to, told_of, whole_line}
 use Rattle.laws_client.specs.Clients.{has_ok, hears, hears_all}
 use Rattle.laws_client.specs.Current.{IsAnswered}
-use Rattle.laws_client.specs.Lives.{Lives}
-use Rattle.laws_client.specs.Sizes.{HasShortTexts, HasSmallNumbers}
+use Rattle.laws_client.specs.HouseClients.{Lives, point_of}
+use Rattle.laws_client.specs.Sizes.{HasShortTexts}
+use Rattle.laws_client.specs.HouseClients.{HasSmallNumbers}
 use Rattle.laws_client.specs.RecordTurns.{Stands}
-use Rattle.laws_client.specs.Views.{IsOfOthers, messages_of}
-use Rattle.laws_client.specs.Flags.{BelievesNow, KnowsFlags, Point}
+use Rattle.laws_client.specs.Views.{messages_of}
+use Rattle.laws_client.specs.HouseClients.{IsOfOthers}
+use Rattle.laws_client.specs.Flags.{BelievesNow, IsRightOnFlags}
 use Rattle.laws_client.specs.FlagTurns.{IfInside, SeesFlags}
-
--- where a session is in the mailbox that it has selected; nowhere in an empty one, where it has selected none
-abbrev pub point_in : World → Option Session → Point
-point_in w None = record { log = []; cursor = 0 }
-point_in w (Some s) = record { log = (w.box s.mailbox).log; cursor = s.cursor }
-
-abbrev pub point_of : World → ℕ → Point
-point_of w n = point_in w (w.session n)
-
--- Where a client knows that it is in a mailbox it is between two lines, its list is as long as what its
--- session counts, and all that it knows of flags is such as the message had at some moment
--- not before the session's cursor.
-abbrev pub IsRightOnFlags : Point → Option Client → Type 0
-IsRightOnFlags p None = Unit {0}
-IsRightOnFlags p (Some client) = (list : List Known) × (client ≡ knowing (Some list)) × KnowsFlags p list
 
 -- where it knows that it is in a mailbox, its list is as long as the mailbox, and all that it knows of flags is what they are
 abbrev pub HasFlagsNow : Box → Option Client → Type 0

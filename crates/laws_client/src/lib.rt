@@ -8,8 +8,8 @@ mod record_laws;
 mod served_laws;
 
 pub use flag_laws::{
-    clients_know_flags, clients_of_scripts_know_flags, flags_are_heard, flags_are_told,
-    flags_become_current, flags_have_moments, houses_tell_flags, lives_tell_flags,
+    clients_are_right, clients_know_flags, clients_of_scripts_know_flags, flags_are_heard,
+    flags_are_told, flags_become_current, flags_have_moments, houses_tell_flags, lives_tell_flags,
     one_life_knows_flags, turns_tell_flags,
 };
 pub use list_laws::{

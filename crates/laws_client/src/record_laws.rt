@@ -8,6 +8,7 @@ ghost use Rattle.laws_client.specs.Clients.{KnowsWhereItIs};
 ghost use Rattle.laws_client.specs.Current.{DoneCommandsMakeCurrent, DoneMakesCurrent, FeedsMakeCurrent, ListsAreCurrent, NoopMakesCurrent};
 ghost use Rattle.laws_client.specs.Cuts.{AnswersAreCut, AnswersWereCut};
 ghost use Rattle.laws_client.specs.RecordLaws.{CallsAreSeen, CountedAreGiven, EntriesAreCounted, GoneStayGone, LeaversCountNothing, OthersLeaveViews, UidsStay, ViewsAreNumbered};
+ghost use Rattle.laws_client.specs.HouseClients.{UidsNameOneCopy};
 ghost use Rattle.laws_client.specs.Lives.{LivesAreKnown};
 ghost use Rattle.laws_client.specs.RecordLife.{OneLifeIsLived};
 ghost use Rattle.laws_client.specs.ClientRecords.{ClientsKeepUp, ClientsKeptUp, ClientsOfHousesKeepUp, RecordsMoveOn, SettingsCanBePrinted, TextsStayShort};
@@ -37,6 +38,9 @@ pub fn calls_are_seen()
 /// text, whatever happened since; and what is gone doesn't come back (RFC 9051, 2.3.1.1). Each UID that a session counts was
 /// given, and over a record of a house the world moves on by its events, so this is so from any moment to any later one.
 pub fn uids_stay()
+    // Over any record of a house that was new: the copy that stands under a UID in a mailbox's history stands there at each later moment, and no other does.
+    ensures named { UidsNameOneCopy }
+
     // A UID that a session counts names the same copy at any later moment.
     ensures same { UidsStay }
 

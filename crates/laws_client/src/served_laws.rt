@@ -5,7 +5,7 @@
 ghost use Rattle.laws_client.specs.ServedFlags.{ServedFlagsAreCurrent, ServedFlagsAreFound, ServedFlagsHaveMoments, ServedLivesTellFlags, ServedTurnTellsFlags};
 ghost use Rattle.laws_client.specs.ServedStays.{ServedSessionsStay};
 ghost use Rattle.laws_client.specs.ServedVisits.{AttendedClientsLive, CallsGoOn, VisitorsKeepUp, VisitorsStand, VisitsAreByHistory, VisitsBegin, VisitsGoOn};
-ghost use Rattle.laws_client.specs.Served.{CursorsStaySmall, FeedsReachTheEnd, ServedCommandsMakeCurrent, ServedCommandsReachTheEnd, ServedDoneReachesTheEnd, ServedListsAreCurrent, ServedLivesAreKnown, ServedTextsStay, ServedTurnIsKnown};
+ghost use Rattle.laws_client.specs.Served.{CursorsStaySmall, FeedsReachTheEnd, ServedCommandsMakeCurrent, ServedCommandsReachTheEnd, ServedDoneReachesTheEnd, ServedListsAreCurrent, ServedLivesAreKnown, ServedTextsStay, ServedTurnIsKnown, VisitorsAreRight};
 
 /// Between a SELECT and what ends it such a session stays in that mailbox, with the handle that it was given there: of that only the cursor's
 /// number moves on, by as many changes as were shown.
@@ -89,9 +89,11 @@ pub fn served_visits_are_lives()
 /// So the client of such a visit is right about what its session counts, and about flags, at each moment (`HasLived` of `imap_stream`; a client
 /// slot's `attend` gives that of each client that it attends).
 pub fn served_visitors_keep_up()
-    // What it asks of the session's mailboxes is so where nothing is wrong with the settings.
-    ensures stand { VisitorsStand }
-
     // At each moment of it, whoever knows which of its lines were SELECT, EXAMINE, CLOSE or UNSELECT is right.
-    ensures right { VisitorsKeepUp }
+    ensures right { VisitorsAreRight }
+
+    // So it is wherever the session began, with tags that are tags and with names of mailboxes that stand in lines. Those of a house do where nothing is
+    // wrong with the settings.
+    ensures begun { VisitorsKeepUp }
+    ensures stand { VisitorsStand }
 {}

@@ -11,7 +11,8 @@ use Rattle.world.specs.World.{World, empty_world}
 use Rattle.laws_client.specs.Client.{Known, knowing, unknown}
 use Rattle.laws_client.specs.Clients.{has_ok, hears, hears_all}
 use Rattle.imap_session.specs.Happenings.{Answer, Words}
-use Rattle.laws_client.specs.ClientRecords.{began_by_then, lets_in, sent_in, shown_in, stays_by_then, user_in}
+use Rattle.laws_client.specs.ClientRecords.{began_by_then, lets_in, sent_in, stays_by_then, user_in}
+use Rattle.laws_client.specs.HouseClients.{shown_in}
 use Rattle.laws_client.specs.Views.{messages_of, view_of}
 
 -- ---- SELECT, EXAMINE, CLOSE and UNSELECT

@@ -175,7 +175,7 @@ enters = (
     number = refl;
     acceptor = omega arith;
     cursor = refl;
-    logs = record { goes_on = (came, refl); mailboxes = refl; found = filter (concerns 0) came; own = refl; few = omega arith };
+    logs = record { goes_on = (came, refl); mailboxes = refl; found = filter (concerns 0) came; seen = (filter (concerns 0) came, refl); own = refl; few = omega arith };
     opens = record { count = refl; start = refl };
     fits = (omega arith, omega arith);
   },
@@ -197,7 +197,7 @@ reads = (
     entry 3,
     refl,
     (
-      record { goes_on = (Changed 0 (steps.Read 7 true) ∷ [], refl); mailboxes = refl; found = filter (concerns 0) came; own = refl; few = omega arith },
+      record { goes_on = (Changed 0 (steps.Read 7 true) ∷ [], refl); mailboxes = refl; found = filter (concerns 0) came; seen = ([], refl); own = refl; few = omega arith },
       record { uid_of = refl; text = (first, refl, refl, (0, (1, omega arith, refl))); flags = refl; fits = omega arith },
       refl,
     ),
@@ -212,7 +212,7 @@ reads_again = (
     entry 4,
     refl,
     (
-      record { goes_on = (Changed 0 (steps.Read 7 true) ∷ [], refl); mailboxes = refl; found = filter (concerns 0) was_read; own = refl; few = omega arith },
+      record { goes_on = (Changed 0 (steps.Read 7 true) ∷ [], refl); mailboxes = refl; found = filter (concerns 0) was_read; seen = ([], refl); own = refl; few = omega arith },
       record { uid_of = refl; text = (first, refl, refl, (0, (1, omega arith, refl))); flags = refl; fits = omega arith },
       refl,
     ),
@@ -231,6 +231,7 @@ reads_none = (
         goes_on = (Changed 0 (steps.Read 7 true) ∷ Changed 0 (steps.Alter 8 (Insert deleted)) ∷ Changed 0 (steps.Expunge None) ∷ Changed 0 (steps.Read 8 true) ∷ [], refl);
         mailboxes = refl;
         found = filter (concerns 0) emptied;
+        seen = (Changed 0 (steps.Read 7 true) ∷ Changed 0 (steps.Alter 8 (Insert deleted)) ∷ Changed 0 (steps.Expunge None) ∷ [], refl);
         own = refl;
         few = omega arith;
       },
@@ -245,14 +246,14 @@ counts : ByHistory (within came 3) (Count 1) (Counted (status 1)) (within came 3
 counts = (
   refl,
   omega arith,
-  record { goes_on = ([], refl); mailboxes = refl; found = filter (concerns 1) came; own = refl; few = omega arith },
+  record { goes_on = ([], refl); mailboxes = refl; found = filter (concerns 1) came; seen = ([], refl); own = refl; few = omega arith },
   refl,
   record { messages = omega arith; uidnext = omega arith; uidvalidity = omega arith; unseen = omega arith; deleted = omega arith; size = omega arith },
 )
 
 -- It marks the second message, and is answered with the flags that this has then.
 alters : ByHistory (within was_read 3) (Alter 8 (Insert deleted)) (Altered (Some both)) (within marked 3)
-alters = (refl, (entry 3, refl, (record { goes_on = (Changed 0 (steps.Alter 8 (Insert deleted)) ∷ [], refl); mailboxes = refl; found = filter (concerns 0) was_read; own = refl; few = omega arith }, refl)))
+alters = (refl, (entry 3, refl, (record { goes_on = (Changed 0 (steps.Alter 8 (Insert deleted)) ∷ [], refl); mailboxes = refl; found = filter (concerns 0) was_read; seen = ([], refl); own = refl; few = omega arith }, refl)))
 
 -- It is shown one change, where it asks for no more, and its cursor goes over that.
 feeds_one : ByHistory (within marked 3) (Feed 1) (Fed (7 ∷ 8 ∷ []) (SetFlags 7 seen ∷ [])) (within marked 4)
@@ -260,7 +261,7 @@ feeds_one = (
   entry 3,
   refl,
   (
-    record { goes_on = ([], refl); mailboxes = refl; found = filter (concerns 0) marked; own = refl; few = omega arith },
+    record { goes_on = ([], refl); mailboxes = refl; found = filter (concerns 0) marked; seen = ([], refl); own = refl; few = omega arith },
     record { met = refl; showed = refl },
     refl,
     record { there = refl; within = omega arith },
@@ -273,7 +274,7 @@ feeds_all = (
   entry 3,
   refl,
   (
-    record { goes_on = ([], refl); mailboxes = refl; found = filter (concerns 0) marked; own = refl; few = omega arith },
+    record { goes_on = ([], refl); mailboxes = refl; found = filter (concerns 0) marked; seen = ([], refl); own = refl; few = omega arith },
     record { met = refl; showed = refl },
     refl,
     record { there = refl; within = omega arith },
@@ -286,7 +287,7 @@ expunges = (
   entry 3,
   refl,
   (
-    record { goes_on = (Changed 0 (steps.Expunge None) ∷ [], refl); mailboxes = refl; found = filter (concerns 0) marked; own = refl; few = omega arith },
+    record { goes_on = (Changed 0 (steps.Expunge None) ∷ [], refl); mailboxes = refl; found = filter (concerns 0) marked; seen = ([], refl); own = refl; few = omega arith },
     record { met = refl; showed = refl },
     refl,
     refl,
@@ -300,7 +301,7 @@ expunges_none = (
   entry 5,
   refl,
   (
-    record { goes_on = (Changed 0 (steps.Expunge (Some (7 ∷ []))) ∷ [], refl); mailboxes = refl; found = filter (concerns 0) marked; own = refl; few = omega arith },
+    record { goes_on = (Changed 0 (steps.Expunge (Some (7 ∷ []))) ∷ [], refl); mailboxes = refl; found = filter (concerns 0) marked; seen = ([], refl); own = refl; few = omega arith },
     record { met = refl; showed = refl },
     refl,
     refl,
@@ -310,15 +311,15 @@ expunges_none = (
 
 -- It leaves by CLOSE.
 leaves : ByHistory (within marked 3) (Leave true) (Left 1) (outside was_left)
-leaves = (refl, (entry 3, refl, (record { goes_on = (Changed 0 (steps.Leave true) ∷ [], refl); mailboxes = refl; found = filter (concerns 0) marked; own = refl; few = omega arith }, refl)))
+leaves = (refl, (entry 3, refl, (record { goes_on = (Changed 0 (steps.Leave true) ∷ [], refl); mailboxes = refl; found = filter (concerns 0) marked; seen = ([], refl); own = refl; few = omega arith }, refl)))
 
 -- It leaves, and nothing is removed.
 leaves_all : ByHistory (within marked 3) (Leave false) (Left 0) (outside (marked ++ Changed 0 (steps.Leave false) ∷ []))
-leaves_all = (refl, (entry 3, refl, (record { goes_on = (Changed 0 (steps.Leave false) ∷ [], refl); mailboxes = refl; found = filter (concerns 0) marked; own = refl; few = omega arith }, refl)))
+leaves_all = (refl, (entry 3, refl, (record { goes_on = (Changed 0 (steps.Leave false) ∷ [], refl); mailboxes = refl; found = filter (concerns 0) marked; seen = ([], refl); own = refl; few = omega arith }, refl)))
 
 -- A message of the other mailbox is removed, whatever its flags, as that is moved away.
 discards : ByHistory (within came 3) (Discard 1 (9 ∷ [])) Discarded (within moved 3)
-discards = (refl, omega arith, record { goes_on = (Changed 1 (steps.Discard (9 ∷ [])) ∷ [], refl); mailboxes = refl; found = filter (concerns 1) came; own = refl; few = omega arith })
+discards = (refl, omega arith, record { goes_on = (Changed 1 (steps.Discard (9 ∷ [])) ∷ [], refl); mailboxes = refl; found = filter (concerns 1) came; seen = ([], refl); own = refl; few = omega arith })
 
 -- A call that is refused leaves all as it was.
 is_refused : ByHistory (within marked 3) (Feed 64) (Refused NoMemory) (within marked 3)

@@ -3,7 +3,8 @@ use Rattle.std.specs.Prelude.{◌≡◌, ℕ, Bool, true, false, List, [], ◌�
 use Rattle.std.proofs.Common.{refl, ap, sym, subst, arith}
 use Rattle.change_ring.specs.View.{position}
 use Rattle.laws_client.specs.Client.{Client, Known, Messages, reads, fresh, knowing, unknown}
-use Rattle.laws_client.specs.Beliefs.{Each, HearsUid, HoldsOf, IsKnownTo, IsOf, Follows, KeepsUids}
+use Rattle.laws_client.specs.Beliefs.{HearsUid, HoldsOf, IsKnownTo, Follows, KeepsUids}
+use Rattle.laws_client.specs.Clients.{Each, IsOf}
 
 -- what SELECT answers about a mailbox of so many messages
 abbrev pub select_of : List ℕ → List ℕ

@@ -5,7 +5,8 @@ use Rattle.envelope.specs.Names.{number_of}
 use Rattle.line_io.specs.Wire.{crlf}
 use Rattle.exactly_once.specs.rows.Entries.{the_house}
 use Rattle.house.specs.Window.{window_text}
-use Rattle.script.specs.Script.{Sends, Tail, Skip, Bad, refusal, script_of}
+use Rattle.script.specs.Script.{Sends, Tail, Skip, Bad, script_of}
+use Rattle.script.specs.Promise.{refusal}
 use Rattle.script.specs.Telling.{joined, lines_of, object_of, told}
 use Rattle.settings.specs.declared.asking.Form.TheVariants.{Text, Json}
 

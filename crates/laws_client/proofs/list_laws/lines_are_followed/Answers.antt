@@ -1,4 +1,4 @@
-use Rattle.laws_client.specs.Beliefs.{IsOf}
+use Rattle.laws_client.specs.Clients.{IsOf}
 use Rattle.laws_client.proofs.Each.{each_length}
 use Rattle.laws_client.proofs.Follows.{lines_are_followed}
 use Rattle.laws_client.proofs.list_laws.lines_are_followed.Goals as goal

@@ -1,8 +1,11 @@
-use Rattle.laws_client.proofs.ServedVisits.{visitors_keep_up, visitors_stand}
+use Rattle.laws_client.proofs.ServedVisits.{visitors_are_right, visitors_keep_up, visitors_stand}
 use Rattle.laws_client.proofs.served_laws.served_visitors_keep_up.Goals as goal
 
 pub returns-clause-stand : goal.returns-clause-stand
 returns-clause-stand c = visitors_stand
 
 pub returns-clause-right : goal.returns-clause-right
-returns-clause-right c = visitors_keep_up
+returns-clause-right c = visitors_are_right
+
+pub returns-clause-begun : goal.returns-clause-begun
+returns-clause-begun c = visitors_keep_up
