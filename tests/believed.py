@@ -3,8 +3,8 @@
 
     tests/believed.py                       each file that has some, how many, and how many lines they take with their comments
     tests/believed.py --parts               the same in the parts in which the page lists them: the headline, which is over any dialogues; what of LMTP and of IMAP
-                                            comes to it; what README's sentence to a relay and the one to a client need besides; a server; and the others. A
-                                            definition counts in the first part that cites it
+                                            comes to it; what README's sentence to a relay and the one to a client need besides, of a house on one thread, of a
+                                            server and of a script; and what README says besides. A definition counts in the first part that cites it
     tests/believed.py --page docs/DEFINITIONS.md    the same check that the gate makes: the page lists these files in these parts, each with its lines, and no other
                                             of specs/; the heads of its sections tell their sums; and each function that README's promise names is of some part
     tests/believed.py CRATE::FUNCTION ..    those of other functions
@@ -27,10 +27,10 @@ TOP = os.path.dirname(os.path.dirname(os.path.abspath(__file__)))
 ROOTS = ["exactly_once::exactly_once_delivery", "script::run_script.once"]
 
 # README's two sentences, of a house on one thread: what a relay may conclude, and what a client may.
-TO_A_RELAY = ["laws_relay::relays_may_conclude_over_any"]
-TO_A_CLIENT = ["laws_client::clients_keep_up.record+ended", "laws_client::clients_know_flags.record", "laws_client::uids_stay.same+gone+records"]
+TO_A_RELAY = ["laws_relay::relays_may_conclude_over_any.concluded"]
+TO_A_CLIENT = ["laws_client::clients_are_right", "laws_client::uids_stay.named"]
 
-# The parts of the page, each with how the heads of its sections begin and the functions whose clauses cite it. The last one has all other sections. Where
+# The parts of the page, each with how the heads of its sections begin and the functions whose clauses cite it. Where
 # clauses are named behind a function (`crate::function.clause+clause`), what it ensures besides is no part of the promise.
 PARTS = [
     ("The headline", ["exactly_once::exactly_once_over_any"]),
@@ -38,23 +38,31 @@ PARTS = [
     ("IMAP", ["exactly_once::sessions_may_speak_imap"]),
     ("To a relay", TO_A_RELAY),
     ("To a client", TO_A_CLIENT),
-    ("Besides, to a client", ["laws_client::lists_are_current.entries+verdicts", "laws_client::appends_are_told.kept+were_kept"]),
     (
         "Of a server",
         [
-            "laws_relay::served_relays_conclude",
             "laws_relay::servers_conclude",
-            "laws_relay::lines_conclude",
-            "laws_relay::client_slots_conclude",
             "session_thread::shown_since_select.by_history",
             "imap_stream::attend.lived",
             "laws_client::served_visitors_keep_up.right",
-            "laws_client::served_lists_are_current.all+done+list",
             "laws_client::served_texts_stay",
             "serving::serve_house.kept",
         ],
     ),
     ("Of a script", ROOTS),
+    ("A script's lines", ["script::run_script.played"]),
+    (
+        "Besides",
+        [
+            "laws_client::clients_keep_up.ended",
+            "laws_client::lists_are_current.entries+verdicts",
+            "laws_client::appends_are_told.kept+were_kept",
+            "laws_client::served_lists_are_current.all+done+list",
+            "laws_relay::served_relays_conclude",
+            "laws_relay::lines_conclude",
+            "laws_relay::client_slots_conclude",
+        ],
+    ),
     (
         "While a server runs",
         [
@@ -65,10 +73,11 @@ PARTS = [
     ),
 ]
 
-# What is spoken is a promise of its own, and so is what single calls say while a server runs: the rest is what all sentences of README rest on.
-APART = ["LMTP", "IMAP", "While a server runs"]
+# What is spoken is a promise of its own, and so is what the lines of a script ask for. What README says besides its two sentences, and what single calls say while a server runs, counts apart too.
+APART = ["LMTP", "IMAP", "A script's lines", "Besides", "While a server runs"]
 
-# The parts that README's two sentences rest on, whatever the dialogues are.
+# The parts that README's two sentences rest on where they are said of a house on one thread, whatever the dialogues are. Those of a server and of a script
+# come to them where the sentences are said of these too.
 SENTENCES = ["The headline", "To a relay", "To a client"]
 
 # A program's own function hands on what `run_script` and `serve` say; no other crate can cite it.
@@ -395,8 +404,13 @@ def of_parts(found, heads):
 
 
 def of_all(found):
-    """The same of all sentences, whatever is spoken."""
+    """The same of the two sentences in each kind of house, whatever is spoken."""
     return of_parts(found, [head for head, _ in PARTS if head not in APART])
+
+
+def with_besides(found):
+    """And with what README says besides."""
+    return of_parts(found, [head for head, _ in PARTS if head not in APART or head == "Besides"])
 
 
 def named_in(page, head):
@@ -440,7 +454,8 @@ def wrong_on(page):
         yield f"doesn't tell that the headline is {first[0]} lines in {first[1]} files"
     with open(page, encoding="utf-8") as text:
         told = text.read()
-    for whose, (files, lines) in (("README's two sentences rest", of_parts(found, SENTENCES)), ("all sentences rest", of_all(found))):
+    told_of = (("README's two sentences rest", of_parts(found, SENTENCES)), ("in each house they rest", of_all(found)), ("with that all rest", with_besides(found)))
+    for whose, (files, lines) in told_of:
         if f"rest on {lines:,} lines in {files} files" not in told:
             yield f"doesn't tell that {whose} on {lines:,} lines in {files} files"
     roots = {root.partition(".")[0] for _, them in PARTS for root in them} | OF_A_PROGRAM
@@ -466,8 +481,13 @@ def tell_parts():
         for path in sorted(sizes):
             print(f"{path}: {sizes[path]} lines")
         print(f"{head or 'The others'}: {len(sizes)} files, {sum(sizes.values())} lines")
-    for whose, (files, lines) in (("README's two sentences", of_parts(found, SENTENCES)), ("All sentences", of_all(found))):
-        print(f"{whose}, whatever is spoken: {files} files, {lines} lines")
+    print("Whatever is spoken:")
+    for whose, (files, lines) in (
+        ("README's two sentences, of a house on one thread", of_parts(found, SENTENCES)),
+        ("the two sentences, of each house", of_all(found)),
+        ("with what README says besides", with_besides(found)),
+    ):
+        print(f"{whose}: {files} files, {lines} lines")
     return 0
 
 
