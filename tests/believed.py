@@ -6,7 +6,7 @@
                                             comes to it; what README's sentence to a relay and the one to a client need besides, of a house on one thread, of a
                                             server and of a script; and what README says besides. A definition counts in the first part that cites it
     tests/believed.py --page docs/DEFINITIONS.md    the same check that the gate makes: the page lists these files in these parts, each with its lines, and no other
-                                            of specs/; the heads of its sections tell their sums; and each function that README's promise names is of some part
+                                            of specs/; the heads of its sections tell their sums; and each function that README's promise names is of a part that counts
     tests/believed.py CRATE::FUNCTION ..    those of other functions
     tests/believed.py --apart               whether what public clauses say stands apart, as the gate checks too: each definition of specs/ is cited by a
                                             clause that another crate can see, those of specs/inner/ by none, and specs/rows/ has tables of worked examples,
@@ -458,8 +458,10 @@ def wrong_on(page):
     for whose, (files, lines) in told_of:
         if f"rest on {lines:,} lines in {files} files" not in told:
             yield f"doesn't tell that {whose} on {lines:,} lines in {files} files"
-    roots = {root.partition(".")[0] for _, them in PARTS for root in them} | OF_A_PROGRAM
-    yield from (f"has no part for {name}, which README names" for name in named_in(os.path.join(TOP, "README.md"), "What is promised") if name not in roots)
+    for section, parts_of_it in (("What is promised", [them for head, them in PARTS if head not in APART]), ("What else is proved", [them for _, them in PARTS])):
+        roots = {root.partition(".")[0] for them in parts_of_it for root in them} | OF_A_PROGRAM
+        names = named_in(os.path.join(TOP, "README.md"), section)
+        yield from (f"has no part for {name}, which README names in its section `{section}`" for name in names if name not in roots)
     for (head, sizes), files in zip(found, listed):
         where = f"in its part `{head}`" if head else "in its last part"
         yield from (f"doesn't list {path} {where}" for path in sizes.keys() - files.keys())
