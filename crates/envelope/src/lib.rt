@@ -16,7 +16,7 @@ mod word;
 
 pub use command::{CommandFault, ForwardPath, LmtpCommand, Mailbox, ReversePath, Verb};
 pub use directory::{Directory, DirectoryFault, MOST_MAILBOXES, NoSuch};
-pub use laws::words_have_their_positions;
+pub use laws::{commands_are_read_by_the_grammar, words_have_their_positions};
 pub use names::{is_folder, is_name, is_user};
 pub use reading::{after_spaces, past_byte, past_keyword, read_command};
 pub use recipients::{MOST_RECIPIENTS, Recipients, TooMany};

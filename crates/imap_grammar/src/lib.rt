@@ -38,7 +38,7 @@ pub use items::{
 };
 pub use key_words::SystemFlag;
 pub use keys::SearchKeys;
-pub use laws::{literals_are_announced, quoted_texts_are_read};
+pub use laws::{lines_are_read_by_the_grammar, literals_are_announced, quoted_texts_are_read};
 pub use literal::{announced, put_quoted, quoted_len};
 pub use name::Name;
 pub use reading::{is_done, read_line};

@@ -99,8 +99,8 @@ on_ok (Err fault) event = []
 
 module _ (found left : LockedMailbox) where
   -- Who held the mailbox knows how the history begins, with all that has happened here: what had happened when it was found, with all that was known
-  -- before, and then just what was said. The mailbox that was found stood for the log that its events had made; the one that was left stands for the log that they make now, which
-  -- is the history's.
+  -- before, and then just what was said. The mailbox that was found stood for the log that its events had made; the one that was left stands for the
+  -- log that they make now, which is the history's.
   pub record Knows (said : List Event) (before after : List Event) : Type 0 where
     pub goes_on : IsPrefix before after
     pub legal : Legal after
