@@ -112,8 +112,7 @@ module _ (peers : Peers) where
   -- the verdicts in a piece that are told at seat p
   abbrev pub told_in : ℕ → Piece → List Noted
   told_in p (Replies seat said) = if p == seat then filter_map verdict_in said else []
-  told_in p (Lines session lines) = []
-  told_in p Silence = []
+  told_in p piece = []
 
   -- all verdicts that were told at seat p, in the order in which they were printed
   abbrev pub verdicts_of : ℕ → List Entry → List Noted

@@ -30,9 +30,7 @@ concerns k (Changed m s) = k == m
 
 abbrev pub sent_of : ℕ → Event → Option (Job × ℕ)
 sent_of p (Sent j t) = if j.key.seat == p then Some (j, t) else None
-sent_of p (Withdrawn t) = None
-sent_of p (Judged j v t) = None
-sent_of p (Changed m s) = None
+sent_of p event = None
 
 -- the copies that seat p sent, each with its ticket, in order
 abbrev pub sent_by : ℕ → List Event → List (Job × ℕ)
@@ -49,10 +47,8 @@ abbrev pub life : ℕ → List Event → List Event
 life t log = filter_map (step_of t) log
 
 abbrev pub judged_of : ℕ → ℕ → Event → Option Job
-judged_of m p (Sent j t) = None
-judged_of m p (Withdrawn t) = None
 judged_of m p (Judged j v t) = if j.mailbox == m && j.key.seat == p then Some j else None
-judged_of m p (Changed n s) = None
+judged_of m p event = None
 
 -- the copies of seat p that were judged in mailbox m, in order
 abbrev pub judged_in : ℕ → ℕ → List Event → List Job
@@ -69,11 +65,8 @@ abbrev pub sent_to : ℕ → ℕ → List Event → List Job
 sent_to m p log = filter_map (sent_to_of m p) log
 
 abbrev pub accepted_of : ℕ → Event → Option (CopyKey × ℕ)
-accepted_of m (Sent j t) = None
-accepted_of m (Withdrawn t) = None
 accepted_of m (Judged j (Stored uid) t) = if j.mailbox == m then Some (j.key, uid) else None
-accepted_of m (Judged j (Refused why) t) = None
-accepted_of m (Changed n s) = None
+accepted_of m event = None
 
 -- what mailbox m accepted: each copy by its key, with its UID, whether its message is gone since or not
 abbrev pub accepted_in : ℕ → List Event → List (CopyKey × ℕ)
@@ -104,10 +97,9 @@ arrives j (Refused why) = []
 
 -- what an event adds to the log of mailbox m
 abbrev pub more : ℕ → List Change → Event → List Change
-more m log (Sent j t) = []
-more m log (Withdrawn t) = []
 more m log (Judged j v t) = if j.mailbox == m then arrives j v else []
 more m log (Changed n s) = if n == m then logged s (rows_of log) else []
+more m log event = []
 
 -- the log of mailbox m after events, from a log on
 abbrev pub changes_from : ℕ → List Change → List Event → List Change

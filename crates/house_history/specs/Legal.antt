@@ -29,10 +29,8 @@ HasUid (Stored uid) = uid < 2 ^ 32
 HasUid (Refused why) = Unit {0}
 
 abbrev pub GivesUid : Event → Type 0
-GivesUid (Sent j t) = Unit {0}
-GivesUid (Withdrawn t) = Unit {0}
 GivesUid (Judged j v t) = HasUid v
-GivesUid (Changed m s) = Unit {0}
+GivesUid event = Unit {0}
 
 pub record Legal (log : List Event) : Type 0 where
   -- of each seat, the keys of what it sent rise

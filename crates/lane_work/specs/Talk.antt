@@ -44,9 +44,6 @@ module _ (setting : Setting) (directory : Directory) where
 
 -- What a house that stops says last: that it shuts down (RFC 5321, 3.8). Within a message's data, and where the dialogue has ended, it says nothing.
 abbrev pub last_words : Phase → List Reply
-last_words Start = ShuttingDown ∷ []
-last_words Ready = ShuttingDown ∷ []
-last_words (Transaction sender recipients) = ShuttingDown ∷ []
 last_words (Data sender recipients lines) = []
-last_words (Waiting count) = ShuttingDown ∷ []
 last_words Ended = []
+last_words phase = ShuttingDown ∷ []
