@@ -12,14 +12,10 @@ use Rattle.imap_session.specs.Store.{IsBeyondRoom, Met}
 
 -- ---- what was sent as a command
 
--- where it isn't too long to be one
-abbrev pub if_short : List ℕ → Option (List ℕ)
-if_short line = if nat_lt most_line (length line) then None else Some line
-
--- where no memory was refused to it
+-- where no memory was refused to it, and it isn't too long to be one
 abbrev pub if_kept : Option (List ℕ) → Option (List ℕ)
 if_kept None = None
-if_kept (Some line) = if_short line
+if_kept (Some line) = if nat_lt most_line (length line) then None else Some line
 
 -- the rest of a line behind what came last
 abbrev pub whole_behind : Purpose → (text : Option (List ℕ)) → (rest : List ℕ) → Option (List ℕ)
@@ -32,19 +28,16 @@ whole_in (Some a) idling line = whole_behind a.purpose a.text line
 whole_in None (Some tag) line = None
 whole_in None None line = Some line
 
--- What a client sent as a command when this line came to a session that stands so: the line, or where
--- it goes on behind a literal the whole of it, with that as a quoted string in its place
--- (RFC 9051, 4.3), and behind AUTHENTICATE that with its response (6.2.2). Nothing where the line
--- ends an IDLE or stands behind a message, and where it is given up, since it is too
--- long or memory was refused to it.
+-- What a client sent as a command when this line came to a session that stands so: the line, or where it goes on behind a literal the whole of it,
+-- with that as a quoted string in its place (RFC 9051, 4.3), and behind AUTHENTICATE that with its response (6.2.2). Nothing where the line ends an
+-- IDLE or stands behind a message, and where it is given up, since it is too long or memory was refused to it.
 abbrev pub whole_line : Standing → List ℕ → Option (List ℕ)
 whole_line now line = whole_in now.mailing.begun now.idling line
 
 -- ---- what happens
 
--- A line came, or one that was too long, or the session had a turn while it idles;
--- or bytes of a literal came, to which memory was refused or not, or the
--- verdict on a message. With the store's answers.
+-- A line came, or one that was too long, or the session had a turn while it idles; or bytes of a literal came, to which memory was refused or not, or
+-- the verdict on a message. With the store's answers.
 pub data Happening : Type 0 where
   Line : (line : List ℕ) → List StoreAnswer → Happening
   LongLine : Happening
@@ -88,8 +81,7 @@ VerdictsArePrinted happening = Unit {0}
 
 -- ---- what the client is told
 
--- the answer to a line that it sent as a command, with its literals
--- in it, or words that come without one, as in an IDLE or behind a message
+-- the answer to a line that it sent as a command, with its literals in it, or words that come without one, as in an IDLE or behind a message
 pub data Told : Type 0 where
   Answer : (line : List ℕ) → (bytes : List ℕ) → Told
   Words : (bytes : List ℕ) → Told

@@ -144,8 +144,7 @@ ByHistory old (Feed limit) (Fed view changes) new =
 ByHistory old (Leave remove) (Left gone) new =
     (new.entered ≡ None) × In old (λ here. (logs : Logs old new here.mailbox (says (steps.Leave remove) here.mailbox))
     × (gone ≡ length (logged (steps.Leave remove) (rows_of (changes_in here.mailbox logs.found)))))
-ByHistory old (Discard m uids) Discarded new =
-    (new.entered ≡ old.entered) × (m < old.mailboxes) × Logs old new m (says (steps.Discard uids) m)
+ByHistory old (Discard m uids) Discarded new = (new.entered ≡ old.entered) × (m < old.mailboxes) × Logs old new m (says (steps.Discard uids) m)
 ByHistory old call answer new = ⊥
 
 -- ---- what holds of it

@@ -6,7 +6,7 @@ use Rattle.change_ring.specs.Log.{no_flags}
 use Rattle.imap_session.specs.declared.standing.Profile.TheVariants.{Standard}
 use Rattle.imap_session.specs.Commands.{most_line}
 use Rattle.imap_session.specs.Exchange.{Argument, Message, Purpose, Response, Standing, begun_with}
-use Rattle.imap_session.specs.Happenings.{Answer, Line, Words, if_short, told_of, whole_line}
+use Rattle.imap_session.specs.Happenings.{Answer, Line, Words, if_kept, told_of, whole_line}
 
 abbrev pub with_inbox : Standing
 with_inbox = begun_with (record { most = Some 10; profile = Standard; login = None }) (record { name = codes "INBOX"; mailbox = 0 } ∷ [])
@@ -31,5 +31,5 @@ without_memory : whole_line (goes_on (Argument (codes "a1 SELECT ")) None) [] �
 without_memory = refl
 
 -- what is one byte too long is given up
-given_up : (line : List ℕ) → length line ≡ 8191 → if_short line ≡ None
+given_up : (line : List ℕ) → length line ≡ 8191 → if_kept (Some line) ≡ None
 given_up line is = ap (λ (n : ℕ). if nat_lt most_line n then None else Some line) is
