@@ -20,7 +20,7 @@ use Rattle.laws_client.proofs.Talked.{met_hears}
 use Rattle.imap_session.specs.Folders.{folders_of}
 use Rattle.house.specs.Scene.{LeavesMailbox, empty_scene}
 use Rattle.house.specs.Setup.{Setup, session_seat}
-use Rattle.laws_client.specs.Appends.{AppendsAreKept, AppendsWereKept, AppendsWereTold, TellsOfAppends, AnswersNoted, AppendsAreTold, AreAnswered, Author, EndsWith, IsAnswered, SaysVerdict, TellsKept, TellsOfNone, as_it_is, author_at, copy_under, CameBy, SaysCopied, last_line, tells_stored, tells_copy, IsCopyOf, SaysMoved, TellsCopied, SaysOfBatch, SaysRefused, awaits_next, has_no_number, all_stored, EarlierStand}
+use Rattle.laws_client.specs.Appends.{AppendsAreKept, AppendsWereKept, AppendsWereTold, TellsOfAppends, AnswersNoted, AppendsAreTold, AreAnswered, Author, IsAnswered, SaysVerdict, TellsKept, TellsOfNone, as_it_is, author_at, copy_under, CameBy, SaysCopied, tells_stored, tells_copy, IsCopyOf, SaysMoved, TellsCopied, SaysOfBatch, SaysRefused, awaits_next, has_no_number, all_stored, EarlierStand}
 use Rattle.imap_session.specs.Happenings.{Told, bytes_in}
 use Rattle.laws_client.specs.ClientRecords.{sent_by_then, shown_by_then}
 use Rattle.laws_client.proofs.Answered.{Came, AreNoted, InTurn, IsNoted, KnownAt, still_noted, EarlierNoted}
@@ -39,6 +39,7 @@ use Rattle.mailbox.specs.declared.clients.MailFault.{MailFault}
 use Rattle.delivery_token.specs.declared.Refusal.{Refusal}
 use Rattle.imap_session.specs.declared.texts.ResponseText.{ResponseText}
 use Rattle.mailbox.specs.declared.clients.MailFault.TheVariants.{Spent}
+use Rattle.laws_client.specs.Clients.{EndsWith, last_line}
 
 -- ---- each answer
 

@@ -25,10 +25,9 @@ use Rattle.house.specs.declared.event.Event.TheVariants.{Hear, Put, Say}
 use Rattle.exactly_once.specs.Promise.{Entry, IsEntry, IsRecord, Lines, Piece, Replies, Silence, text_of}
 use Rattle.exactly_once.proofs.Going.{record_append}
 use Rattle.exactly_once.proofs.Whole.{IsWhole, goes_whole, whole_append}
-use Rattle.laws_client.specs.Clients.{IsRight}
+use Rattle.laws_client.specs.Clients.{EndsWith, IsRight}
 use Rattle.laws_client.specs.Client.{Client as Reader, Known, knowing}
 use Rattle.imap_session.specs.Happenings.{Answer, Happening, Heard, Line, Literal, LongLine, Told, Turned, Words, bytes_in, leads_to, told_line, told_of, whole_line}
-use Rattle.laws_client.specs.Appends.{EndsWith}
 use Rattle.laws_client.specs.AtEntries.{AnswersAt, AnswersMakeCurrent, VerdictsMakeCurrent}
 use Rattle.laws_client.specs.Clients.{hears_all}
 use Rattle.laws_client.specs.Current.{shows_all}
@@ -78,7 +77,7 @@ abbrev told_others : List Told → List Told
 told_others [] = []
 told_others (x ∷ xs) = xs
 
-last_same : (xs ys : List Told) (x y : Told) → xs ++ x ∷ [] ≡ ys ++ y ∷ [] → (xs ≡ ys) × (x ≡ y)
+pub last_same : (xs ys : List Told) (x y : Told) → xs ++ x ∷ [] ≡ ys ++ y ∷ [] → (xs ≡ ys) × (x ≡ y)
 last_same [] [] x y e = (refl, ap (told_first x) e)
 last_same [] (z ∷ ys) x y e = absurd (omega (arith, ap length e, length-append ys (y ∷ [])))
 last_same (z ∷ xs) [] x y e = absurd (omega (arith, ap length e, length-append xs (x ∷ [])))
@@ -94,7 +93,7 @@ is_answer (Answer line bytes) l b = (line ≡ l) × (bytes ≡ b)
 is_answer (Words bytes) l b = ⊥
 
 -- an answer was to what came as a command with this line
-record AnswersLine (now : Standing) (happening : Happening) (turn : Turn) (whole bytes : List ℕ) : Type 0 where
+pub record AnswersLine (now : Standing) (happening : Happening) (turn : Turn) (whole bytes : List ℕ) : Type 0 where
   pub line : List ℕ
   pub answers : List StoreAnswer
   pub is : happening ≡ Line line answers
@@ -110,7 +109,7 @@ line_told None line b bytes e = absurd (let x : is_answer (Words b) line bytes =
 no_words : (b line bytes : List ℕ) → Words b ≡ Answer line bytes → ⊥
 no_words b line bytes e = let x : is_answer (Words b) line bytes = subst (λ (t : Told). is_answer t line bytes) (sym e) (refl, refl) in x
 
-answers_line : (now : Standing) (happening : Happening) (turn : Turn) (line bytes : List ℕ) → told_of now happening turn.bytes ≡ Answer line bytes → AnswersLine now happening turn line bytes
+pub answers_line : (now : Standing) (happening : Happening) (turn : Turn) (line bytes : List ℕ) → told_of now happening turn.bytes ≡ Answer line bytes → AnswersLine now happening turn line bytes
 answers_line now (Line l answers) turn line bytes e =
     let x = line_told (whole_line now l) line turn.bytes bytes e in
     record { line = l; answers = answers; is = refl; came = x.0; wrote = x.1 }

@@ -1,12 +1,13 @@
 -- What is known of each message, as messages come and go.
 use Rattle.std.proofs.Common.{◌⊎◌, inl, inr, eq-eqb, ◌≡◌, ℕ, zero, suc, ◌+◌, ◌-◌, ◌<◌, Bool, true, false, ◌==◌, List, [], ◌∷◌, ◌++◌, length, Contains, ap, ◌∙◌, sym, refl, subst, arith}
-use Rattle.std.specs.Prelude.{Some}
+use Rattle.std.specs.Prelude.{Option, None, Some}
+use Rattle.laws_client.specs.Client.{Client, Messages, knowing}
 use Rattle.std.proofs.lemmas.Bool.{false≢true, eqb-true, le-leb}
 use Rattle.change_ring.specs.Log.{without}
 use Rattle.change_ring.specs.View.{position}
 use Rattle.cursor_set.proofs.Positions.{position_pos}
 use Rattle.laws_client.specs.Client.{Known, unknown, more, exists, expunged, fetched, put_first}
-use Rattle.laws_client.specs.Clients.{Each}
+use Rattle.laws_client.specs.Clients.{Each, IsRightBy}
 
 pub each_length : (P : ℕ → Known → Type 0) (view : List ℕ) (ms : List Known) → Each P view ms → length ms ≡ length view
 each_length P [] [] h = refl
@@ -93,3 +94,20 @@ is_told P uid told f (u ∷ us) (m ∷ ms) is h = by (u == uid) refl is (λ othe
     by false e (inr other) behind =
         let w = behind other in
         record { now = m ∷ w.now; is = rw e (fetched_next (position uid us) told m ms w.now (position_pos uid us) w.is); each = (h.0, w.each) }
+
+-- two things that are so of each message are so together
+each_both : (P Q : ℕ → Known → Type 0) (view : List ℕ) (ms : List Known) → Each P view ms → Each Q view ms → Each (λ u m. P u m × Q u m) view ms
+each_both P Q [] [] p q = tt
+each_both P Q [] (m ∷ ms) p q = p
+each_both P Q (u ∷ us) [] p q = p
+each_both P Q (u ∷ us) (m ∷ ms) p q = ((p.0, q.0), each_both P Q us ms p.1 q.1)
+
+abbrev the_list : List Known → Messages → List Known
+the_list d None = d
+the_list d (Some list) = list
+
+pub right_both : (P Q : ℕ → Known → Type 0) (view : List ℕ) (client : Option Client) → IsRightBy P view client → IsRightBy Q view client → IsRightBy (λ u m. P u m × Q u m) view client
+right_both P Q view None p q = tt
+right_both P Q view (Some client) p q =
+    let same : q.0 ≡ p.0 = ap (λ (c : Client). the_list p.0 c.messages) (sym q.1 ∙ p.1) in
+    (p.0, p.1, each_both P Q view p.0 p.2 (subst (Each Q view) same q.2))

@@ -1,20 +1,32 @@
 -- The client of a session of a house on one thread is right, by the record: what `KeepsUp` and `KnowsFlagsToo` say of it in more words.
 use Rattle.std.proofs.Common.{◌≡◌, ℕ, ◌+◌, ◌==◌, Bool, true, false, List, [], ◌∷◌, ◌++◌, append-nil, refl, sym, subst, ap, ◌∙◌}
-use Rattle.std.specs.Prelude.{if◌then◌else◌, flat_map, Option, Some, None}
+use Rattle.std.specs.Prelude.{codes, if◌then◌else◌, flat_map, Contains, Ok, Option, Some, None}
+use Rattle.delivery_token.specs.declared.log.Noted.{Noted}
+use Rattle.imap_grammar.specs.Reading.{read}
+use Rattle.imap_grammar.specs.declared.command.Command.TheVariants as commands
+use Rattle.world.specs.Law.{StandsOnce, pairs}
 use Rattle.world.specs.World.{World, Session}
-use Rattle.imap_session.specs.Commands.{greeting}
-use Rattle.imap_session.specs.Happenings.{bytes_in}
+use Rattle.imap_session.specs.Commands.{greeting, number_named}
+use Rattle.imap_session.specs.Folders.{folders_of}
+use Rattle.imap_session.specs.Happenings.{Told, bytes_in}
+use Rattle.house.specs.Setup.{Setup, session_seat}
 use Rattle.house.specs.Scene.{Scene, empty_scene, place_of}
 use Rattle.house.specs.declared.event.Event as house
 use Rattle.house.specs.declared.event.Event.TheVariants.{Bytes, Vanish, Put, Take, Deliver, Answer, Hear, End, Close, Enter, Say, Idle, Leave}
 use Rattle.exactly_once.specs.Promise.{Entry}
-use Rattle.laws_client.specs.Clients.{IsRightAbout, hears_all}
+use Rattle.laws_client.specs.Appends.{Author, KeptAsTold, TellsKept, author_at, copy_under}
+use Rattle.laws_client.specs.Clients.{EndsWith, IsOf, IsRightAbout, hears_all}
 use Rattle.laws_client.specs.ClientRecords.{began_by_then, began_in, lets_in, sent_by_then, sent_in, shown_by_then, unless, user_by_then, user_in}
-use Rattle.laws_client.specs.Flags.{counted}
-use Rattle.laws_client.specs.FlagRecords.{KnowsFlagsToo}
-use Rattle.laws_client.specs.HouseClients.{ClientsAreRight, Lives, Seen, first_standing, point_in, seen_by_then, seen_in, shown_in, unseen}
+use Rattle.laws_client.specs.Flags.{Believes, counted}
+use Rattle.laws_client.specs.HouseClients.{ClientsAreRight, Lives, Seen, TellsOfMessage, first_standing, point_in, point_of, seen_by_then, seen_in, shown_in, unseen}
+use Rattle.laws_client.specs.RecordTurns.{Stands}
 use Rattle.laws_client.specs.Views.{view_in}
-use Rattle.laws_client.proofs.FlagKeeping.{clients_know_flags}
+use Rattle.laws_client.proofs.Appended.{appends_are_kept}
+use Rattle.laws_client.proofs.Each.{right_both}
+use Rattle.laws_client.proofs.FlagKnown.{lives_flags}
+use Rattle.laws_client.proofs.Folded.{folders_plain}
+use Rattle.laws_client.proofs.RecordKeeping.{texts_stay_short}
+use Rattle.laws_client.proofs.RecordWorlds.{sound_always}
 
 -- ---- what a record has of the session at a place
 
@@ -114,21 +126,58 @@ counted_there : (w : World) (s : Option Session) → view_in w s ≡ counted (po
 counted_there w None = refl
 counted_there w (Some s) = refl
 
+-- what an answer tells of a message, by the words of `Appends`
+tells_of : (k : Setup) (place : ℕ) (w : World) (seen : Seen) (author : Author) (tag words : List ℕ) (noted : Noted) → author.place ≡ place → seen.sent ≡ author.sent → folders_of k.directory seen.user ≡ author.folders
+    → TellsKept k w author tag words noted → TellsOfMessage k place w seen author.serial tag words
+tells_of k place w seen author tag words noted here sent folders x =
+    let came = x.came in record {
+      append = came.append;
+      copy = copy_under noted.key x.message;
+      sends = record {
+        front = came.front;
+        bytes = came.bytes;
+        line = came.line;
+        behind = came.behind;
+        spelled = came.spelled;
+        reads = subst (λ (t : List ℕ). read came.line ≡ Ok (t, commands.Append came.append)) (sym x.under) came.reads;
+        size = came.size;
+        whole = sent ∙ came.whole;
+      };
+      named = ap (number_named came.append.name) folders ∙ came.named;
+      as_sent = (came.date, came.flags);
+      own = (x.seat ∙ ap (session_seat k) here, x.own);
+      uid = x.uid;
+      told = x.words;
+      stands = subst (λ (m : ℕ). Contains (w.box m).accepted (copy_under noted.key x.message, x.uid)) x.mailbox x.copy;
+      once = subst (λ (m : ℕ). StandsOnce (pairs (w.box m).accepted) noted.key x.uid) x.mailbox x.once;
+    }
+
 pub clients_are_right : ClientsAreRight
 clients_are_right k entries t place v printable is there read =
-    let known : KnowsFlagsToo k entries place v t = clients_know_flags k entries t place v printable is there read in
+    let kept = appends_are_kept k entries t place v printable is there read in
+    let u = kept.0 in
     let so = is_so place (empty_scene k) entries unseen in
-    let u = known.keeps in record {
+    let user : List ℕ = user_by_then place [] entries in
+    let stands : Stands (first_standing k user) = record { tags = (tt, tt, tt); names = folders_plain k.directory user printable.names } in
+    let flags = lives_flags k.config place (first_standing k user) u.began printable.numbers (sound_always k.config u.events u.began printable.numbers u.came) stands u.lives (texts_stay_short k entries t printable.texts is) in record {
       answered = u.sent;
       told = u.told;
-      lives = subst (λ (x : World). Lived (seen_by_then place (empty_scene k) entries unseen).user x) (u.let_in ∙ sym so.began)
-          (subst (λ (x : List ℕ). Lived x u.began) (sym so.user) u.lives);
+      lives = subst (λ (x : World). LivesFrom (seen_by_then place (empty_scene k) entries unseen).user x u.sent u.told) (u.let_in ∙ sym so.began)
+          (subst (λ (x : List ℕ). LivesFrom x u.began u.sent u.told) (sym so.user) u.lives);
       sent = so.sent ∙ u.answered;
       shown = ap (λ (x : List ℕ). x ++ v.session.unsaid) so.shown ∙ sym u.printed ∙ ap (λ (x : List ℕ). greeting (first_standing k x).profile ++ flat_map bytes_in u.told) (sym so.user);
-      list = subst (λ (x : List ℕ). IsRightAbout x (hears_all None u.told)) (counted_there t.world (t.world.session place)) u.right;
-      flags = known.flags;
+      list = right_both IsOf (Believes (point_of t.world place)) (counted (point_of t.world place)) (hears_all None u.told)
+          (subst (λ (x : List ℕ). IsRightAbout x (hears_all None u.told)) (counted_there t.world (t.world.session place)) u.right) flags.right;
+      messages = λ before after one tag rest split ends. by kept.1 before after one tag rest split ends;
     }
   where
-    Lived : (user : List ℕ) (began : World) → Type 0
-    Lived user began = Lives k.config place (first_standing k user) began (clients_know_flags k entries t place v printable is there read).keeps.sent
-        (clients_know_flags k entries t place v printable is there read).keeps.told v.session.standing t.world
+    LivesFrom : (user : List ℕ) (began : World) (sent : List ℕ) (told : List Told) → Type 0
+    LivesFrom user began sent told = Lives k.config place (first_standing k user) began sent told v.session.standing t.world
+
+    by : {told : List Told} → KeptAsTold k t.world (author_at k entries place v.serial) told → (before after : List Told) (one : Told) (tag rest : List ℕ) → told ≡ before ++ one ∷ after
+        → EndsWith tag (codes "OK [APPENDUID " ++ rest) (bytes_in one)
+        → TellsOfMessage k place t.world (seen_by_then place (empty_scene k) entries unseen) v.serial tag (codes "OK [APPENDUID " ++ rest)
+    by known before after one tag rest split ends =
+        let so = is_so place (empty_scene k) entries unseen in
+        let x = known.kept before after one tag (codes "OK [APPENDUID " ++ rest) split ends refl in
+        tells_of k place t.world (seen_by_then place (empty_scene k) entries unseen) (author_at k entries place v.serial) tag (codes "OK [APPENDUID " ++ rest) x.0 refl so.sent (ap (folders_of k.directory) so.user) x.1

@@ -27,11 +27,11 @@ use Rattle.exactly_once.proofs.EachExchange.{Plays, closed_so, exchange_if}
 use Rattle.laws_client.proofs.Bytes.{both, first_of, rest_of}
 use Rattle.laws_client.proofs.Tags.{inner_all}
 use Rattle.laws_client.proofs.Untold.{inner_both}
-use Rattle.laws_client.specs.Appends.{EndsWith, before_lf, last_line}
 use Rattle.imap_session.specs.declared.texts.ResponseText.TheVariants as texts
 use Rattle.imap_session.specs.Texts.{response_text}
 use Rattle.imap_session.specs.declared.texts.ResponseText.{ResponseText}
 use Rattle.laws_client.proofs.TextRows.{behind, row_inner}
+use Rattle.laws_client.specs.Clients.{EndsWith, before_lf, last_line}
 
 -- ---- the last line of whole lines
 

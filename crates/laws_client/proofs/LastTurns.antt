@@ -31,7 +31,7 @@ use Rattle.laws_client.proofs.LinesRead.{flags_inner, flags_part}
 use Rattle.exactly_once.proofs.EachExchange.{idle_so}
 use Rattle.laws_client.proofs.Turns.{the_turn}
 use Rattle.laws_client.proofs.Untold.{inner_both, plain_inner}
-use Rattle.laws_client.specs.Appends.{EndsWith, SaysVerdict, TellsOfNone, SaysCopied, SaysMoved, last_line, tells_stored, SaysOfBatch, SaysRefused, awaits_next, has_no_number, all_stored}
+use Rattle.laws_client.specs.Appends.{SaysVerdict, TellsOfNone, SaysCopied, SaysMoved, tells_stored, SaysOfBatch, SaysRefused, awaits_next, has_no_number, all_stored}
 use Rattle.laws_client.proofs.RecordEntering.{mapped, only_done, only_refused}
 use Rattle.laws_client.proofs.LastLines.{Apart, IsWord, TurnFine, apart_tells_none, behind_lines, bye_apart, ends_tagged, silence_tells_none, untagged_apart, last_is, refusal_apart}
 use Rattle.laws_client.proofs.LastRests.{long_line_apart}
@@ -47,6 +47,7 @@ use Rattle.laws_client.proofs.Moves.{EndsSo, move_done, move_refused, moves_so}
 use Rattle.laws_client.proofs.Decimals.{decimal_inner}
 use Rattle.laws_client.proofs.TextRows.{row_inner}
 use Rattle.mailbox.specs.declared.clients.Row.{Row}
+use Rattle.laws_client.specs.Clients.{EndsWith, last_line}
 
 -- ---- lines of changes
 

@@ -61,6 +61,7 @@ mod Since
 mod Stored
 mod Appended
 mod WordsCurrent
+mod CountsAll
 mod AtEntries
 mod CutBytes
 mod CutTexts

@@ -104,7 +104,7 @@ last_weaker P Q [] f h = f h
 last_weaker P Q (event ∷ events) f h = h
 
 -- all that is pending is shown, and then the last line is said, or the store refused
-fed_or_not : (tag words : List ℕ) (how : After) (now : Standing) (answers : List Answer) (turn : Turn)
+pub fed_or_not : (tag words : List ℕ) (how : After) (now : Standing) (answers : List Answer) (turn : Turn)
     → played tag now (Feed unlimited (Done words how)) answers ≡ Some turn → LastFed (false ≡ true) turn.events ⊎ ((fault : MailFault) × (turn.bytes ≡ refusal_text tag fault))
 fed_or_not tag words how now [] turn e = absurd (none-some turn e)
 fed_or_not tag words how now (Fed view changes ∷ more) turn e =
@@ -128,7 +128,7 @@ shown_fed tag words how now answers turn t e ok = by (fed_or_not tag words how n
     by (inl fed) = fed
     by (inr (fault, bytes)) = absurd (false≢true (sym (refusal_has_none tag fault t) ∙ ap (has_ok true tag) (sym bytes) ∙ ok))
 
-noop_fed : (now : Standing) (line whole tag : List ℕ) (selected : Selected) (answers : List Answer) (turn : Turn) → now.selected ≡ Some selected → turn_of now line answers ≡ Some turn
+pub noop_fed : (now : Standing) (line whole tag : List ℕ) (selected : Selected) (answers : List Answer) (turn : Turn) → now.selected ≡ Some selected → turn_of now line answers ≡ Some turn
     → whole_line now line ≡ Some whole → read whole ≡ Ok (tag, commands.Noop) → has_ok true tag turn.bytes ≡ true → LastFed (false ≡ true) turn.events
 noop_fed now line whole tag selected answers turn there answered came reads ok =
     let t : IsTag tag = tags_are_tags whole tag commands.Noop reads in
@@ -164,14 +164,6 @@ pub last_current : (k : Config) (n : ℕ) (w : World) (events : List Happened) (
 last_current k n w [] v P K c h met = subst (λ (u : World). IsCurrent u n) (sym met) (c h)
 last_current k n w (e ∷ events) v P K c h (mid, one, more) =
     last_current k n mid events v (FedAll e) (kept_moved k n w mid (moved k n w e.call e.answer mid one) K) (λ fed. fed_now k n w e mid K fed one) h more
-
-pub fed_or_refused : (k : Config) (n : ℕ) (tag words : List ℕ) (how : After) (now : Standing) (w : World) (answers : List Answer) (turn : Turn) (v : World) → Kept k w
-    → played tag now (Feed unlimited (Done words how)) answers ≡ Some turn → Met (Calls k n) w turn.events v → IsCurrent v n ⊎ ((fault : MailFault) × (turn.bytes ≡ refusal_text tag fault))
-fed_or_refused k n tag words how now w answers turn v K e met = by (fed_or_not tag words how now answers turn e)
-  where
-    by : LastFed (false ≡ true) turn.events ⊎ ((fault : MailFault) × (turn.bytes ≡ refusal_text tag fault)) → IsCurrent v n ⊎ ((fault : MailFault) × (turn.bytes ≡ refusal_text tag fault))
-    by (inl fed) = inl (last_current k n w turn.events v (false ≡ true) K (λ h. absurd (false≢true h)) fed met)
-    by (inr refused) = inr refused
 
 pub noop_makes_current : NoopMakesCurrent
 noop_makes_current k events n now line whole tag w turn v is a came reads ok =

@@ -22,14 +22,14 @@ use Rattle.laws_client.proofs.RecordCurrent.{FedAll, LastFed, done_fed}
 use Rattle.laws_client.proofs.Selecting.{turn_sel}
 use Rattle.laws_client.proofs.Served.{feeds_reach_the_end, of_entry, served_lists_are_current, served_lives, small_before, small_uids, stands_in, turn_held}
 
-abbrev AtEnd : LockedStore → Type 0
+abbrev pub AtEnd : LockedStore → Type 0
 AtEnd selection = IfSome selection.entered (IsAtEnd selection)
 
 fed_at_end : (old new : LockedStore) (event : Event) (shown : List Change) → WasShown old shown → FedAll event → ByHistory old event.call event.answer new → AtEnd new
 fed_at_end old new event shown was (met, changes, is) h =
     feeds_reach_the_end old new unlimited met changes shown was (subst (λ (e : Event). ByHistory old e.call e.answer new) is h) (inr refl)
 
-last_at_end : (old new : LockedStore) (events : List Event) (shown : List Change) (P : Type 0) → WasShown old shown → (P → AtEnd old) → LastFed P events → Met ByHistory old events new → AtEnd new
+pub last_at_end : (old new : LockedStore) (events : List Event) (shown : List Change) (P : Type 0) → WasShown old shown → (P → AtEnd old) → LastFed P events → Met ByHistory old events new → AtEnd new
 last_at_end old new [] shown P was c h met = subst (λ (s : LockedStore). AtEnd s) (sym met) (c h)
 last_at_end old new (event ∷ events) shown P was c h (mid, one, more) =
     let b = by_history old mid event.call event.answer shown one was in
@@ -44,7 +44,7 @@ served_done_reaches_the_end old new shown now line tag selected answers turn was
     last_at_end old new turn.events shown (false ≡ true) was (λ e. absurd (false≢true e)) (done_fed now line tag selected answers turn stands.tags.0 there answer begun idling done ok) met
 
 -- a client that knows where it is has a session that has selected a mailbox
-knowing_served : (first : Standing) (began : LockedStore) {sent : List ℕ} {told : List Told} {now : Standing} {selection : LockedStore} → Lived ByHistory first began sent told now selection → Known_selected (hears_all None told) now
+pub knowing_served : (first : Standing) (began : LockedStore) {sent : List ℕ} {told : List Told} {now : Standing} {selection : LockedStore} → Lived ByHistory first began sent told now selection → Known_selected (hears_all None told) now
 knowing_served first began comes = tt
 knowing_served first began (turns {told = heard} {now = now} lives happening bytes turn next timely sent printed e met) =
     subst (λ (c : Option Client). Known_selected c turn.standing) (sym (hears_last None heard (told_of now happening turn.bytes)))

@@ -7,9 +7,10 @@ use Rattle.session_thread.specs.declared.locked_store.Entry.{Entry}
 use Rattle.settings.specs.Settings.{directory_for}
 use Rattle.imap_stream.proofs.Living as visits
 use Rattle.laws_client.specs.ServedVisits.{AttendedClientsLive, CallsGoOn, VisitorsKeepUp, VisitorsStand, VisitsAreByHistory, VisitsBegin, VisitsGoOn}
-use Rattle.laws_client.specs.Clients.{IsRightAbout, hears_all}
-use Rattle.laws_client.specs.Flags.{counted}
-use Rattle.laws_client.specs.Served.{VisitorsAreRight, counted_in, place_in}
+use Rattle.laws_client.specs.Clients.{IsOf, IsRightAbout, hears_all}
+use Rattle.laws_client.specs.Flags.{Believes, counted}
+use Rattle.laws_client.specs.Served.{VisitorsAreRight, counted_in, place_in, place_of}
+use Rattle.laws_client.proofs.Each.{right_both}
 use Rattle.laws_client.proofs.Folded.{folders_plain, settings_can_be_printed}
 use Rattle.laws_client.proofs.Served.{served_lives_are_known}
 use Rattle.laws_client.proofs.ServedFlags.{served_lives_tell_flags}
@@ -45,7 +46,8 @@ counted_there history None = refl
 counted_there history (Some here) = refl
 
 pub visitors_are_right : VisitorsAreRight
-visitors_are_right directory user admission store taken heard told v names none L =
-    let right = visitors_keep_up (record { first = begun_with admission (folders_of directory user); store = store; taken = taken }) heard told v none
-    (record { tags = (tt, tt, tt); names = folders_plain directory user names }) L in
-    (subst (λ (view : List ℕ). IsRightAbout view (hears_all None told)) (counted_there v.selection.history v.selection.entered) right.0, right.1)
+visitors_are_right told v x =
+    let right = visitors_keep_up (record { first = begun_with x.admission (folders_of x.directory x.user); store = x.store; taken = x.taken }) x.heard told v x.outside
+    (record { tags = (tt, tt, tt); names = folders_plain x.directory x.user x.folders }) x.lived in
+    right_both IsOf (Believes (place_of v.selection)) (counted (place_of v.selection)) (hears_all None told)
+    (subst (λ (view : List ℕ). IsRightAbout view (hears_all None told)) (counted_there v.selection.history v.selection.entered) right.0) right.1

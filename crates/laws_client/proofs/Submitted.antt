@@ -22,7 +22,7 @@ use Rattle.house_peers.proofs.Rising.{idles_keep}
 use Rattle.imap_session.specs.Happenings.{Happening, Heard, IsSentFor, Line, Literal, LongLine, Turned, if_kept, leads_to, whole_behind, whole_in, whole_line}
 use Rattle.laws_client.proofs.Folders.{heard_folders, idle_folders, line_folders}
 use Rattle.laws_client.proofs.Turns.{the_turn}
-use Rattle.laws_client.specs.Appends.{IsSentAs, IsSpelled, as_it_stands, with_literal, with_response, CameAs, CameBy, IsCopyOf}
+use Rattle.laws_client.specs.Appends.{IsSentAs, CameAs, CameBy, IsCopyOf}
 use Rattle.laws_client.proofs.Moved.{Calls}
 use Rattle.laws_client.proofs.Waiting.{ForItsArgument, ForItsLiteral, ForItsResponse, ForItsVerdict, IsMail, SubmitsNone, append_mail, argument_mail, given_mail, response_mail, idling_mail, other_mail, rest_mail, verdict_mail, ForItsCopy, copy_mail, ForTheNext, IsNext}
 use Rattle.change_ring.specs.declared.change.Flags.{Flags}
@@ -31,6 +31,7 @@ use Rattle.imap_grammar.specs.Literals.{announced, quoted}
 use Rattle.laws_client.proofs.WholeLines.{turn_given, text_awaits}
 use Rattle.imap_grammar.specs.declared.command.CopyMessages.{CopyMessages}
 use Rattle.mailbox.specs.declared.clients.Row.{Row}
+use Rattle.laws_client.specs.Clients.{IsSpelled, as_it_stands, with_literal, with_response}
 
 -- ---- what its client sent
 

@@ -15,13 +15,12 @@ use Rattle.imap_session.specs.declared.standing.Selected.{Selected}
 use Rattle.imap_session.specs.Exchange.{Answer, Event as Happened, PendingLiteral, Counted, Refused, Count, Done, Feed, Sent, Standing, Turn, having, is_idling, played, refusal_text, refused, untagged, Origin, Batch, Copied, Discard, Discarded, Exchange, ForVerdict, Mailing, Wait, Client as FromClient, tagged}
 use Rattle.imap_session.specs.Commands.{appended_words, completed, on_idle_line, on_verdict, refused_text, says, showing, turn_of, turn_with, unlimited, without_begun, without_sent, moving, copied_words, moved_words, on_stored, told_copied, told_appended, with_validity, submitting_first, taking_back, with_copy, copies_of, last_number}
 use Rattle.imap_session.specs.Store.{Met}
-use Rattle.laws_client.specs.Clients.{IsRight}
+use Rattle.laws_client.specs.Clients.{EndsWith, IsRight}
 use Rattle.laws_client.specs.Client.{Client, Known, knowing, reads}
 use Rattle.imap_session.specs.Happenings.{Answer as Answer_to, Happening, Heard, IsSentFor, Line, Literal, LongLine, Told, Turned, VerdictsArePrinted, Words, leads_to, told_line, told_of, whole_line}
 use Rattle.laws_client.proofs.IdleTags.{AreTagsOf}
 use Rattle.laws_client.proofs.Talking.{happening_keeps_so}
 use Rattle.laws_client.proofs.Turns.{the_turn}
-use Rattle.laws_client.specs.Appends.{EndsWith}
 use Rattle.laws_client.specs.Clients.{IsRightAbout, begins, hears, hears_all}
 use Rattle.laws_client.specs.Current.{IsCurrent}
 use Rattle.laws_client.specs.HouseClients.{comes, others, turns}
@@ -31,7 +30,7 @@ use Rattle.laws_client.specs.Sizes.{HasShortTexts}
 use Rattle.laws_client.specs.HouseClients.{HasSmallNumbers}
 use Rattle.laws_client.specs.RecordTurns.{Stands}
 use Rattle.laws_client.specs.Views.{messages_of, view_of}
-use Rattle.laws_client.proofs.RecordCurrent.{fed_or_refused, LastFed, last_current}
+use Rattle.laws_client.proofs.RecordCurrent.{FedAll, LastFed, fed_or_not, last_current, last_weaker}
 use Rattle.laws_client.proofs.RecordEntering.{mapped, only_done, only_refused}
 use Rattle.laws_client.proofs.LastLines.{Apart, IsWord, Spares, TurnFine, apart_tells_none, refusal_apart, silence_tells_none, tagged_apart, behind_lines}
 use Rattle.laws_client.proofs.LastRests.{long_line_apart, no_apart, part_fine, rest_fine}
@@ -81,21 +80,27 @@ never_turn o turn p e ok = never_fine turn.bytes (subst (TurnFine starts_ok) e p
 
 -- ---- turns
 
-fed_ok : (k : Config) (n : ℕ) (tag words : List ℕ) (now : Standing) (w : World) (answers : List Answer) (turn : Turn) (v : World) → Kept k w → IsWord tag → played tag now (Feed unlimited (Done words Go)) answers ≡ Some turn → Met (Calls k n) w turn.events v
-    → SaysOk turn.bytes → IsCurrent v n
-fed_ok k n tag words now w answers turn v K t e met ok = by (fed_or_refused k n tag words Go now w answers turn v K e met)
+-- the last call of a turn was for all that is pending, and was answered
+abbrev pub FedLast : Turn → Type 0
+FedLast turn = LastFed (false ≡ true) turn.events
+
+-- a call before that
+behind_call : (event : Happened) (events : List Happened) → LastFed (false ≡ true) events → LastFed (false ≡ true) (event ∷ events)
+behind_call event events fed = last_weaker (false ≡ true) (FedAll event) events (λ h. absurd (false≢true h)) fed
+
+fed_ok : (tag words : List ℕ) (now : Standing) (answers : List Answer) (turn : Turn) → IsWord tag → played tag now (Feed unlimited (Done words Go)) answers ≡ Some turn → SaysOk turn.bytes → FedLast turn
+fed_ok tag words now answers turn t e ok = by (fed_or_not tag words Go now answers turn e)
   where
-    by : IsCurrent v n ⊎ ((fault : MailFault) × (turn.bytes ≡ refusal_text tag fault)) → IsCurrent v n
-    by (inl current) = current
+    by : FedLast turn ⊎ ((fault : MailFault) × (turn.bytes ≡ refusal_text tag fault)) → FedLast turn
+    by (inl fed) = fed
     by (inr (fault, bytes)) = absurd (never turn.bytes (subst (Apart starts_ok) (sym bytes) (refusal_apart starts_ok ok_spares tag t fault)) ok)
 
 -- the line that ends an IDLE
-idle_line_current : (k : Config) (n : ℕ) (tag line : List ℕ) (selected : Selected) (now : Standing) (w : World) (answers : List Answer) (turn : Turn) (v : World) → Kept k w → IsWord tag
-    → played tag now (on_idle_line (Some selected) line) answers ≡ Some turn → Met (Calls k n) w turn.events v → SaysOk turn.bytes → IsCurrent v n
-idle_line_current k n tag line selected now w answers turn v K t e met ok = by (is_done line) e
+idle_line_fed : (tag line : List ℕ) (selected : Selected) (now : Standing) (answers : List Answer) (turn : Turn) → IsWord tag → played tag now (on_idle_line (Some selected) line) answers ≡ Some turn → SaysOk turn.bytes → FedLast turn
+idle_line_fed tag line selected now answers turn t e ok = by (is_done line) e
   where
-    by : (b : Bool) → played tag now (if b then showing (Some selected) (completed commands.Idle) else says (response_text texts.ExpectedDone)) answers ≡ Some turn → IsCurrent v n
-    by true e = fed_ok k n tag (response_text (texts.Completed verbs.Idle)) now w answers turn v K t e met ok
+    by : (b : Bool) → played tag now (if b then showing (Some selected) (completed commands.Idle) else says (response_text texts.ExpectedDone)) answers ≡ Some turn → FedLast turn
+    by true e = fed_ok tag (response_text (texts.Completed verbs.Idle)) now answers turn t e ok
     by false e =
         let d = only_done tag (response_text texts.ExpectedDone) Go now answers turn e in
         absurd (never turn.bytes (subst (Apart starts_ok) (sym d.bytes) (tagged_apart starts_ok tag (response_text texts.ExpectedDone) t refl (ok_spares.bad (codes "Expected DONE")))) ok)
@@ -107,19 +112,15 @@ refused_ok tag t call now fault turn e ok =
     never turn.bytes (subst (Apart starts_ok) (sym (sym (ap (λ (x : Turn). x.bytes) (ap (the_turn turn) e)) ∙ only.bytes)) (refusal_apart starts_ok ok_spares tag t fault)) ok
 
 -- messages that are moved
-moves_current : (k : Config) (n uidvalidity : ℕ) (batch : Batch) (tag : List ℕ) → IsWord tag
-    → (selected : Selected) (now : Standing) (w : World) (answers : List Answer) (turn : Turn) (v : World) → Kept k w
-    → played tag now (moving (Some selected) uidvalidity batch) answers ≡ Some turn → Met (Calls k n) w turn.events v → SaysOk turn.bytes → IsCurrent v n
-moves_current k n uidvalidity batch tag t selected now w answers turn v K e met ok = by (moves_so uidvalidity batch tag selected now answers turn e)
+moves_fed : (uidvalidity : ℕ) (batch : Batch) (tag : List ℕ) → IsWord tag → (selected : Selected) (now : Standing) (answers : List Answer) (turn : Turn)
+    → played tag now (moving (Some selected) uidvalidity batch) answers ≡ Some turn → SaysOk turn.bytes → FedLast turn
+moves_fed uidvalidity batch tag t selected now answers turn e ok = by (moves_so uidvalidity batch tag selected now answers turn e)
   where
     first : List ℕ
     first = untagged (moved_words uidvalidity batch)
 
-    ended : (more : Turn) → turn.bytes ≡ first ++ more.bytes → more.events ≡ turn.events
-        → EndsSo tag (response_text (texts.Completed (copy_verb batch.by_uid true))) more → IsCurrent v n
-    ended more bytes events (move_done front whole is fed) =
-        last_current k n w turn.events v (false ≡ true) K (λ h. absurd (false≢true h))
-        (subst (λ (es : List Happened). LastFed (false ≡ true) es) events fed) met
+    ended : (more : Turn) → turn.bytes ≡ first ++ more.bytes → more.events ≡ turn.events → EndsSo tag (response_text (texts.Completed (copy_verb batch.by_uid true))) more → FedLast turn
+    ended more bytes events (move_done front whole is fed) = subst (λ (es : List Happened). LastFed (false ≡ true) es) events fed
     ended more bytes events (move_refused front whole fault is) =
         let all : turn.bytes ≡ (first ++ front) ++ refusal_text tag fault =
         bytes ∙ ap (λ (b : List ℕ). first ++ b) is ∙ sym (append_assoc first front (refusal_text tag fault)) in
@@ -129,32 +130,24 @@ moves_current k n uidvalidity batch tag t selected now w answers turn v K e met 
         (subst (Apart starts_ok) (sym all)
         (behind_lines starts_ok (first ++ front) (refusal_text tag fault) before (refusal_apart starts_ok ok_spares tag t fault))) ok)
 
-    by : Moves uidvalidity batch tag turn → IsCurrent v n
+    by : Moves uidvalidity batch tag turn → FedLast turn
     by m = ended m.more m.bytes m.events m.ends
 
-copies_current : (k : Config) (n uidvalidity : ℕ) (batch : Batch) (moves : Bool) (tag : List ℕ) → IsWord tag
-    → (selected : Selected) (now : Standing) (w : World) (answers : List Answer) (turn : Turn) (v : World) → Kept k w
-    → played tag now (if moves then moving (Some selected) uidvalidity batch else showing (Some selected) (says (copied_words uidvalidity batch))) answers ≡ Some turn → Met (Calls k n) w turn.events v → SaysOk turn.bytes → IsCurrent v n
-copies_current k n uidvalidity batch true tag t selected now w answers turn v K e met ok =
-    moves_current k n uidvalidity batch tag t selected now w answers turn v K e met ok
-copies_current k n uidvalidity batch false tag t selected now w answers turn v K e met ok =
-    fed_ok k n tag (copied_words uidvalidity batch) now w answers turn v K t e met ok
+copies_fed : (uidvalidity : ℕ) (batch : Batch) (moves : Bool) (tag : List ℕ) → IsWord tag → (selected : Selected) (now : Standing) (answers : List Answer) (turn : Turn)
+    → played tag now (if moves then moving (Some selected) uidvalidity batch else showing (Some selected) (says (copied_words uidvalidity batch))) answers ≡ Some turn → SaysOk turn.bytes → FedLast turn
+copies_fed uidvalidity batch true tag t selected now answers turn e ok = moves_fed uidvalidity batch tag t selected now answers turn e ok
+copies_fed uidvalidity batch false tag t selected now answers turn e ok = fed_ok tag (copied_words uidvalidity batch) now answers turn t e ok
 
 -- a mailbox is counted, and then it is so
-counted_current : (k : Config) (n : ℕ) (next : ℕ → Exchange) (mailbox : ℕ) (tag : List ℕ) → IsWord tag → (now : Standing) (w : World) (answers : List Answer) (turn : Turn) (v : World)
-    → played tag now (with_validity mailbox next) answers ≡ Some turn → Met (Calls k n) w turn.events v → SaysOk turn.bytes
-    → ((uidvalidity : ℕ) (rest : List Answer) (more : Turn) → played tag now (next uidvalidity) rest ≡ Some more → Met (Calls k n) w more.events v → SaysOk more.bytes → IsCurrent v n)
-    → IsCurrent v n
-counted_current k n next mailbox tag t now w [] turn v e met ok then_so = absurd (none-some turn e)
-counted_current k n next mailbox tag t now w (Counted status ∷ rest) turn v e met ok then_so =
+counted_fed : (next : ℕ → Exchange) (mailbox : ℕ) (tag : List ℕ) → IsWord tag → (now : Standing) (answers : List Answer) (turn : Turn) → played tag now (with_validity mailbox next) answers ≡ Some turn → SaysOk turn.bytes
+    → ((uidvalidity : ℕ) (rest : List Answer) (more : Turn) → played tag now (next uidvalidity) rest ≡ Some more → SaysOk more.bytes → FedLast more) → FedLast turn
+counted_fed next mailbox tag t now [] turn e ok then_so = absurd (none-some turn e)
+counted_fed next mailbox tag t now (Counted status ∷ rest) turn e ok then_so =
     let m = mapped (having (Count mailbox) (Counted status)) (played tag now (next status.uidvalidity) rest) turn e in
-    let first : Met (Calls k n) w (record { call = Count mailbox; answer = Counted status } ∷ m.more.events) v =
-    subst (λ (x : Turn). Met (Calls k n) w x.events v) (sym m.makes) met in
-    let same : first.0 ≡ w = first.1.0 in
-    then_so status.uidvalidity rest m.more m.is (subst (λ (u : World). Met (Calls k n) u m.more.events v) same first.2)
-    (subst (λ (x : Turn). SaysOk x.bytes) (sym m.makes) ok)
-counted_current k n next mailbox tag t now w (Refused fault ∷ []) turn v e met ok then_so = absurd (refused_ok tag t (Count mailbox) now fault turn e ok)
-counted_current k n next mailbox tag t now w (_ ∷ rest) turn v e met ok then_so = absurd (none-some turn e)
+    subst FedLast m.makes (behind_call (record { call = Count mailbox; answer = Counted status }) m.more.events
+    (then_so status.uidvalidity rest m.more m.is (subst (λ (x : Turn). SaysOk x.bytes) (sym m.makes) ok)))
+counted_fed next mailbox tag t now (Refused fault ∷ []) turn e ok then_so = absurd (refused_ok tag t (Count mailbox) now fault turn e ok)
+counted_fed next mailbox tag t now (_ ∷ rest) turn e ok then_so = absurd (none-some turn e)
 
 -- a text that is no OK, also where copies are removed before it
 no_ok : (tag : List ℕ) → IsWord tag → (text : List ℕ) (now : Standing) (answers : List Answer) (turn : Turn) → Apart starts_ok (tagged tag text) → played tag now (says text) answers ≡ Some turn → SaysOk turn.bytes → ⊥
@@ -173,46 +166,39 @@ back_ok tag t text mailbox (uid ∷ uids) now (Refused fault ∷ []) turn apart 
 back_ok tag t text mailbox (uid ∷ uids) now (_ ∷ rest) turn apart e ok = absurd (none-some turn e)
 
 -- one more copy of a batch is stored
-batch_current : (k : Config) (n : ℕ) (batch : Batch) (mailbox : ℕ) (tag : List ℕ) → IsWord tag → (mailing : Mailing)
-    → (selected : Selected) (now : Standing) (w : World) (answers : List Answer) (turn : Turn) (v : World) → Kept k w → Met (Calls k n) w turn.events v → SaysOk turn.bytes → (left : List Row)
-    → played tag now (submitting_first mailing batch mailbox (with_validity mailbox (told_copied (Some selected) batch)) left) answers ≡ Some turn
-    → IsCurrent v n
-batch_current k n batch mailbox tag t mailing selected now w answers turn v K met ok [] e =
-    counted_current k n (told_copied (Some selected) batch) mailbox tag t now w answers turn v e met ok
-    (λ uidvalidity rest more d met ok. copies_current k n uidvalidity batch batch.moves tag t selected now w rest more v K d met ok)
-batch_current k n batch mailbox tag t mailing selected now w answers turn v K met ok (row ∷ left) e = by (nat_le last_number mailing.number) e
+batch_fed : (batch : Batch) (mailbox : ℕ) (tag : List ℕ) → IsWord tag → (mailing : Mailing) → (selected : Selected) (now : Standing) (answers : List Answer) (turn : Turn) → SaysOk turn.bytes → (left : List Row)
+    → played tag now (submitting_first mailing batch mailbox (with_validity mailbox (told_copied (Some selected) batch)) left) answers ≡ Some turn → FedLast turn
+batch_fed batch mailbox tag t mailing selected now answers turn ok [] e =
+    counted_fed (told_copied (Some selected) batch) mailbox tag t now answers turn e ok
+    (λ uidvalidity rest more d ok. copies_fed uidvalidity batch batch.moves tag t selected now rest more d ok)
+batch_fed batch mailbox tag t mailing selected now answers turn ok (row ∷ left) e = by (nat_le last_number mailing.number) e
   where
     by : (b : Bool) → played tag now (if b then taking_back mailbox batch.copies (says (response_text texts.MailboxSpent)) else Wait [] (ForVerdict (Copied (record batch { left = left })) mailbox row.flags row.text)) answers ≡ Some turn
-        → IsCurrent v n
+        → FedLast turn
     by true e = absurd (back_ok tag t (response_text texts.MailboxSpent) mailbox batch.copies now answers turn (refusal_apart starts_ok ok_spares tag t Spent) e ok)
     by false e = absurd (never_silent turn.bytes (awaits_silent tag (Copied (record batch { left = left })) mailbox row.flags row.text now answers turn e) ok)
 
-stored_current : (k : Config) (n : ℕ) (origin : Origin) (mailbox uid : ℕ) (tag : List ℕ) → IsWord tag → (mailing : Mailing)
-    → (selected : Selected) (now : Standing) (w : World) (answers : List Answer) (turn : Turn) (v : World) → Kept k w
-    → played tag now (on_stored mailing (Some selected) origin mailbox uid) answers ≡ Some turn → Met (Calls k n) w turn.events v
-    → SaysOk turn.bytes → IsCurrent v n
-stored_current k n FromClient mailbox uid tag t mailing selected now w answers turn v K e met ok =
-    counted_current k n (told_appended (Some selected) uid) mailbox tag t now w answers turn v e met ok
-    (λ uidvalidity rest more d met ok. fed_ok k n tag (appended_words uidvalidity uid) now w rest more v K t d met ok)
-stored_current k n (Copied batch) mailbox uid tag t mailing selected now w answers turn v K e met ok =
-    batch_current k n (with_copy uid batch) mailbox tag t mailing selected now w answers turn v K met ok batch.left e
+stored_fed : (origin : Origin) (mailbox uid : ℕ) (tag : List ℕ) → IsWord tag → (mailing : Mailing) → (selected : Selected) (now : Standing) (answers : List Answer) (turn : Turn)
+    → played tag now (on_stored mailing (Some selected) origin mailbox uid) answers ≡ Some turn → SaysOk turn.bytes → FedLast turn
+stored_fed FromClient mailbox uid tag t mailing selected now answers turn e ok =
+    counted_fed (told_appended (Some selected) uid) mailbox tag t now answers turn e ok
+    (λ uidvalidity rest more d ok. fed_ok tag (appended_words uidvalidity uid) now rest more t d ok)
+stored_fed (Copied batch) mailbox uid tag t mailing selected now answers turn e ok =
+    batch_fed (with_copy uid batch) mailbox tag t mailing selected now answers turn ok batch.left e
 
-verdict_current : (k : Config) (n : ℕ) (origin : Origin) (mailbox : ℕ) (verdict : Verdict) (tag : List ℕ) → IsWord tag → (mailing : Mailing)
-    → (selected : Selected) (now : Standing) (w : World) (answers : List Answer) (turn : Turn) (v : World) → Kept k w
-    → played tag now (on_verdict mailing (Some selected) origin mailbox verdict) answers ≡ Some turn → Met (Calls k n) w turn.events v → SaysOk turn.bytes
-    → IsCurrent v n
-verdict_current k n origin mailbox (verdicts.Stored uid) tag t mailing selected now w answers turn v K e met ok =
-    stored_current k n origin mailbox uid tag t mailing selected now w answers turn v K e met ok
-verdict_current k n origin mailbox (verdicts.Refused why) tag t mailing selected now w answers turn v K e met ok =
+verdict_fed : (origin : Origin) (mailbox : ℕ) (verdict : Verdict) (tag : List ℕ) → IsWord tag → (mailing : Mailing) → (selected : Selected) (now : Standing) (answers : List Answer) (turn : Turn)
+    → played tag now (on_verdict mailing (Some selected) origin mailbox verdict) answers ≡ Some turn → SaysOk turn.bytes → FedLast turn
+verdict_fed origin mailbox (verdicts.Stored uid) tag t mailing selected now answers turn e ok = stored_fed origin mailbox uid tag t mailing selected now answers turn e ok
+verdict_fed origin mailbox (verdicts.Refused why) tag t mailing selected now answers turn e ok =
     absurd (back_ok tag t (response_text (refused_text why)) mailbox (copies_of origin) now answers turn (no_apart starts_ok ok_spares tag t why) e ok)
 
 -- a line that came to no command
-kept_current : (k : Config) (n : ℕ) (now : Standing) (line : List ℕ) (selected : Selected) (w : World) (answers : List Answer) (turn : Turn) (v : World) → Kept k w → AreTagsOf IsWord now → now.selected ≡ Some selected
-    → whole_line now line ≡ None → turn_of now line answers ≡ Some turn → Met (Calls k n) w turn.events v → SaysOk turn.bytes → IsCurrent v n
-kept_current k n now line selected w answers turn v K t there none e met ok =
-    turn_has (λ whole o. whole ≡ None → o ≡ Some turn → IsCurrent v n) now line answers
-    (λ tag b i h d. idle_line_current k n tag line selected (record now { idling = None }) w answers turn v K (subst (λ (o : Option (List ℕ)). IfSome o IsWord) i t.0)
-    (subst (λ (o : Option Selected). played tag (record now { idling = None }) (on_idle_line o line) answers ≡ Some turn) there d) met ok)
+kept_fed : (now : Standing) (line : List ℕ) (selected : Selected) (answers : List Answer) (turn : Turn) → AreTagsOf IsWord now → now.selected ≡ Some selected → whole_line now line ≡ None → turn_of now line answers ≡ Some turn
+    → SaysOk turn.bytes → FedLast turn
+kept_fed now line selected answers turn t there none e ok =
+    turn_has (λ whole o. whole ≡ None → o ≡ Some turn → FedLast turn) now line answers
+    (λ tag b i h d. idle_line_fed tag line selected (record now { idling = None }) answers turn (subst (λ (o : Option (List ℕ)). IfSome o IsWord) i t.0)
+    (subst (λ (o : Option Selected). played tag (record now { idling = None }) (on_idle_line o line) answers ≡ Some turn) there d) ok)
     (λ a mailbox flags date b p h d. absurd (never_turn _ turn (rest_fine starts_ok ok_spares now.mailing a (length line == 0) a.tag (begun_word a b) (without_begun now) answers) d ok))
     (λ a x b part h d. absurd (never_turn _ turn (part_fine starts_ok ok_spares x part a.tag (begun_word a b) (without_begun now) answers) d ok))
     (λ whole w h d. absurd (none-some whole (sym h))) none e
@@ -225,28 +211,33 @@ is_words (Words bytes) b = bytes ≡ b
 is_words (Answer_to line bytes) b = ⊥
 
 -- whatever came to no command
-words_current : (k : Config) (n : ℕ) (now : Standing) (happening : Happening) (selected : Selected) (w : World) (turn : Turn) (v : World) (bytes : List ℕ) → Kept k w → AreTagsOf IsWord now → now.selected ≡ Some selected
-    → told_of now happening turn.bytes ≡ Words bytes → leads_to now happening ≡ Some turn → Met (Calls k n) w turn.events v → SaysOk turn.bytes → IsCurrent v n
+pub words_fed : (now : Standing) (happening : Happening) (selected : Selected) (turn : Turn) (bytes : List ℕ) → AreTagsOf IsWord now → now.selected ≡ Some selected → told_of now happening turn.bytes ≡ Words bytes → leads_to now happening ≡ Some turn
+    → SaysOk turn.bytes → FedLast turn
 unfolding is_words
-words_current k n now (Line line answers) selected w turn v bytes K t there told e met ok = by (whole_line now line) refl
+words_fed now (Line line answers) selected turn bytes t there told e ok = by (whole_line now line) refl
   where
-    by : (o : Option (List ℕ)) → whole_line now line ≡ o → IsCurrent v n
+    by : (o : Option (List ℕ)) → whole_line now line ≡ o → FedLast turn
     by (Some whole) is =
         absurd (let x : is_words (Answer_to whole turn.bytes) bytes = subst (λ (one : Told). is_words one bytes) (sym told ∙ ap (λ (o : Option (List ℕ)). told_line o turn.bytes) is) refl in x)
-    by None is = kept_current k n now line selected w answers turn v K t there is e met ok
-words_current k n now LongLine selected w turn v bytes K t there told e met ok =
-    absurd (never turn.bytes (subst (λ (x : Turn). Apart starts_ok x.bytes) (ap (the_turn turn) e) (long_line_apart starts_ok ok_spares now t)) ok)
-words_current k n now (Turned answers) selected w turn v bytes K t there told e met ok = absurd (never_turn _ turn (idle_fine starts_ok now.selected (is_idling now) now answers) e ok)
-words_current k n now (Literal kept literal) selected w turn v bytes K t there told e met ok = absurd (never_silent turn.bytes (sym (ap (λ (x : Turn). x.bytes) (ap (the_turn turn) e))) ok)
-words_current k n now (Heard verdict answers) selected w turn v bytes K t there told e met ok = by now.mailing.sent refl
+    by None is = kept_fed now line selected answers turn t there is e ok
+words_fed now LongLine selected turn bytes t there told e ok = absurd (never turn.bytes (subst (λ (x : Turn). Apart starts_ok x.bytes) (ap (the_turn turn) e) (long_line_apart starts_ok ok_spares now t)) ok)
+words_fed now (Turned answers) selected turn bytes t there told e ok = absurd (never_turn _ turn (idle_fine starts_ok now.selected (is_idling now) now answers) e ok)
+words_fed now (Literal kept literal) selected turn bytes t there told e ok = absurd (never_silent turn.bytes (sym (ap (λ (x : Turn). x.bytes) (ap (the_turn turn) e))) ok)
+words_fed now (Heard verdict answers) selected turn bytes t there told e ok = by now.mailing.sent refl
   where
-    by : (o : Option Sent) → now.mailing.sent ≡ o → IsCurrent v n
+    by : (o : Option Sent) → now.mailing.sent ≡ o → FedLast turn
     by None is = absurd (none-some turn (subst (λ (o : Option Sent). turn_with o now verdict answers ≡ Some turn) is e))
     by (Some sent) is =
         let first : turn_with (Some sent) now verdict answers ≡ Some turn = subst (λ (o : Option Sent). turn_with o now verdict answers ≡ Some turn) is e in
         let second : played sent.tag (without_sent now) (on_verdict now.mailing (Some selected) sent.origin sent.append.mailbox verdict) answers ≡ Some turn =
         subst (λ (o : Option Selected). played sent.tag (without_sent now) (on_verdict now.mailing o sent.origin sent.append.mailbox verdict) answers ≡ Some turn) there first in
-        verdict_current k n sent.origin sent.append.mailbox verdict sent.tag (subst (λ (o : Option Sent). IfSome o (λ (s : Sent). IsWord s.tag)) is t.2) now.mailing selected (without_sent now) w answers turn v K second met ok
+        verdict_fed sent.origin sent.append.mailbox verdict sent.tag (subst (λ (o : Option Sent). IfSome o (λ (s : Sent). IsWord s.tag)) is t.2) now.mailing selected (without_sent now) answers turn second ok
+
+-- so what the session counts is what is there
+words_current : (k : Config) (n : ℕ) (now : Standing) (happening : Happening) (selected : Selected) (w : World) (turn : Turn) (v : World) (bytes : List ℕ) → Kept k w → AreTagsOf IsWord now → now.selected ≡ Some selected
+    → told_of now happening turn.bytes ≡ Words bytes → leads_to now happening ≡ Some turn → Met (Calls k n) w turn.events v → SaysOk turn.bytes → IsCurrent v n
+words_current k n now happening selected w turn v bytes K t there told e met ok =
+    last_current k n w turn.events v (false ≡ true) K (λ h. absurd (false≢true h)) (words_fed now happening selected turn bytes t there told e ok) met
 
 -- ---- in a life
 

@@ -37,23 +37,7 @@ use Rattle.imap_session.specs.declared.texts.ResponseText.TheVariants as texts
 use Rattle.std.specs.Str.{bytes_eq}
 use Rattle.mailbox.specs.declared.clients.Row.{Row}
 use Rattle.exactly_once.specs.Found.{AreSomeOf}
-
--- ---- how an answer ends
-
--- up to the first LF, without that
-abbrev pub before_lf : List ℕ → List ℕ
-before_lf [] = []
-before_lf (b ∷ bytes) = if b == 10 then [] else b ∷ before_lf bytes
-
--- the last line, without the CRLF that ends it: what stands behind the LF before
-abbrev pub last_line : List ℕ → List ℕ
-last_line bytes = reverse (before_lf (drop 2 (reverse bytes)))
-
--- The last line has these words behind this tag, which is one as a client may choose it (RFC
--- 9051, 9). It is the last line alone: a text that a FETCH tells may have any line.
-pub record EndsWith (tag words bytes : List ℕ) : Type 0 where
-  pub chosen : is_word_of is_tag tag ≡ true
-  pub last : last_line bytes ≡ tag ++ codes " " ++ words
+use Rattle.laws_client.specs.Clients.{EndsWith, IsSpelled, last_line}
 
 -- the words behind the tag begin as those that tell the UIDs of messages that were copied, and of their copies
 abbrev pub tells_copy : List ℕ → Bool
@@ -68,18 +52,6 @@ abbrev pub TellsOfNone : List ℕ → Type 0
 TellsOfNone bytes = (tag words : List ℕ) → EndsWith tag words bytes → tells_stored words ≡ false
 
 -- ---- which message it was
-
--- With these bytes, and a CRLF behind them, a client sends this as the line of a command: they are
--- it; or behind the line so far, which announces a literal, comes that, which stands in its
--- place as the quoted string that says the same, and the rest of the line (RFC 9051, 4.3); or behind AUTHENTICATE comes its response (6.2.2).
-pub data IsSpelled : (bytes line : List ℕ) → Type 0 where
-  as_it_stands : (line : List ℕ) → IsSpelled line line
-  with_literal : (bytes line : List ℕ) (found : ℕ × Literal) (text rest : List ℕ) → IsSpelled bytes line → announced line ≡ Some found
-      → length text ≡ found.1.size
-      → IsSpelled (bytes ++ crlf ++ text ++ rest) (take found.0 line ++ quoted text ++ rest)
-  with_response : (bytes line tag : List ℕ) (a : Authenticate) (response : List ℕ) → IsSpelled bytes line
-      → read line ≡ Ok (tag, commands.Authenticate a)
-      → IsSpelled (bytes ++ crlf ++ response) (line ++ codes " " ++ response_in response)
 
 -- A client sent this message so, to a session with these mailboxes (RFC 9051, 6.3.12): an APPEND under its tag, which
 -- names its mailbox, with its flags and the date that it has, or none; its text, as the literal that was

@@ -12,9 +12,8 @@ use Rattle.house.specs.Setup.{Setup, session_seat}
 use Rattle.house.specs.declared.event.Event as house
 use Rattle.house.specs.declared.event.Event.TheVariants.{Hear, Put, Say}
 use Rattle.exactly_once.specs.Promise.{Entry, IsEntry, IsRecord, Piece}
-use Rattle.laws_client.specs.Clients.{IsRight}
+use Rattle.laws_client.specs.Clients.{EndsWith, IsRight}
 use Rattle.laws_client.specs.Client.{Client, Known, knowing}
-use Rattle.laws_client.specs.Appends.{EndsWith}
 use Rattle.laws_client.specs.Clients.{hears_all}
 use Rattle.imap_session.specs.Happenings.{Answer, Told, Words, bytes_in}
 use Rattle.laws_client.specs.Current.{shows_all}

@@ -1,10 +1,17 @@
 -- A client that knows which of its own lines were SELECT, EXAMINE, CLOSE or UNSELECT, and reads whatever it is told.
-use Rattle.std.specs.Prelude.{◌≡◌, ℕ, ◌==◌, ◌&&◌, ◌||◌, Bool, true, false, codes, List, [], ◌∷◌, ◌++◌, Option, Some, None, Result, Ok, Err, if◌then◌else◌}
+use Rattle.std.specs.Prelude.{◌≡◌, ℕ, ◌==◌, ◌&&◌, ◌||◌, Bool, true, false, codes, drop, length, reverse, take, List, [], ◌∷◌, ◌++◌, Option, Some, None, Result, Ok, Err, if◌then◌else◌}
 use Rattle.std.specs.Option.{option_map}
+use Rattle.line_io.specs.Wire.{crlf}
+use Rattle.imap_grammar.specs.Bytes.{is_tag}
+use Rattle.imap_grammar.specs.Items.{is_word_of}
+use Rattle.imap_grammar.specs.Literals.{announced, quoted}
 use Rattle.imap_grammar.specs.Reading.{read}
+use Rattle.imap_grammar.specs.declared.command.Authenticate.{Authenticate}
 use Rattle.imap_grammar.specs.declared.command.Command.{Command}
 use Rattle.imap_grammar.specs.declared.command.Command.TheVariants as commands
 use Rattle.imap_grammar.specs.declared.command.ImapFault.{ImapFault}
+use Rattle.imap_grammar.specs.declared.command.Literal.{Literal}
+use Rattle.imap_session.specs.Commands.{response_in}
 use Rattle.laws_client.specs.Client.{Client, Known, fresh, knowing, reads}
 use Rattle.imap_session.specs.Happenings.{Answer, Told, Words}
 
@@ -61,6 +68,40 @@ hears client (Words bytes) = reads_on bytes client
 abbrev pub hears_all : Option Client → List Told → Option Client
 hears_all client [] = client
 hears_all client (one ∷ more) = hears_all (hears client one) more
+
+-- ---- how an answer ends
+
+-- up to the first LF, without that
+abbrev pub before_lf : List ℕ → List ℕ
+before_lf [] = []
+before_lf (b ∷ bytes) = if b == 10 then [] else b ∷ before_lf bytes
+
+-- the last line, without the CRLF that ends it: what stands behind the LF before
+abbrev pub last_line : List ℕ → List ℕ
+last_line bytes = reverse (before_lf (drop 2 (reverse bytes)))
+
+-- The last line has these words behind this tag, which is one as a client may choose it (RFC 9051, 9). It is the last line alone: a text that a FETCH
+-- tells may have any line.
+pub record EndsWith (tag words bytes : List ℕ) : Type 0 where
+  pub chosen : is_word_of is_tag tag ≡ true
+  pub last : last_line bytes ≡ tag ++ codes " " ++ words
+
+-- The OK of a NOOP, or one that ends what came to no command, so that of a DONE or of a message (RFC 9051, 6.1.2 and 6.3.12; RFC 2177).
+pub data IsOk : Told → Type 0 where
+  of_noop : (line tag bytes : List ℕ) → read line ≡ Ok (tag, commands.Noop) → has_ok true tag bytes ≡ true → IsOk (Answer line bytes)
+  of_other : (tag words bytes : List ℕ) → EndsWith tag (codes "OK " ++ words) bytes → IsOk (Words bytes)
+
+-- ---- what it sent as a command
+
+-- With these bytes, and a CRLF behind them, a client sends this as the line of a command: they are it; or behind the line so far, which announces a
+-- literal, comes that, which stands in its place as the quoted string that says the same, and the rest of the line (RFC 9051, 4.3); or behind
+-- AUTHENTICATE comes its response (6.2.2).
+pub data IsSpelled : (bytes line : List ℕ) → Type 0 where
+  as_it_stands : (line : List ℕ) → IsSpelled line line
+  with_literal : (bytes line : List ℕ) (found : ℕ × Literal) (text rest : List ℕ) → IsSpelled bytes line → announced line ≡ Some found
+      → length text ≡ found.1.size → IsSpelled (bytes ++ crlf ++ text ++ rest) (take found.0 line ++ quoted text ++ rest)
+  with_response : (bytes line tag : List ℕ) (a : Authenticate) (response : List ℕ) → IsSpelled bytes line
+      → read line ≡ Ok (tag, commands.Authenticate a) → IsSpelled (bytes ++ crlf ++ response) (line ++ codes " " ++ response_in response)
 
 -- ---- when it is right
 

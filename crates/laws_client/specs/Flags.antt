@@ -1,11 +1,11 @@
 -- What a client believes of flags, and when it is so.
-use Rattle.std.specs.Prelude.{◌≡◌, ℕ, ◌≤◌, List, length, take, Option, Some, option_map}
+use Rattle.std.specs.Prelude.{◌≡◌, ℕ, ◌≤◌, List, length, map, take, Option, Some, option_map}
 use Rattle.change_ring.specs.declared.change.Change.{Change}
 use Rattle.change_ring.specs.declared.change.Flags.{Flags}
 use Rattle.change_ring.specs.Log.{Row, rows_of, view_at}
 use Rattle.change_ring.specs.Words.{flag_words}
 use Rattle.delivery_core.specs.Clients.{row_with}
-use Rattle.laws_client.specs.Clients.{Each, IsRightBy}
+use Rattle.laws_client.specs.Clients.{Each, IsOf, IsRightBy}
 use Rattle.laws_client.specs.Client.{Client, Known}
 
 -- Where a session is in its mailbox: what the mailbox has logged, and how many of these changes the session was shown.
@@ -16,6 +16,10 @@ pub record Point : Type 0 where
 -- the messages that the session counts
 abbrev pub counted : Point → List ℕ
 counted p = view_at p.log p.cursor
+
+-- it counts all that is in the mailbox
+abbrev pub CountsAll : Point → Type 0
+CountsAll p = counted p ≡ map (λ (row : Row). row.uid) (rows_of p.log)
 
 -- the flags of a message after these changes, where it is there
 abbrev pub flags_at : ℕ → List Change → Option Flags
@@ -53,3 +57,7 @@ BelievesNow log uid message = (names : List (List ℕ)) → message.flags ≡ So
 -- all that it knows of flags is such as the message had at some moment not before the session's cursor, whether its UID is known or not
 abbrev pub IsRightOnFlags : Point → Option Client → Type 0
 IsRightOnFlags p client = IsRightBy (Believes p) (counted p) client
+
+-- so it is, and each UID that it knows is the one at that position
+abbrev pub IsRightAt : Point → Option Client → Type 0
+IsRightAt p client = IsRightBy (λ uid message. IsOf uid message × Believes p uid message) (counted p) client

@@ -1,10 +1,14 @@
 -- The client of a session of a house on one thread: what it sent and was told, by the record of all that happened there, and what it is right about.
-use Rattle.std.specs.Prelude.{◌≡◌, ℕ, List, ◌<◌, ◌≤◌, ◌^◌, ◌≢◌, [], Option, Some, None, ◌∷◌, ◌++◌, ◌+◌, ◌==◌, Contains, true, false, flat_map, IfSome, if◌then◌else◌}
+use Rattle.std.specs.Prelude.{◌≡◌, ℕ, List, ◌<◌, ◌≤◌, ◌^◌, ◌≢◌, [], Option, Some, None, Ok, ◌∷◌, ◌++◌, ◌+◌, ◌==◌, Contains, codes, length, true, false, flat_map, IfSome, if◌then◌else◌}
 use Rattle.delivery_token.specs.declared.Job.{Job}
 use Rattle.envelope.specs.Names.{Home, is_folder}
-use Rattle.line_io.specs.Wire.{joined}
-use Rattle.world.specs.World.{Config, last_uid, Event, Enter, Read, Store, Expunge, Feed, Leave, Session, World, Step, empty_world}
-use Rattle.imap_session.specs.Commands.{greeting}
+use Rattle.imap_grammar.specs.Reading.{read}
+use Rattle.imap_grammar.specs.declared.command.Append.{Append}
+use Rattle.imap_grammar.specs.declared.command.Command.TheVariants as commands
+use Rattle.line_io.specs.Wire.{crlf, joined}
+use Rattle.world.specs.Law.{StandsOnce, pairs}
+use Rattle.world.specs.World.{Config, last_uid, Event, Enter, Read, Store, Expunge, Feed, Leave, IsWorld, Session, World, Step, empty_world}
+use Rattle.imap_session.specs.Commands.{appended_words, greeting, number_named}
 use Rattle.imap_session.specs.Exchange.{Call, Answer as StoreAnswer, Standing, Turn, begun_with}
 use Rattle.imap_session.specs.Folders.{folders_of}
 use Rattle.imap_session.specs.Happenings.{Happening, IsSentFor, Told, VerdictsArePrinted, bytes_in, leads_to, told_of}
@@ -12,12 +16,13 @@ use Rattle.imap_session.specs.Store.{Met}
 use Rattle.house_peers.specs.Visitor.{SeatedVisitor}
 use Rattle.house.specs.Meets.{Meets}
 use Rattle.house.specs.Scene.{Scene, empty_scene, place_of}
-use Rattle.house.specs.Setup.{Setup, admitted_in}
+use Rattle.house.specs.Setup.{Setup, admitted_in, session_seat}
 use Rattle.house.specs.declared.event.Event as house
 use Rattle.house.specs.declared.event.Event.TheVariants as happened
 use Rattle.exactly_once.specs.Promise.{Entry, IsRecord, Lines, Piece}
-use Rattle.laws_client.specs.Clients.{IsRightAbout, hears_all}
-use Rattle.laws_client.specs.Flags.{IsRightOnFlags, Point, counted}
+use Rattle.laws_client.specs.Client.{Client}
+use Rattle.laws_client.specs.Clients.{EndsWith, IsOk, IsSpelled, hears_all}
+use Rattle.laws_client.specs.Flags.{CountsAll, IsRightAt, Point}
 
 -- ---- what is settled at the start
 
@@ -93,6 +98,34 @@ pub data Lives (k : Config) (n : ℕ) (first : Standing) (began : World) : List 
 abbrev pub first_standing : Setup → (user : List ℕ) → Standing
 first_standing k user = begun_with (admitted_in k user) (folders_of k.directory user)
 
+-- ---- what it appended
+
+-- A client sent a message so (RFC 9051, 6.3.12): by this APPEND, under this tag; its text, as the literal that was announced; and the CRLF behind that.
+pub record SendsMessage (sent tag : List ℕ) (append : Append) (text : List ℕ) : Type 0 where
+  pub front : List ℕ
+  pub bytes : List ℕ
+  pub line : List ℕ
+  pub behind : List ℕ
+  pub spelled : IsSpelled bytes line
+  pub reads : read line ≡ Ok (tag, commands.Append append)
+  pub size : length text ≡ append.literal.size
+  pub whole : sent ≡ front ++ (bytes ++ crlf) ++ text ++ crlf ++ behind
+
+module _ (k : Setup) (place : ℕ) (w : World) (seen : Seen) where
+  -- These words tell a client the UID of a message that it sent under this tag (RFC 4315, 3). It stands under that in the mailbox that was named, once,
+  -- with the text, the date and the flags that were sent, as a copy of the session with this serial.
+  pub record TellsOfMessage (serial : ℕ) (tag words : List ℕ) : Type 0 where
+    pub append : Append
+    pub copy : Job
+    pub sends : SendsMessage seen.sent tag append copy.text.bytes
+    pub named : number_named append.name (folders_of k.directory seen.user) ≡ Some copy.mailbox
+    pub as_sent : (copy.text.date ≡ append.date) × (copy.flags ≡ append.flags)
+    pub own : (copy.key.seat ≡ session_seat k place) × (copy.key.serial ≡ serial)
+    pub uid : ℕ
+    pub told : words ≡ appended_words k.config.uidvalidity uid
+    pub stands : Contains (w.box copy.mailbox).accepted (copy, uid)
+    pub once : StandsOnce (pairs (w.box copy.mailbox).accepted) copy.key uid
+
 -- ---- what it is right about
 
 -- where a session is in the mailbox that it has selected; nowhere in an empty one, where it has selected none
@@ -113,8 +146,10 @@ module _ (k : Setup) (place : ℕ) where
     -- this is all that it sent, but what waits, and all that was printed to it, but what is still to be printed
     pub sent : seen.sent ≡ answered ++ v.session.waits
     pub shown : seen.shown ++ v.session.unsaid ≡ greeting (first_standing k seen.user).profile ++ flat_map bytes_in told
-    pub list : IsRightAbout (counted (point_of w place)) (hears_all None told)
-    pub flags : IsRightOnFlags (point_of w place) (hears_all None told)
+    pub list : IsRightAt (point_of w place) (hears_all None told)
+    -- what ends in `OK [APPENDUID ` tells of a message that it appended
+    pub messages : (before after : List Told) (one : Told) (tag rest : List ℕ) → told ≡ before ++ one ∷ after
+        → EndsWith tag (codes "OK [APPENDUID " ++ rest) (bytes_in one) → TellsOfMessage k place w seen v.serial tag (codes "OK [APPENDUID " ++ rest)
 
 -- nobody was let in yet
 abbrev pub unseen : Seen
@@ -125,6 +160,14 @@ abbrev pub ClientsAreRight : Type 0
 ClientsAreRight = (k : Setup) (entries : List Entry) (t : Scene) (place : ℕ) (v : SeatedVisitor) → IsPrintable k
     → IsRecord k entries (empty_scene k) t → t.visitor place ≡ Some v → v.gone ≡ false
     → IsToldRight k place v t.world (seen_by_then place (empty_scene k) entries unseen)
+
+-- Where a client knows that it is in a mailbox, and its session says the OK of a NOOP or DONE, the session counts all that is in the mailbox then.
+abbrev pub OksCountAll : Type 0
+OksCountAll = (k : Setup) (place : ℕ) (user : List ℕ) (events : List Event) (began : World) (sent : List ℕ) (told : List Told) (now : Standing)
+    (w : World) (client : Client) (happening : Happening) (turn : Turn) (v : World) → IsPrintable k → IsWorld k.config events began
+    → Lives k.config place (first_standing k user) began sent told now w → hears_all None told ≡ Some client → leads_to now happening ≡ Some turn
+    → Met (λ (w : World) (call : Call) (answer : StoreAnswer) (v : World). Meets k.config place w call answer v) w turn.events v
+    → IsOk (told_of now happening turn.bytes) → CountsAll (point_of v place)
 
 -- A UID never names another message: the copy under it in a mailbox's history stands there at each later moment, and no other does.
 abbrev pub UidsNameOneCopy : Type 0

@@ -23,10 +23,10 @@ use Rattle.session_thread.specs.ByHistory.{ByHistory, WasShown}
 use Rattle.session_thread.specs.Locks.{HasItsText, LockedStore}
 use Rattle.laws_client.specs.Clients.{IsRight}
 use Rattle.laws_client.specs.Client.{Client, Known, knowing}
-use Rattle.laws_client.specs.Clients.{IsRightAbout, has_ok, hears, hears_all}
+use Rattle.laws_client.specs.Clients.{IsOk, IsRightAbout, has_ok, hears, hears_all}
 use Rattle.laws_client.specs.Current.{shows_all}
 use Rattle.laws_client.specs.RecordTurns.{Stands}
-use Rattle.laws_client.specs.Flags.{IsRightOnFlags, Point, counted}
+use Rattle.laws_client.specs.Flags.{CountsAll, IsRightAt, Point}
 use Rattle.laws_client.specs.HouseClients.{AreFolders}
 use Rattle.envelope.specs.Names.{Directory}
 use Rattle.imap_session.specs.Folders.{folders_of}
@@ -46,13 +46,26 @@ place_of selection = place_in selection.history selection.entered
 
 -- ---- a visit
 
--- At each moment of a visit its client is right about what its session counts, by the history as far as the session has seen it, and about flags. The
--- session began in no mailbox.
+-- This was told in a visit. Its session began in no mailbox, with the folders that a directory has for its user.
+pub record IsVisit (told : List Told) (visit : Visit) : Type 0 where
+  pub directory : Directory
+  pub folders : AreFolders directory.homes
+  pub user : List ℕ
+  pub admission : Admission
+  pub store : LockedStore
+  pub outside : store.entered ≡ None
+  pub taken : Option (List ℕ)
+  pub heard : List ℕ
+  pub lived : HasLived ByHistory (record { first = begun_with admission (folders_of directory user); store = store; taken = taken }) heard told visit
+
+-- At each moment of a visit its client is right about what its session counts, by the history as far as the session has seen it, and about flags.
 abbrev pub VisitorsAreRight : Type 0
-VisitorsAreRight = (directory : Directory) (user : List ℕ) (admission : Admission) (store : LockedStore) (taken : Option (List ℕ))
-    (heard : List ℕ) (told : List Told) (visit : Visit) → AreFolders directory.homes → store.entered ≡ None
-    → HasLived ByHistory (record { first = begun_with admission (folders_of directory user); store = store; taken = taken }) heard told visit
-    → IsRightAbout (counted (place_of visit.selection)) (hears_all None told) × IsRightOnFlags (place_of visit.selection) (hears_all None told)
+VisitorsAreRight = (told : List Told) (visit : Visit) → IsVisit told visit → IsRightAt (place_of visit.selection) (hears_all None told)
+
+-- Where it knew that it is in a mailbox, and its session said the OK of a NOOP or DONE last, the session counts all that is there then.
+abbrev pub VisitorsCountAll : Type 0
+VisitorsCountAll = (told : List Told) (one : Told) (client : Client) (visit : Visit) → IsVisit (told ++ one ∷ []) visit
+    → hears_all None told ≡ Some client → IsOk one → CountsAll (place_of visit.selection)
 
 -- ---- what it counts
 

@@ -4,7 +4,7 @@
 ghost use Rattle.laws_client.specs.FlagLaws.{AnswerTellsFlags, ChangeIsHeard, FetchIsHeard, FlagsAreByUid, FlagsAreCurrent, FlagsOutlast, IdleTellsFlags, LinesTellFlags, RowTellsFlags, StoreIsHeard, StoreTellsFlags, VerdictTellsFlags};
 ghost use Rattle.laws_client.specs.FlagLife.{OneLifeKnowsFlags};
 ghost use Rattle.laws_client.specs.FlagRecords.{ClientsKnowFlags, ClientsOfHousesKnowFlags, ClientsOfScriptsKnowFlags};
-ghost use Rattle.laws_client.specs.HouseClients.{ClientsAreRight};
+ghost use Rattle.laws_client.specs.HouseClients.{ClientsAreRight, OksCountAll};
 ghost use Rattle.laws_client.specs.Worlds.{CallsTellFlags, DoneTellsFlags, LivesTellFlags, NoopTellsFlags, NothingPendingTellsFlags, OthersLeaveFlags, TurnsTellFlags};
 
 /// Flags that a message had at some moment not before the cursor are such whatever is logged later, and where nothing is
@@ -96,9 +96,14 @@ pub fn clients_know_flags()
 /// What a client of a house on one thread may conclude of its list, in the fewest words (`IsToldRight`): by the record of all that happened there, whatever
 /// others did, and wherever memory was refused. Of what it sent each line was answered, and it was told the greeting and these answers. Where it knows by them
 /// that it is in a mailbox, its list is what its session counts, UID by UID, and the flags that it knows the message had at some moment which isn't before the
-/// session's cursor (RFC 9051, 2.3.1.2, 7.4.1, 7.5.1 and 7.5.2).
+/// session's cursor (RFC 9051, 2.3.1.2, 7.4.1, 7.5.1 and 7.5.2). Where an answer ends in `OK [APPENDUID `, behind a tag, it has sent an APPEND under that tag, and the
+/// message stands under the UID that is told there (6.3.12; RFC 4315, 3). Behind the OK of a NOOP or DONE the session counts all that is there (6.1.2; RFC 2177).
 pub fn clients_are_right()
-    ensures { ClientsAreRight }
+    // Of each session that is there, by all that its client sent and was told.
+    ensures right { ClientsAreRight }
+
+    // Behind the OK of a NOOP, or one that ends what came to no command, a session counts all that is in its mailbox at that moment.
+    ensures counts { OksCountAll }
 {}
 
 /// So it is of all that the lines of a script did.

@@ -5,7 +5,7 @@
 ghost use Rattle.laws_client.specs.ServedFlags.{ServedFlagsAreCurrent, ServedFlagsAreFound, ServedFlagsHaveMoments, ServedLivesTellFlags, ServedTurnTellsFlags};
 ghost use Rattle.laws_client.specs.ServedStays.{ServedSessionsStay};
 ghost use Rattle.laws_client.specs.ServedVisits.{AttendedClientsLive, CallsGoOn, VisitorsKeepUp, VisitorsStand, VisitsAreByHistory, VisitsBegin, VisitsGoOn};
-ghost use Rattle.laws_client.specs.Served.{CursorsStaySmall, FeedsReachTheEnd, ServedCommandsMakeCurrent, ServedCommandsReachTheEnd, ServedDoneReachesTheEnd, ServedListsAreCurrent, ServedLivesAreKnown, ServedTextsStay, ServedTurnIsKnown, VisitorsAreRight};
+ghost use Rattle.laws_client.specs.Served.{CursorsStaySmall, FeedsReachTheEnd, ServedCommandsMakeCurrent, ServedCommandsReachTheEnd, ServedDoneReachesTheEnd, ServedListsAreCurrent, ServedLivesAreKnown, ServedTextsStay, ServedTurnIsKnown, VisitorsAreRight, VisitorsCountAll};
 
 /// Between a SELECT and what ends it such a session stays in that mailbox, with the handle that it was given there: of that only the cursor's
 /// number moves on, by as many changes as were shown.
@@ -91,6 +91,9 @@ pub fn served_visits_are_lives()
 pub fn served_visitors_keep_up()
     // At each moment of it, whoever knows which of its lines were SELECT, EXAMINE, CLOSE or UNSELECT is right.
     ensures right { VisitorsAreRight }
+
+    // Behind the OK of a NOOP, or one that ends what came to no command, as that of a DONE, its session counts all that is in its mailbox.
+    ensures counts { VisitorsCountAll }
 
     // So it is wherever the session began, with tags that are tags and with names of mailboxes that stand in lines. Those of a house do where nothing is
     // wrong with the settings.

@@ -7,7 +7,7 @@ use Rattle.std.specs.Fmt.{digits}
 use Rattle.std.proofs.Common.{refl, inl, sym}
 use Rattle.imap_session.specs.Commands.{appended_words, copied_words, with_copy}
 use Rattle.imap_session.specs.Telling.{tells_uid}
-use Rattle.laws_client.specs.Appends.{EndsWith, copy_under, IsSentAs, IsSpelled, as_it_stands, last_line, with_literal, with_response, IsCopyOf, SaysMoved, SaysVerdict, awaits_next}
+use Rattle.laws_client.specs.Appends.{copy_under, IsSentAs, IsCopyOf, SaysMoved, SaysVerdict, awaits_next}
 use Rattle.imap_session.specs.Happenings.{Answer, Words}
 use Rattle.laws_client.specs.Cuts.{amid, between, cut_between, cuts, is_ended}
 use Rattle.imap_grammar.specs.declared.set.SeqNumber.TheVariants.{Number}
@@ -21,6 +21,7 @@ use Rattle.delivery_token.specs.declared.CopyKey.{CopyKey}
 use Rattle.delivery_token.specs.Text.{undated}
 use Rattle.delivery_token.specs.declared.Refusal.TheVariants.{Full}
 use Rattle.std.proofs.lemmas.Bool.{false≢true}
+use Rattle.laws_client.specs.Clients.{EndsWith, IsSpelled, as_it_stands, last_line, with_literal, with_response}
 
 -- ---- the last line
 
