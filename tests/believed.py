@@ -28,7 +28,7 @@ ROOTS = ["exactly_once::exactly_once_delivery", "script::run_script.once"]
 
 # README's two sentences, of a house on one thread: what a relay may conclude, and what a client may.
 TO_A_RELAY = ["laws_relay::relays_may_conclude_over_any.concluded"]
-TO_A_CLIENT = ["laws_client::clients_are_right", "laws_client::uids_stay.named"]
+TO_A_CLIENT = ["laws_client::clients_are_right.right+counts", "laws_client::uids_stay.named"]
 
 # The parts of the page, each with how the heads of its sections begin and the functions whose clauses cite it. Where
 # clauses are named behind a function (`crate::function.clause+clause`), what it ensures besides is no part of the promise.
@@ -44,7 +44,7 @@ PARTS = [
             "laws_relay::servers_conclude",
             "session_thread::shown_since_select.by_history",
             "imap_stream::attend.lived",
-            "laws_client::served_visitors_keep_up.right",
+            "laws_client::served_visitors_keep_up.right+counts",
             "laws_client::served_texts_stay",
             "serving::serve_house.kept",
         ],
@@ -55,9 +55,6 @@ PARTS = [
         "Besides",
         [
             "laws_client::clients_keep_up.ended",
-            "laws_client::lists_are_current.entries+verdicts",
-            "laws_client::appends_are_told.kept+were_kept",
-            "laws_client::served_lists_are_current.all+done+list",
             "laws_relay::served_relays_conclude",
             "laws_relay::lines_conclude",
             "laws_relay::client_slots_conclude",
@@ -91,6 +88,17 @@ WITHIN_ITS_MODULE = {("crates/shard_queue/specs/Closing.antt", "HasAllEnds"), ("
 
 # A definition of README's sentences has no more arguments than this, beside those of its section.
 MOST_ARGUMENTS = 4
+
+# What a law of a crate pins by a relation, whatever is given: it is the one function of which the law's clauses are so. Whoever believes the relation needn't read how
+# it is computed, so of these their head counts, and what the law cites.
+PINNED = {
+    ("crates/line_io/specs/Wire.antt", "wire_lines"): "line_io::each_stream_is_cut_in_one_way",
+    ("crates/line_io/specs/Wire.antt", "wire_rest"): "line_io::each_stream_is_cut_in_one_way",
+    ("crates/envelope/specs/Reading.antt", "read"): "envelope::commands_are_read_by_the_grammar",
+    ("crates/imap_grammar/specs/Reading.antt", "read"): "imap_grammar::lines_are_read_by_the_grammar.found+only",
+    ("crates/imap_grammar/specs/Reading.antt", "is_done"): "imap_grammar::lines_are_read_by_the_grammar.done",
+    ("crates/imap_grammar/specs/Literals.antt", "announced"): "imap_grammar::literals_are_announced",
+}
 
 # Words of a notation, which are no definitions.
 NOTATION = {"infixr", "infixl", "use"}
@@ -165,9 +173,10 @@ class Source:
 
 
 class Closure:
-    """The definitions that were reached, file by file."""
+    """The definitions that were reached, file by file. Where `by_laws` is said, those that a law pins are passed over, and the law is read in their place."""
 
-    def __init__(self):
+    def __init__(self, by_laws=False):
+        self.by_laws = by_laws
         self.sources = {}
         self.reached = {}
         self.types = set()
@@ -204,7 +213,13 @@ class Closure:
             names = self.reached.setdefault(source.path, set())
             if name not in names:
                 names.add(name)
-                self.open.append((source, source.text[name]))
+                law = self.by_laws and PINNED.get((source.path, name))
+                if law:
+                    # The head is all but the equations.
+                    source.lines[name] -= source.text[name].count("\n")
+                    self.clauses_of(law)
+                else:
+                    self.open.append((source, source.text[name]))
         elif name in source.imported:
             self.reach(*source.imported[name])
 
@@ -329,8 +344,8 @@ def with_these(contract, names):
 
 
 def closure_of(roots):
-    """The definitions that the clauses of these functions cite."""
-    closure = Closure()
+    """The definitions that the clauses of these functions rest on."""
+    closure = Closure(by_laws=True)
     for root in roots:
         closure.clauses_of(root)
     closure.follow()

@@ -12,7 +12,7 @@ use Rattle.lmtp_machine.specs.declared.reply.Reply.{Reply}
 use Rattle.serving_workers.specs.Leaving.{AreWritten, HaveConversed, all_written, next, none, passed, AreRead, Spoken, Told, WereOver}
 use Rattle.laws_relay.specs.Concludes.{Concludes, of_history}
 use Rattle.laws_relay.specs.Handed.{handed_over}
-use Rattle.laws_relay.specs.Served.{AreReplies, nothing_said, replied, ConnectionConcludes, LineConcludes, LinesConclude, ServersConclude, WorkerConcludes, bytes_on, replies_on}
+use Rattle.laws_relay.specs.Served.{AreReplies, nothing_said, replied, ConnectionConcludes, LineConcludes, LinesConclude, ServersConclude, WorkerConcludes, talk_on}
 use Rattle.laws_relay.proofs.ServedWorkers.{earlier, is_this}
 
 abbrev quiet : Spoken
@@ -85,33 +85,33 @@ spoken_count (next {n} {spoken} bytes replies more at dropped written failed bef
     length-append spoken (record { read = bytes ++ dropped; written = written; failed = failed } ∷ []) ∙ ap (λ k. k + 1) (spoken_count before)
 
 each_spoken : {house : Premises} {seat connections : ℕ} {spoken : List Spoken} {judged : List Judged} (conversed : HaveConversed house seat connections spoken judged) (serial : ℕ) → serial < connections
-    → WasSpoken house seat serial (bytes_on conversed serial) (replies_on conversed serial) (slice_index_or spoken serial quiet)
+    → WasSpoken house seat serial (talk_on conversed serial).0 (talk_on conversed serial).1 (slice_index_or spoken serial quiet)
 each_spoken none serial under = absurd (omega (arith, under))
 each_spoken {house} {seat} (passed {n} {spoken} before) serial under = by (λ u. each_spoken before serial u) (serial == n) refl
   where
-    by : (serial < n → WasSpoken house seat serial (bytes_on before serial) (replies_on before serial) (slice_index_or spoken serial quiet)) → (b : Bool) → (serial == n) ≡ b
-        → WasSpoken house seat serial (if b then [] else bytes_on before serial) (if b then [] else replies_on before serial) (slice_index_or (spoken ++ quiet ∷ []) serial quiet)
+    by : (serial < n → WasSpoken house seat serial (talk_on before serial).0 (talk_on before serial).1 (slice_index_or spoken serial quiet)) → (b : Bool) → (serial == n) ≡ b
+        → WasSpoken house seat serial (if b then ([], []) else talk_on before serial).0 (if b then ([], []) else talk_on before serial).1 (slice_index_or (spoken ++ quiet ∷ []) serial quiet)
     by others true this =
         subst (WasSpoken house seat serial [] []) (sym (at_last spoken quiet serial quiet (is_this serial n this ∙ sym (spoken_count before))))
         (record { dropped = []; phase = Start; read = refl; are = nothing_said; written = all_written; silent = λ none. (refl, refl) })
     by others false other =
         let u = earlier serial n under other in
-        subst (WasSpoken house seat serial (bytes_on before serial) (replies_on before serial))
+        subst (WasSpoken house seat serial (talk_on before serial).0 (talk_on before serial).1)
         (sym (at_front spoken (quiet ∷ []) serial quiet (let e = spoken_count before in omega (arith, u, e)))) (others u)
 each_spoken {house} {seat} (next {n} {spoken} bytes replies more at dropped written failed before taken are) serial under = by (λ u. each_spoken before serial u) (serial == n) refl
   where
     one : Spoken
     one = record { read = bytes ++ dropped; written = written; failed = failed }
 
-    by : (serial < n → WasSpoken house seat serial (bytes_on before serial) (replies_on before serial) (slice_index_or spoken serial quiet)) → (b : Bool) → (serial == n) ≡ b
-        → WasSpoken house seat serial (if b then bytes else bytes_on before serial) (if b then replies else replies_on before serial) (slice_index_or (spoken ++ one ∷ []) serial quiet)
+    by : (serial < n → WasSpoken house seat serial (talk_on before serial).0 (talk_on before serial).1 (slice_index_or spoken serial quiet)) → (b : Bool) → (serial == n) ≡ b
+        → WasSpoken house seat serial (if b then (bytes, replies) else talk_on before serial).0 (if b then (bytes, replies) else talk_on before serial).1 (slice_index_or (spoken ++ one ∷ []) serial quiet)
     by others true this =
         let here : AreReplies house seat serial bytes replies at.standing.phase = subst (λ (k : ℕ). AreReplies house seat k bytes replies at.standing.phase) (sym (is_this serial n this)) (replied more at taken) in
         subst (WasSpoken house seat serial bytes replies) (sym (at_last spoken one serial quiet (is_this serial n this ∙ sym (spoken_count before))))
         (record { dropped = dropped; phase = at.standing.phase; read = refl; are = here; written = are; silent = λ none. absurd (let some = is_greeted taken in let e = ap length none in omega (arith, some, e)) })
     by others false other =
         let u = earlier serial n under other in
-        subst (WasSpoken house seat serial (bytes_on before serial) (replies_on before serial))
+        subst (WasSpoken house seat serial (talk_on before serial).0 (talk_on before serial).1)
         (sym (at_front spoken (one ∷ []) serial quiet (let e = spoken_count before in omega (arith, u, e)))) (others u)
 
 -- ---- the line
@@ -121,11 +121,11 @@ one_concludes : {house : Premises} {seat connections : ℕ} {spoken : List Spoke
     → ConnectionConcludes house seat serial history came (slice_index_or spoken serial quiet).written (slice_index_or spoken serial quiet).failed
 one_concludes {house} {seat} history conversed worker serial under came read =
     let was = each_spoken conversed serial under in
-    let bytes = bytes_on conversed serial in
-    let all = wire house.host (replies_on conversed serial) in
+    let bytes = (talk_on conversed serial).0 in
+    let all = wire house.host (talk_on conversed serial).1 in
     let is : bytes ++ (was.dropped ++ read.0) ≡ came = sym (append_assoc bytes was.dropped read.0) ∙ (ap (λ (l : List ℕ). l ++ read.0) (sym was.read) ∙ read.1) in record {
       taken = bytes;
-      replies = replies_on conversed serial;
+      replies = (talk_on conversed serial).1;
       phase = was.phase;
       read = (was.dropped ++ read.0, is);
       are = was.are;

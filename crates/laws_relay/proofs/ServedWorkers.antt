@@ -21,7 +21,7 @@ use Rattle.running_house.specs.Laws.{TalkIsOfLines}
 use Rattle.serving_workers.specs.Leaving.{HaveConversed, next, none, passed, Spoken}
 use Rattle.laws_relay.specs.Concludes.{Concludes, of_history}
 use Rattle.laws_relay.specs.Handed.{Between, IsInLine, handed, handed_over}
-use Rattle.laws_relay.specs.Served.{ClientSlotsConclude, ConnectionStands, ServedRelaysConclude, ServersConclude, WorkersConclude, bytes_on, replies_on}
+use Rattle.laws_relay.specs.Served.{ClientSlotsConclude, ConnectionStands, ServedRelaysConclude, ServersConclude, WorkersConclude, talk_on}
 use Rattle.laws_relay.proofs.FateLaws.{taken_there}
 use Rattle.laws_relay.proofs.Positions.{none_at}
 use Rattle.laws_relay.proofs.ToldCopies.{all_left, all_right, taken_copy, told_of}
@@ -107,18 +107,18 @@ abbrev IsTalkOrNone : Premises → (seat serial : ℕ) → List ℕ → List Rep
 IsTalkOrNone house seat serial bytes said judged = HasTalked house seat serial bytes said judged ⊎ ((said ≡ []) × (judged ≡ []))
 
 each_talk : {house : Premises} {seat connections : ℕ} {spoken : List Spoken} {judged : List Judged} (conversed : HaveConversed house seat connections spoken judged) (serial : ℕ) → serial < connections
-    → IsTalkOrNone house seat serial (bytes_on conversed serial) (replies_on conversed serial) (judged_on conversed serial)
+    → IsTalkOrNone house seat serial (talk_on conversed serial).0 (talk_on conversed serial).1 (judged_on conversed serial)
 each_talk none serial under = absurd (omega (arith, under))
 each_talk {house} {seat} (passed {n} before) serial under = by (λ u. each_talk before serial u) (serial == n) refl
   where
-    by : (serial < n → IsTalkOrNone house seat serial (bytes_on before serial) (replies_on before serial) (judged_on before serial)) → (b : Bool) → (serial == n) ≡ b
-        → IsTalkOrNone house seat serial (if b then [] else bytes_on before serial) (if b then [] else replies_on before serial) (if b then [] else judged_on before serial)
+    by : (serial < n → IsTalkOrNone house seat serial (talk_on before serial).0 (talk_on before serial).1 (judged_on before serial)) → (b : Bool) → (serial == n) ≡ b
+        → IsTalkOrNone house seat serial (if b then ([], []) else talk_on before serial).0 (if b then ([], []) else talk_on before serial).1 (if b then [] else judged_on before serial)
     by others true this = inr (refl, refl)
     by others false other = others (earlier serial n under other)
 each_talk {house} {seat} (next {n} bytes replies more at dropped written failed before taken are) serial under = by (λ u. each_talk before serial u) (serial == n) refl
   where
-    by : (serial < n → IsTalkOrNone house seat serial (bytes_on before serial) (replies_on before serial) (judged_on before serial)) → (b : Bool) → (serial == n) ≡ b
-        → IsTalkOrNone house seat serial (if b then bytes else bytes_on before serial) (if b then replies else replies_on before serial) (if b then more else judged_on before serial)
+    by : (serial < n → IsTalkOrNone house seat serial (talk_on before serial).0 (talk_on before serial).1 (judged_on before serial)) → (b : Bool) → (serial == n) ≡ b
+        → IsTalkOrNone house seat serial (if b then (bytes, replies) else talk_on before serial).0 (if b then (bytes, replies) else talk_on before serial).1 (if b then more else judged_on before serial)
     by others true this = inl (subst (λ (s : ℕ). HasTalked house seat s bytes replies more) (sym (is_this serial n this)) (record { at = at; talk = taken }))
     by others false other = others (earlier serial n under other)
 
@@ -166,7 +166,7 @@ one_concludes served house seat serial bytes said judged history in_line legal s
 pub workers_conclude : ServedRelaysConclude → TalkIsOfLines → WorkersConclude
 workers_conclude served lines house seat connections spoken judged history in_line legal conversed stand = record {
   each = λ serial under more front untold e.
-      one_concludes served house seat serial (bytes_on conversed serial) (replies_on conversed serial) (judged_on conversed serial) history in_line legal
+      one_concludes served house seat serial (talk_on conversed serial).0 (talk_on conversed serial).1 (judged_on conversed serial) history in_line legal
       (record {
         stood = all_on (λ (one : Job × Verdict). (uid : ℕ) → one.1 ≡ Stored uid → WasJudged history one.0 (Stored uid)) conversed serial stand.stood;
         all = λ copy verdict own of_serial judged. told_on lines conversed serial copy verdict of_serial (stand.all copy verdict own judged);

@@ -45,24 +45,18 @@ ServedRelaysConclude =
 -- ---- all connections of a worker
 
 -- the bytes that came on the connection with this serial number, and the replies that were said; none where nothing was said
-abbrev pub bytes_on : {house : Premises} {seat connections : ℕ} {spoken : List Spoken} {judged : List Judged}
-    → HaveConversed house seat connections spoken judged → ℕ → List ℕ
-bytes_on none serial = []
-bytes_on (passed {n} before) serial = if serial == n then [] else bytes_on before serial
-bytes_on (next {n} bytes replies more at dropped written failed before taken are) serial = if serial == n then bytes else bytes_on before serial
-
-abbrev pub replies_on : {house : Premises} {seat connections : ℕ} {spoken : List Spoken} {judged : List Judged}
-    → HaveConversed house seat connections spoken judged → ℕ → List Reply
-replies_on none serial = []
-replies_on (passed {n} before) serial = if serial == n then [] else replies_on before serial
-replies_on (next {n} bytes replies more at dropped written failed before taken are) serial = if serial == n then replies else replies_on before serial
+abbrev pub talk_on : {house : Premises} {seat connections : ℕ} {spoken : List Spoken} {judged : List Judged}
+    → HaveConversed house seat connections spoken judged → ℕ → List ℕ × List Reply
+talk_on none serial = ([], [])
+talk_on (passed {n} before) serial = if serial == n then ([], []) else talk_on before serial
+talk_on (next {n} bytes replies more at dropped written failed before taken are) serial = if serial == n then (bytes, replies) else talk_on before serial
 
 pub record WorkerConcludes (house : Premises) (seat : ℕ) (history : List Event) {connections : ℕ} {spoken : List Spoken} {judged : List Judged}
     (conversed : HaveConversed house seat connections spoken judged) : Type 0 where
   -- Of each connection: a relay that sent what came there, and perhaps more behind it, was told any front of the replies.
-  pub each : (serial : ℕ) → serial < connections → (more front untold : List ℕ) → front ++ untold ≡ wire house.host (replies_on conversed serial)
-      → Concludes house.directory (of_history history) seat serial (handed_over (bytes_on conversed serial ++ more) front)
-      (handed_over (bytes_on conversed serial ++ more) (wire house.host (replies_on conversed serial)))
+  pub each : (serial : ℕ) → serial < connections → (more front untold : List ℕ) → front ++ untold ≡ wire house.host (talk_on conversed serial).1
+      → Concludes house.directory (of_history history) seat serial (handed_over ((talk_on conversed serial).0 ++ more) front)
+      (handed_over ((talk_on conversed serial).0 ++ more) (wire house.host (talk_on conversed serial).1))
   -- whatever stands of this worker is of one of these connections
   pub nothing_else : (copy : Job) (uid : ℕ) → Stands history copy uid → copy.key.seat ≡ seat → copy.key.serial < connections
 
