@@ -46,6 +46,7 @@ PARTS = [
             "imap_stream::attend.lived",
             "laws_client::served_visitors_keep_up.right+counts",
             "laws_client::served_texts_stay",
+            "laws_relay::client_slots_conclude",
             "serving::serve_house.kept",
         ],
     ),
@@ -54,15 +55,13 @@ PARTS = [
     (
         "Besides",
         [
-            "laws_client::clients_keep_up.ended",
-            "laws_relay::served_relays_conclude",
             "laws_relay::lines_conclude",
-            "laws_relay::client_slots_conclude",
         ],
     ),
     (
         "While a server runs",
         [
+            "laws_relay::served_relays_conclude",
             "lane_work::books_stand.stand",
             "lane_work::converse.played+backed",
             "laws_client::served_visits_are_lives",

@@ -21,7 +21,8 @@ use Rattle.house_peers.specs.Visitor.{more_waits, GoesOn, SeatedVisitor, Works, 
 use Rattle.house_peers.specs.Visitor as seated
 use Rattle.house_peers.proofs.Rising.{idles_keep}
 use Rattle.house.specs.Setup.{Setup, admitted_in, session_seat}
-use Rattle.house.specs.Printing.{still_unsaid, with_session}
+use Rattle.house.specs.Printing.{with_session}
+use Rattle.house.specs.inner.Printing.{still_unsaid}
 use Rattle.house.specs.Scene as scene
 use Rattle.house.specs.Scene.{BytesPlay, HearPlay, IdlePlay, Lingers, Parts, Plays, PutPlay, Scene, SessionGoes, SessionPuts, SessionTalks, connection_hears, connection_puts, empty_scene, fades, goes_on, opens, parts, place_of, remains, seat_of, session_hears, session_puts, waits}
 use Rattle.house.specs.declared.event.Event as house

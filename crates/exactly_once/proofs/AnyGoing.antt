@@ -6,7 +6,7 @@ use Rattle.std.proofs.lemmas.List.{map-append}
 use Rattle.std.proofs.lemmas.Grind.{flat_map-append}
 use Rattle.std.proofs.lemmas.List.Elements.{All-contains}
 use Rattle.std.specs.Borrow.{Bor}
-use Rattle.line_io.specs.Wire.{IsCut, joined}
+use Rattle.line_io.specs.Wire.{IsCut, joined, marked}
 use Rattle.shard_queue.specs.Lane.{set_at}
 use Rattle.shard_queue.proofs.AtLaws.{at_cases, at_each, set_at-same}
 use Rattle.delivery_token.specs.Keys.{Below}
@@ -22,7 +22,7 @@ use Rattle.house_peers.specs.AnyCaller.{Caller, more_waits, greeted}
 use Rattle.house.specs.Setup.{AreGuests, AreLines, Peers, Reached, Setup, session_seat, terms_of}
 use Rattle.house.specs.declared.event.Event.{Event}
 use Rattle.house.specs.declared.event.Event.TheVariants.{Bytes, Vanish, Put, Take, Deliver, Answer, Hear, End, Close, Enter, Say, Idle, Leave}
-use Rattle.house.specs.AnyScene.{Prints, prints_all, prints_none, marked_session, of_session, with_session, BytesPlay, ClosePlay, ConnectionHears, ConnectionPuts, EnterPlay, HearPlay, Happened, IdlePlay, LeavePlay, LeavesMailbox, Lingers, Moves, Parts, Plays, PutPlay, SayPlay, Scene, SessionGoes, SessionHears, SessionPuts, SessionTalks, VanishPlay, comes_in, connection_hears, connection_puts, empty_scene, fades, goes_on, opens, parts, place_of, remains, seat_of, session_hears, session_puts, waits}
+use Rattle.house.specs.AnyScene.{Prints, prints_all, prints_none, of_session, with_session, BytesPlay, ClosePlay, ConnectionHears, ConnectionPuts, EnterPlay, HearPlay, Happened, IdlePlay, LeavePlay, LeavesMailbox, Lingers, Moves, Parts, Plays, PutPlay, SayPlay, Scene, SessionGoes, SessionHears, SessionPuts, SessionTalks, VanishPlay, comes_in, connection_hears, connection_puts, empty_scene, fades, goes_on, opens, parts, place_of, remains, seat_of, session_hears, session_puts, waits}
 use Rattle.house_peers.specs.AnyVisitor.{SeatedVisitor, seated_greeted, session_more_waits as visitor_more_waits}
 use Rattle.house.specs.AnyScene as scene
 use Rattle.exactly_once.specs.AnyPromise.{HearsItsOwn, HearsLines, PutsLines, serial_of, Said, Piece, Replies, Lines, Silence, text_of, IsOwn, Entry, IsRecord, told_in, verdicts_of, TellsOnce, NoneTwice, ExactlyOnce}
@@ -209,7 +209,7 @@ module _ (peers : Peers) (speaks : IsSpeech peers.speech) (visits : AreGuests pe
   wrote_of k n bytes still printed w (prints_none l p) = nothing p
   wrote_of k n bytes still printed w (prints_all l p) =
       let cut = cut_of bytes w in
-      wrote cut.0 cut.1 (p ∙ ap (λ (x : List ℕ). marked_session n x) (cut.1.whole ∙ append-nil (joined cut.0)))
+      wrote cut.0 cut.1 (p ∙ ap (λ (x : List ℕ). marked of_session n x) (cut.1.whole ∙ append-nil (joined cut.0)))
 
   -- what it has still to print
   unsaid_whole : (n : ℕ) (bytes still printed : List ℕ) → AreLines bytes → Prints of_session n bytes still printed → AreLines still

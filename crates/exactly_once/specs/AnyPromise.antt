@@ -3,13 +3,13 @@ use Rattle.std.specs.Prelude.{◌≡◌, ◌≢◌, ℕ, ◌+◌, ◌<◌, ◌==
 use Rattle.delivery_token.specs.Keys.{Below}
 use Rattle.delivery_token.specs.declared.Verdict.TheVariants.{Stored}
 use Rattle.delivery_token.specs.declared.log.Noted.{Noted}
-use Rattle.line_io.specs.Wire.{IsCut, joined}
+use Rattle.line_io.specs.Wire.{IsCut, joined, marked}
 use Rattle.world.specs.World.{World, Event, IsWorld}
 use Rattle.world.specs.Law.{Headline, StandsOnce, pairs}
 use Rattle.house_peers.specs.Speech.{wire}
 use Rattle.house_peers.specs.AnyCaller.{Caller}
 use Rattle.house.specs.Setup.{Peers, Setup, session_seat}
-use Rattle.house.specs.AnyScene.{marked_connection, marked_session, EnterPlay, IdlePlay, Plays, SayPlay, Scene, SessionHears, SessionPuts, SessionTalks, comes_in, empty_scene, place_of, seat_of}
+use Rattle.house.specs.AnyScene.{of_connection, of_session, EnterPlay, IdlePlay, Plays, SayPlay, Scene, SessionHears, SessionPuts, SessionTalks, comes_in, empty_scene, place_of, seat_of}
 use Rattle.house.specs.declared.event.Event as house
 use Rattle.house.specs.declared.event.Event.TheVariants.{Bytes, Put, Hear, Enter, Say, Idle}
 
@@ -36,8 +36,8 @@ module _ (peers : Peers) where
     Silence : Piece
 
   abbrev pub text_of : Setup → Piece → List ℕ
-  text_of k (Replies seat said) = marked_connection (seat + 1) (wire peers.speech k.host (map reply_of said))
-  text_of k (Lines session lines) = marked_session session (joined lines)
+  text_of k (Replies seat said) = marked of_connection (seat + 1) (wire peers.speech k.host (map reply_of said))
+  text_of k (Lines session lines) = marked of_session session (joined lines)
   text_of k Silence = []
 
   -- the serial of the connection that stands at a seat, or of the one that is opened there next

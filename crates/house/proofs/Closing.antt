@@ -1,6 +1,6 @@
 -- Closing a shard: the mark changes, and who stands at a seat stands there as before; and in a settling each seat ends on each shard that is shut.
 use Rattle.std.proofs.Common.{◌≡◌, ℕ, ◌+◌, ◌<◌, ◌≤◌, Bool, true, false, List, [], ◌∷◌, ◌++◌, length, refl, ap, sym, ◌∙◌, subst, arith, append-nil, length-set, zero-add, Option, Some, None, Result, get_or, set}
-use Rattle.std.specs.Prelude.{All, ◌||◌, cond, filter}
+use Rattle.std.specs.Prelude.{All, ◌||◌, cond, filter, slice_set}
 use Rattle.std.specs.List.{range_with_len}
 use Rattle.std.proofs.lemmas.List.FromFn.{map-range_with_len_more}
 use Rattle.std.proofs.lemmas.List.Elements.{All-nil, filter-append}
@@ -18,7 +18,7 @@ use Rattle.house_peers.specs.Caller.{Caller}
 use Rattle.house_peers.specs.HouseConnection.{HouseConnection}
 use Rattle.house_peers.proofs.Connections.{stands_marked}
 use Rattle.house.specs.Setup.{Setup, terms_of}
-use Rattle.house.specs.Scene.{ClosePlay, HasNothing, Scene, with_shut}
+use Rattle.house.specs.Scene.{ClosePlay, HasNothing, Scene}
 use Rattle.house.specs.Stands.{StandsFor, StandsForOne}
 use Rattle.house.specs.House.{House}
 
@@ -35,7 +35,7 @@ pub close_led : (k : Setup) (h : House) (s : Scene) (shard : ℕ) (old : List �
     × StandsFor k (record { core = h.core; callers = h.callers; serials = h.serials; visitors = h.visitors; entered = h.entered; directory = marked (set h.directory.shut shard true) h.directory; host = h.host; max_message = h.max_message; compatible = h.compatible }) t
     × (old ≡ old ++ printed)
 close_led k h s shard old st there unshut = (
-  with_shut s shard,
+  record s { shut = slice_set s.shut shard true },
   [],
   record { there = let e = ap (λ (d : Directory). d.shards) st.directory ∙ st.shards in omega (arith, there, e); was_open = sym (ap (λ (d : Directory). is_shut d shard) st.directory) ∙ unshut; after = refl; silent = refl },
   record {

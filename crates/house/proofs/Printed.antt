@@ -16,7 +16,8 @@ use Rattle.house_peers.specs.HouseSession.{with_all_said as with_all_said_at}
 use Rattle.house_peers.specs.SeatedSession.{Proceeded as SessionProceeded, SeatedSession, SeatedTurned, StandsForSeated, with_place}
 use Rattle.house_peers.specs.Visitor as seated
 use Rattle.house_peers.specs.Visitor.{SeatedVisitor}
-use Rattle.house.specs.Printing.{goes, of_connection, of_session, prints_all, prints_none, stays, still_unsaid, with_session}
+use Rattle.house.specs.Printing.{goes, of_connection, of_session, prints_all, prints_none, stays, with_session}
+use Rattle.house.specs.inner.Printing.{still_unsaid}
 use Rattle.house.specs.inner.Printing.{Idled, WentOn}
 use Rattle.house.specs.inner.Steps.{ConnectionWent}
 

@@ -5,7 +5,7 @@ use Rattle.delivery_token.specs.declared.log.Noted.{Noted}
 use Rattle.shard_queue.specs.Lane.{set_at}
 use Rattle.world.specs.World.{World, Step}
 use Rattle.house_peers.specs.AnyCaller.{Caller, greeted, more_waits, unread, Proceeds, Terms, with_unsaid}
-use Rattle.house_peers.specs.AnyVisitor.{Visitor, Awaits, IsSettled, SeatedVisitor, seated_greeted, session_more_waits, unread as unread_session, GoesOn}
+use Rattle.house_peers.specs.AnyVisitor.{Visitor, Awaits, IsSettled, SeatedVisitor, seated_greeted, unread as unread_session, GoesOn}
 use Rattle.house.specs.Setup.{Peers, Setup, session_seat, terms_of}
 use Rattle.imap_session.specs.Folders.{has_user}
 use Rattle.house.specs.declared.event.Event.{Event}
@@ -24,13 +24,6 @@ of_connection = 76
 
 abbrev pub of_session : ℕ
 of_session = 73
-
--- each line that connection n says, and each that session n says, with its mark
-abbrev pub marked_connection : ℕ → List ℕ → List ℕ
-marked_connection n said = marked of_connection n said
-
-abbrev pub marked_session : ℕ → List ℕ → List ℕ
-marked_session n said = marked of_session n said
 
 module _ (mark n : ℕ) where
   -- What was to be printed is printed, all of it or nothing; what is still to be printed then is nothing, or all of it.
@@ -62,10 +55,6 @@ module _ (guest : Guest) where
   abbrev pub with_session : Visitor guest → SeatedVisitor guest → SeatedVisitor guest
   with_session session v = record v { session = session }
 
-  -- so much of what it said is still to be printed
-  abbrev pub still_unsaid : List ℕ → SeatedVisitor guest → SeatedVisitor guest
-  still_unsaid unsaid v = with_session (record v.session { unsaid = unsaid }) v
-
   module _ {S : Type 0} (step : S → guest.Call → guest.Answer → S → Type 0) (whole : Bool) (seat n : ℕ) (heard : List Noted)
       (before : SeatedVisitor guest) where
     -- The session at a seat, whose client is there, went on over a store as far as it could, by what its seat has heard, and this was printed.
@@ -75,7 +64,7 @@ module _ (guest : Guest) where
       pub goes : GoesOn guest step whole seat heard before old new spoken said
       pub still : List ℕ
       pub prints : Prints of_session n (before.session.unsaid ++ said) still printed
-      pub is : after ≡ still_unsaid still spoken
+      pub is : after ≡ with_session (record spoken.session { unsaid = still }) spoken
 
   module _ {S : Type 0} (step : S → guest.Call → guest.Answer → S → Type 0) (n : ℕ) (before : Visitor guest) (old : S) where
     -- its session had a turn while it idles, which showed so many changes, and this was printed
@@ -139,10 +128,6 @@ module _ (peers : Peers) where
   -- whether a shard is shut; one that isn't there is not
   abbrev pub is_shut_in : Scene → ℕ → Bool
   is_shut_in s shard = slice_index_or s.shut shard false
-
-  -- this shard is shut now
-  abbrev pub with_shut : Scene → ℕ → Scene
-  with_shut s shard = record s { shut = slice_set s.shut shard true }
 
   -- ---- connections
 
@@ -262,7 +247,7 @@ module _ (peers : Peers) where
       pub moved : World
       pub left : Option (SeatedVisitor peers.guest)
       pub goes : SessionTalks k whole place (s.world.heard (session_seat k place)) s.world
-          (with_session peers.guest (session_more_waits peers.guest visitor.session piece) visitor) moved left printed
+          (with_session peers.guest (record visitor.session { waits = visitor.session.waits ++ piece }) visitor) moved left printed
       pub after : t ≡ with_visitor (with_world s moved) place left
 
     -- A session that idles is shown what is pending. Where nothing is, there is no such play.
@@ -337,8 +322,8 @@ module _ (peers : Peers) where
     -- A shard that was not is shut now. What waits in its lane is still delivered, and its seats end one by one.
     pub record ClosePlay (shard : ℕ) (t : Scene) (printed : List ℕ) : Type 0 where
       pub there : shard < k.config.shards
-      pub was_open : is_shut_in s shard ≡ false
-      pub after : t ≡ with_shut s shard
+      pub was_open : slice_index_or s.shut shard false ≡ false
+      pub after : t ≡ record s { shut = slice_set s.shut shard true }
       pub silent : printed ≡ []
 
   module _ (k : Setup) (whole : Bool) (s : Scene) where

@@ -8,7 +8,7 @@ use Rattle.house_peers.specs.Visitor.{Visitor, SeatedVisitor}
 use Rattle.house.specs.AnyScene as any
 use Rattle.house_peers.specs.Lmtp.{lmtp}
 use Rattle.house_peers.specs.Imap.{imap}
-pub use Rattle.house.specs.AnyScene.{of_connection, of_session, marked_connection, marked_session, Prints, prints_all, prints_none, goes, stays}
+pub use Rattle.house.specs.AnyScene.{of_connection, of_session, Prints, prints_all, prints_none, goes, stays}
 
 abbrev pub Leaves : (whole : Bool) (what : What) (after : Caller) (o : Option Caller) → Type 0
 Leaves = any.Leaves lmtp
@@ -29,6 +29,3 @@ IsWhole = any.IsWhole imap
 
 abbrev pub with_session : Visitor → SeatedVisitor → SeatedVisitor
 with_session = any.with_session imap
-
-abbrev pub still_unsaid : List ℕ → SeatedVisitor → SeatedVisitor
-still_unsaid = any.still_unsaid imap

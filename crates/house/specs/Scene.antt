@@ -29,9 +29,6 @@ with_visitor = any.with_visitor lmtp_and_imap
 abbrev pub is_shut_in : Scene → ℕ → Bool
 is_shut_in = any.is_shut_in lmtp_and_imap
 
-abbrev pub with_shut : Scene → ℕ → Scene
-with_shut = any.with_shut lmtp_and_imap
-
 abbrev pub LeavesMailbox : Setup → (place : ℕ) → World → World → Type 0
 LeavesMailbox = any.LeavesMailbox lmtp_and_imap
 

@@ -170,7 +170,7 @@ pub record EndsSo (how : Parting) (last visit : Visit) : Type 0 where
   pub closed : visit.closed ≡ true
   pub link : visit.link ≡ last.link
   pub quiet : (how ≢ Stopped) ⊎ (is_over last ≡ true) → IsQuiet last visit
-  pub takes_none : how ≡ Over → takes_bytes last ≡ false
+  pub takes_none : how ≡ Over → may_follow (if last.closed then Bye else may_send last.link.session) ≡ false
   pub told : how ≡ Stopped → is_over last ≡ false
       → (Appends last.taken visit.taken farewell × (visit.failed ≡ false)) ⊎ SendsFirst last farewell visit
 

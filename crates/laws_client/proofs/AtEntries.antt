@@ -18,7 +18,8 @@ use Rattle.imap_session.specs.Exchange.{Answer as StoreAnswer, Standing, Turn, t
 use Rattle.house.specs.Meets.{Meets}
 use Rattle.house_peers.specs.Visitor.{Visitor, more_waits as session_more_waits, SeatedVisitor}
 use Rattle.house.specs.Setup.{Setup, session_seat}
-use Rattle.house.specs.Printing.{still_unsaid, with_session}
+use Rattle.house.specs.Printing.{with_session}
+use Rattle.house.specs.inner.Printing.{still_unsaid}
 use Rattle.house.specs.Scene.{HearPlay, Parts, PutPlay, SayPlay, Scene, SessionGoes, SessionHears, SessionPuts, SessionTalks, connection_hears, connection_puts, empty_scene, lingers, parts, place_of, remains, seat_of, session_hears, session_puts, talks, with_visitor, with_world}
 use Rattle.house.specs.declared.event.Event as house
 use Rattle.house.specs.declared.event.Event.TheVariants.{Hear, Put, Say}

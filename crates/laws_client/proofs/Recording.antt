@@ -2,7 +2,7 @@
 use Rattle.std.proofs.Common.{◌≡◌, ◌≢◌, ℕ, ◌+◌, inl, inr, Bool, true, false, List, [], ◌∷◌, ◌++◌, length, map, refl, sym, subst, ap, ap₂, ◌∙◌, arith, append-nil, append_assoc}
 use Rattle.std.specs.Prelude.{IfSome, Option, Some, None, codes, decimal, flat_map}
 use Rattle.std.proofs.lemmas.Bool.{false≢true}
-use Rattle.line_io.specs.Wire.{IsCut, joined, wire_lines}
+use Rattle.line_io.specs.Wire.{IsCut, joined, marked, wire_lines}
 use Rattle.line_io.specs.inner.WireLaws.{lines_are}
 use Rattle.delivery_token.specs.declared.CopyKey.{CopyKey}
 use Rattle.delivery_token.specs.declared.Job.{Job}
@@ -20,7 +20,8 @@ use Rattle.house.specs.Meets.{Meets}
 use Rattle.house_peers.specs.Visitor.{Visitor, GoesOn, SeatedVisitor, answers, rests, sent_by, stalls, works}
 use Rattle.house_peers.specs.Visitor as seated
 use Rattle.house.specs.Setup.{Setup, session_seat}
-use Rattle.house.specs.Printing.{Prints, Speaks, marked_session, of_session, prints_all, prints_none, still_unsaid}
+use Rattle.house.specs.Printing.{Prints, Speaks, of_session, prints_all, prints_none}
+use Rattle.house.specs.inner.Printing.{still_unsaid}
 use Rattle.house.specs.Scene.{LeavesMailbox, Lingers, Parts, SessionTalks, parts, remains, waits, fades}
 use Rattle.house.proofs.Carried.{speaks_carried}
 use Rattle.exactly_once.specs.Promise.{Lines, text_of}
@@ -101,7 +102,7 @@ walk_parts k whole q w u after v o walk (remains not e f) = rw e walk
 -- ---- what is printed
 
 -- what is printed of a session's whole lines, and what is still to be printed of them
-no_lines : (n : ℕ) (bytes : List ℕ) (lines : List (List ℕ)) → IsCut bytes lines [] → marked_session n bytes ≡ [] → bytes ≡ []
+no_lines : (n : ℕ) (bytes : List ℕ) (lines : List (List ℕ)) → IsCut bytes lines [] → marked of_session n bytes ≡ [] → bytes ≡ []
 no_lines n bytes lines cut silent = by lines cut.whole (lines_are bytes lines [] cut).0
   where
     by : (ls : List (List ℕ)) → bytes ≡ joined ls ++ [] → wire_lines bytes ≡ ls → bytes ≡ []
@@ -113,7 +114,7 @@ pub fits_lines : (k : Setup) (n : ℕ) (bytes still : List ℕ) (lines : List (L
 fits_lines k n bytes still lines cut (prints_all none p) = ap (λ (x : List ℕ). joined lines ++ x) none ∙ sym cut.whole
 fits_lines k n bytes still lines cut (prints_none all silent) =
     let whole : bytes ≡ joined lines = cut.whole ∙ append-nil (joined lines) in
-    let empty : bytes ≡ [] = no_lines n bytes lines cut (ap (marked_session n) whole ∙ silent) in
+    let empty : bytes ≡ [] = no_lines n bytes lines cut (ap (marked of_session n) whole ∙ silent) in
     ap₂ (λ (x y : List ℕ). x ++ y) (sym whole ∙ empty) all
 
 -- a piece without any

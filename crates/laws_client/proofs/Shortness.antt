@@ -30,7 +30,8 @@ use Rattle.imap_session.specs.Folders.{folders_of, admission_of}
 use Rattle.house_peers.specs.Visitor as seated
 use Rattle.house_peers.specs.Visitor.{GoesOn, SeatedVisitor, seated_greeted}
 use Rattle.house.specs.Setup.{Setup, session_seat, terms_of, admitted_in}
-use Rattle.house.specs.Printing.{ConnectionGoes, Leaves, goes, stays, still_unsaid, with_session}
+use Rattle.house.specs.Printing.{ConnectionGoes, Leaves, goes, stays, with_session}
+use Rattle.house.specs.inner.Printing.{still_unsaid}
 use Rattle.house.specs.Scene as scene
 use Rattle.house.specs.Scene.{BytesPlay, EnterPlay, HearPlay, IdlePlay, LeavePlay, Lingers, Parts, Plays, PutPlay, SayPlay, Scene, SessionGoes, SessionTalks, VanishPlay, connection_hears, connection_puts, empty_scene, opens, goes_on as scene_goes_on, parts, place_of, remains, seat_of, session_hears, session_puts, waits, fades}
 use Rattle.house.specs.declared.event.Event as house

@@ -11,7 +11,8 @@ use Rattle.lmtp_machine.specs.declared.connection.What.TheVariants.{More, Submit
 use Rattle.lmtp_machine.specs.declared.reply.Reply.{Reply}
 use Rattle.lmtp_machine.specs.Dialogue.{wire}
 use Rattle.house_peers.specs.Caller.{GoesOn, Caller, Proceeds, Terms, Works, answers, fades, lingers, stalls, talks, waits, with_unsaid, works}
-use Rattle.house.specs.Printing.{ConnectionGoes, Leaves, Prints, goes, marked_connection, of_connection, prints_all, prints_none, stays}
+use Rattle.line_io.specs.Wire.{marked}
+use Rattle.house.specs.Printing.{ConnectionGoes, Leaves, Prints, goes, of_connection, prints_all, prints_none, stays}
 use Rattle.house.proofs.Callers.{does_serial}
 use Rattle.laws_relay.specs.Handed.{IsInLine}
 use Rattle.laws_relay.proofs.Marked.{prints_nothing, prints_tell}
@@ -74,7 +75,7 @@ all_known g seat heard sent came told more b still there e h same = record {
 
 printed_known : (g : Terms) (seat : ℕ) (heard : List Noted) (sent : ℕ → List (Entry Job)) (came told : List ℕ) (b : Caller) (still printed : List ℕ) (replies : List Reply)
     → IsInLine g.host
-    → IsKnown g seat heard sent came told b → Prints of_connection (seat + 1) b.talk.unsaid still printed → printed ≡ marked_connection (seat + 1) (wire g.host replies)
+    → IsKnown g seat heard sent came told b → Prints of_connection (seat + 1) b.talk.unsaid still printed → printed ≡ marked of_connection (seat + 1) (wire g.host replies)
     → IsKnown g seat heard sent came (told ++ wire g.host replies) (with_unsaid still b)
 printed_known g seat heard sent came told b still printed replies in_line h (prints_none l p) e =
     same_known g seat heard sent came told (wire g.host replies) b still l (prints_nothing g.host of_connection (seat + 1) replies in_line (sym e ∙ p)) h
@@ -83,11 +84,11 @@ printed_known g seat heard sent came told b still printed replies in_line h (pri
     by : (gone : Bool) → b.gone ≡ gone → IsKnown g seat heard sent came (told ++ wire g.host replies) (with_unsaid still b)
     by true there =
         let silent : b.talk.unsaid ≡ [] = h.silent there in
-        let none : printed ≡ [] = p ∙ ap (λ (l : List ℕ). marked_connection (seat + 1) l) silent in
+        let none : printed ≡ [] = p ∙ ap (λ (l : List ℕ). marked of_connection (seat + 1) l) silent in
         same_known g seat heard sent came told (wire g.host replies) b still (l ∙ sym silent) (prints_nothing g.host of_connection (seat + 1) replies in_line (sym e ∙ none)) h
     by false there =
         all_known g seat heard sent came told (wire g.host replies) b still there l h
-        (prints_tell g.host of_connection (seat + 1) h.unprinted replies in_line (ap (λ (l : List ℕ). marked_connection (seat + 1) l) (sym (h.says there)) ∙ sym p ∙ e))
+        (prints_tell g.host of_connection (seat + 1) h.unprinted replies in_line (ap (λ (l : List ℕ). marked of_connection (seat + 1) l) (sym (h.says there)) ∙ sym p ∙ e))
 
 -- ---- what it went on to
 
@@ -145,7 +146,7 @@ proceeds_quits k whole seat heard b what after q there (fades vs gone silent ans
 
 pub goes_on_known : (g : Terms) (shut : List Bool) (whole : Bool) (seat : ℕ) (heard : List Noted) (sent : ℕ → List (Entry Job)) (came told : List ℕ) (b : Caller)
     (o : Option Caller) (printed : List ℕ) (replies : List Reply)
-    → IsInLine g.host → IsKnown g seat heard sent came told b → ConnectionGoes (with_marks shut g) whole seat heard b o printed → printed ≡ marked_connection (seat + 1) (wire g.host replies)
+    → IsInLine g.host → IsKnown g seat heard sent came told b → ConnectionGoes (with_marks shut g) whole seat heard b o printed → printed ≡ marked of_connection (seat + 1) (wire g.host replies)
     → WentOn g seat heard sent (record { came = came; told = told ++ wire g.host replies; gone = b.gone }) b.serial o
 goes_on_known g shut whole seat heard sent came told b o printed replies in_line h c e = record {
   last = with_unsaid c.still c.after;

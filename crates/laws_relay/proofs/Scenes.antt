@@ -11,7 +11,8 @@ use Rattle.world.specs.World.{World}
 use Rattle.lmtp_machine.specs.declared.reply.Reply.{Reply}
 use Rattle.lmtp_machine.specs.Dialogue.{wire}
 use Rattle.house_peers.specs.Caller.{Caller, Terms}
-use Rattle.house.specs.Printing.{marked_connection}
+use Rattle.line_io.specs.Wire.{marked}
+use Rattle.house.specs.Printing.{of_connection}
 use Rattle.house.specs.Scene.{seat_of}
 use Rattle.house.specs.Setup.{Setup, session_seat}
 use Rattle.house.specs.declared.event.Event.{Event}
@@ -115,7 +116,7 @@ module _ (sessions : Sessions) where
   -- what the connection at a seat says in a piece
   pub record Says (k : Setup) (s : Scene) (at : ℕ) (piece : Piece) : Type 0 where
     pub replies : List Reply
-    pub text : text_of k piece ≡ marked_connection (at + 1) (wire k.host replies)
+    pub text : text_of k piece ≡ marked of_connection (at + 1) (wire k.host replies)
     pub told : (seat n : ℕ) → told_in sessions k seat n s piece ≡ where_meant (is_meant sessions seat n s at) (wire k.host replies)
 
   pub says_nothing : (k : Setup) (s : Scene) (at : ℕ) → Says k s at Silence

@@ -13,7 +13,7 @@ use Rattle.mailbox.specs.declared.clients.Opening.{Opening}
 use Rattle.imap_session.specs.Exchange.{Call, Answer, Enter, Look, Read, Count, Alter, Expunge, Feed, Leave, Discard, Entered, Looked, Found, Counted, Altered, Expunged, Fed, Left, Discarded, Refused, Event}
 use Rattle.imap_session.specs.Store.{Met}
 use Rattle.session_thread.specs.declared.locked_store.Entry.{Entry}
-use Rattle.session_thread.specs.Locks.{HasItsText, HasOpening, HasRow, HasStatus, Holds, In, LockedStore, says}
+use Rattle.session_thread.specs.Locks.{HasItsText, HasStatus, Holds, In, LockedStore, says}
 use Rattle.mailbox.specs.Mailbox.{next_of}
 use Rattle.house_history.specs.declared.event.Event as house
 use Rattle.house_history.specs.declared.event.Step.TheVariants as steps
@@ -109,14 +109,14 @@ module _ (old new : LockedStore) where
     pub cursor : here.handle.at ≡ here.start
     pub logs : Logs m []
     pub opens : Opens new.history here opening
-    pub fits : HasOpening opening
+    pub fits : (opening.uidnext < 2 ^ 32) × (opening.uidvalidity < 2 ^ 32)
 
 -- A message that was read has the UID that was asked for, the text that was stored under it, and its flags as the history leaves them.
 pub record IsRead (history : List house.Event) (m uid : ℕ) (row : Option read.Row) : Type 0 where
   pub uid_of : IfSome row (λ found. found.uid ≡ uid)
   pub text : HasItsText history m row
   pub flags : option_map (λ (found : read.Row). found.flags) row ≡ flags_in uid (changes_in m history)
-  pub fits : HasRow row
+  pub fits : IfSome row (λ found. length found.text.bytes < 2 ^ 64)
 
 -- One call of a session, with its answer. A call that is refused leaves all as it was.
 abbrev pub ByHistory : LockedStore → Call → Answer → LockedStore → Type 0

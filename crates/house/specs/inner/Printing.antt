@@ -10,6 +10,10 @@ use Rattle.house.specs.Printing.{Speaks, Idles, IsWhole, with_session}
 
 -- ---- sessions
 
+-- so much of what it said is still to be printed
+abbrev pub still_unsaid : List ℕ → SeatedVisitor → SeatedVisitor
+still_unsaid unsaid v = with_session (record v.session { unsaid = unsaid }) v
+
 -- From this session, whose client is there, its seat went on over a store and printed this, and stands for the session after it.
 pub record WentOn {S : Type 0} (step : S → Call → Answer → S → Type 0) (whole : Bool) (seat n : ℕ) (next : CopyKey) (heard : List Noted)
     (before : SeatedVisitor) (old new : S) (text text_after : List ℕ) (p : SeatedSession) : Type 0 where
