@@ -9,7 +9,7 @@ use Rattle.lmtp_machine.specs.declared.connection.What.{What}
 use Rattle.lmtp_machine.specs.Dialogue.{Submission}
 use Rattle.envelope.specs.Names.{marked}
 use Rattle.house_peers.specs.Speech.{Answered, Opened, AreNumbered, AreQuiet, IsSpeech, wire}
-use Rattle.line_io.specs.Wire.{marked}
+use Rattle.line_io.specs.Wire.{marked as with_mark}
 use Rattle.house.specs.Setup.{Peers, Setup, terms_of}
 use Rattle.house_peers.specs.AnyCaller.{Caller, Terms, GoesOn, Proceeds, IsAnswered, Works, with_unsaid, works, waits, answers, stalls, talks, lingers, fades, greeted, keys_of, meets, setting_of, unread}
 use Rattle.house.specs.AnyScene.{ConnectionGoes, Leaves, Prints, goes, of_connection as mark_of_connection, prints_all, prints_none, stays}
@@ -153,7 +153,7 @@ module _ (peers : Peers) (speaks : IsSpeech peers.speech) where
   -- what the connection at a seat printed, and who stands there then
   pub record Spoke (k : Setup) (seat serial : ℕ) (heard : List Noted) (next : ℕ) (told : List Noted) (o : Option (Caller peers.speech)) (printed : List ℕ) : Type 0 where
     pub said : List (Said peers)
-    pub is : printed ≡ marked mark_of_connection (seat + 1) (bytes_of k said)
+    pub is : printed ≡ with_mark mark_of_connection (seat + 1) (bytes_of k said)
     pub own : AreOf serial said
     pub left : ConnectionOk k seat heard next (told ++ verdicts said) o
 
@@ -192,7 +192,7 @@ module _ (peers : Peers) (speaks : IsSpeech peers.speech) where
       → ConnectionOk k seat heard next told (Some after) → Prints mark_of_connection (seat + 1) after.talk.unsaid still printed → Leaves peers.speech whole what (with_unsaid peers.speech still after) o → Spoke k seat after.serial heard next told o printed
   prints_spoke k whole seat heard next told what after still o printed t (prints_all e p) l = record {
     said = t.said;
-    is = p ∙ ap (λ (x : List ℕ). marked mark_of_connection (seat + 1) x) t.is;
+    is = p ∙ ap (λ (x : List ℕ). with_mark mark_of_connection (seat + 1) x) t.is;
     own = t.own;
     left = left_ok k whole seat heard next (told ++ verdicts t.said) what (with_unsaid peers.speech still after) o
         (subst (λ (x : List ℕ). IsTalking k seat after.serial heard next (told ++ verdicts t.said) after.talk.at x after.talk.pending) (sym e)
@@ -288,7 +288,7 @@ module _ (peers : Peers) (speaks : IsSpeech peers.speech) where
   unread_same k whole seat heard b what after (fades vs gone none is q e) = e
 
   prints_nothing : (n : ℕ) (unsaid still printed : List ℕ) → unsaid ≡ [] → Prints mark_of_connection n unsaid still printed → (still ≡ []) × (printed ≡ [])
-  prints_nothing n unsaid still printed none (prints_all e p) = (e, p ∙ ap (λ (x : List ℕ). marked mark_of_connection n x) none)
+  prints_nothing n unsaid still printed none (prints_all e p) = (e, p ∙ ap (λ (x : List ℕ). with_mark mark_of_connection n x) none)
   prints_nothing n unsaid still printed none (prints_none e p) = (e ∙ none, p)
 
   pub unread_silent : (k : Setup) (shut : List Bool) (whole : Bool) (seat : ℕ) (heard : List Noted) (next : ℕ) (told : List Noted) (b : Caller peers.speech) (o : Option (Caller peers.speech)) (printed : List ℕ)
