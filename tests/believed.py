@@ -80,7 +80,7 @@ SENTENCES = ["The headline", "To a relay", "To a client"]
 OF_A_PROGRAM = {"post_house::command"}
 
 # What the tables of worked examples begin with stands with the other words of its file.
-WITH_ITS_FILE = {("crates/laws_client/specs/Client.antt", "fresh")}
+WITH_ITS_FILE = set()
 
 # What bodies alone say stands within a module that has parameters, beside the public words that share these.
 WITHIN_ITS_MODULE = {("crates/shard_queue/specs/Closing.antt", "HasAllEnds"), ("crates/lane_work/specs/Streaming.antt", "SaysLast")}

@@ -11,9 +11,10 @@ use Rattle.imap_session.specs.Texts.{response_text}
 use Rattle.imap_session.specs.Exchange.{Answer, Standing, Turn, played, tagged}
 use Rattle.imap_session.specs.Commands.{completed, logged_in, logs_in_as, on_command, on_line, says, wants_response}
 use Rattle.imap_session.proofs.Barring.{line_has, refuses}
-use Rattle.laws_client.specs.Clients.{Asked, Entering, Leaving, Neither, asked_by, has_ok}
+use Rattle.laws_client.specs.Clients.{Asked, Entering, Leaving, Neither, has_ok}
 use Rattle.laws_client.specs.Current.{shows_all}
 use Rattle.laws_client.specs.ListTurns.{IsTag}
+use Rattle.laws_client.proofs.Reading.{asked_by}
 use Rattle.laws_client.proofs.RecordEntering.{only_done, tagged_has}
 
 -- the turn of a line that is a command: it logs the client in, or the command is refused, or carried out

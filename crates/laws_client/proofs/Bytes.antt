@@ -7,8 +7,11 @@ use Rattle.std.proofs.lemmas.Fmt.{decimal_by_steps_wide}
 use Rattle.std.proofs.lemmas.Grind.{reverse_onto}
 use Rattle.std.proofs.lemmas.List.{reverse-reverse, append-nil}
 use Rattle.std.proofs.lemmas.List.Folds.{list_all-append}
-use Rattle.laws_client.specs.Client.{Client, Messages, knowing, within, reads, on_byte, in_line, line_ends, literal_of, told, words, words_from, into_first, is_digit, value, number}
+use Rattle.imap_grammar.specs.Bytes.{is_digit}
+use Rattle.laws_client.specs.Client.{Client, Messages, knowing, reads, on_byte, line_ends, literal_of, number}
 use Rattle.laws_client.specs.ListTurns.{is_inner}
+use Rattle.laws_client.specs.ListLaws.{within}
+use Rattle.laws_client.proofs.Reading.{in_line, told, words, words_from, into_first, value}
 
 pub reads-append : (c : Client) (xs ys : List ℕ) → reads c (xs ++ ys) ≡ reads (reads c xs) ys
 reads-append c [] ys = refl
@@ -127,8 +130,7 @@ pub decimal_word : (n : ℕ) → n < 2 ^ 64 → list_all is_word (decimal n) ≡
 decimal_word n h = (is_number n (wide n h)).word
 
 number_of : (n : ℕ) (ds : List ℕ) → IsNumber n ds → number ds ≡ Some n
-number_of n [] d = absurd (omega (arith, d.some))
-number_of n (b ∷ bs) d = rw d.digits (ap (λ (m : ℕ). Some m) d.says)
+number_of n ds d = rw (d.digits, ne_eqb (length ds) 0 (λ e. omega (arith, e, d.some))) (ap (λ (m : ℕ). Some m) d.says)
 
 pub decimal_says : (n : ℕ) → n < 2 ^ 64 → number (decimal n) ≡ Some n
 decimal_says n h = number_of n (decimal n) (is_number n (wide n h))

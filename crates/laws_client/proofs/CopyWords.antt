@@ -6,8 +6,9 @@ use Rattle.imap_answers.specs.Answers.{uid_set}
 use Rattle.imap_session.specs.Exchange.{Batch, untagged}
 use Rattle.imap_session.specs.Commands.{copied_words, moved_words}
 use Rattle.laws_client.specs.Beliefs.{TellsNothing}
-use Rattle.laws_client.specs.Client.{Messages, into_first, knowing, reads, status, words_from}
+use Rattle.laws_client.specs.Client.{Messages, knowing, reads}
 use Rattle.laws_client.specs.ListTurns.{IsPlain, is_inner}
+use Rattle.laws_client.proofs.Reading.{into_first, status, words_from}
 use Rattle.laws_client.proofs.Decimals.{decimal_inner}
 use Rattle.laws_client.proofs.UidSets.{set_all}
 use Rattle.laws_client.proofs.Untold.{inner_both, line_tells_nothing}

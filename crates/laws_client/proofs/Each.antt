@@ -6,8 +6,9 @@ use Rattle.std.proofs.lemmas.Bool.{false≢true, eqb-true, le-leb}
 use Rattle.change_ring.specs.Log.{without}
 use Rattle.change_ring.specs.View.{position}
 use Rattle.cursor_set.proofs.Positions.{position_pos}
-use Rattle.laws_client.specs.Client.{Known, unknown, more, exists, expunged, fetched, put_first}
+use Rattle.laws_client.specs.Client.{Known, unknown, exists}
 use Rattle.laws_client.specs.Clients.{Each, IsRightBy}
+use Rattle.laws_client.proofs.Reading.{more, expunged, fetched, put_first}
 
 pub each_length : (P : ℕ → Known → Type 0) (view : List ℕ) (ms : List Known) → Each P view ms → length ms ≡ length view
 each_length P [] [] h = refl

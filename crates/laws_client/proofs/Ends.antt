@@ -6,10 +6,11 @@ use Rattle.std.proofs.lemmas.List.Folds.{list_all-append}
 use Rattle.mailbox.specs.declared.clients.MailFault.TheVariants.{Stranger, Lapped, Spent, NoMemory}
 use Rattle.imap_session.specs.declared.standing.Profile.TheVariants.{Standard, Compatible}
 use Rattle.imap_session.specs.Exchange.{bye, tagged}
-use Rattle.laws_client.specs.Client.{Messages, knowing, reads, literal_of, told}
+use Rattle.laws_client.specs.Client.{Messages, knowing, reads, literal_of}
 use Rattle.laws_client.specs.Beliefs.{Leaves, TellsNothing}
 use Rattle.laws_client.specs.ListTurns.{is_inner, IsPlain, IsTag}
 use Rattle.laws_client.specs.ListLaws.{ByeTellsNothing, GreetingTellsNothing, RefusalTellsNothing, TaggedTellsNothing}
+use Rattle.laws_client.proofs.Reading.{told}
 use Rattle.laws_client.proofs.Bytes.{whole_line}
 use Rattle.laws_client.proofs.LinesRead.{not_a_count}
 use Rattle.laws_client.proofs.Literals.{reads_other}

@@ -10,10 +10,11 @@ use Rattle.delivery_token.specs.Text.{undated}
 use Rattle.imap_answers.specs.Answers.{answered, fetch_answer, flags_last, is_flags, is_uid, item_text, row_answer, uid_first, flags_answer}
 use Rattle.imap_grammar.specs.declared.items.FetchItem.{FetchItem}
 use Rattle.imap_grammar.specs.declared.items.FetchItem.TheVariants as fetch
-use Rattle.laws_client.specs.Client.{Messages, knowing, reads, told, words, into_first, items, unopened, fetched, on_list}
+use Rattle.laws_client.specs.Client.{Messages, knowing, reads, items, unopened}
 use Rattle.laws_client.specs.Beliefs.{Leaves}
 use Rattle.laws_client.specs.Clients.{IsOf}
 use Rattle.laws_client.specs.Fetches.{AreToldParts}
+use Rattle.laws_client.proofs.Reading.{told, words, into_first, fetched, on_list}
 use Rattle.laws_client.proofs.Bytes.{decimal_word, words_are_inner}
 use Rattle.laws_client.proofs.Each.{IsIn, is_told}
 use Rattle.laws_client.proofs.Follows.{position_most}

@@ -6,10 +6,11 @@ use Rattle.imap_session.specs.declared.standing.After.TheVariants.{Go}
 use Rattle.imap_session.specs.declared.standing.Selected.{Selected}
 use Rattle.imap_session.specs.Exchange.{Answer, Left, Refused, Event, Leave, Standing, Turn, having, played, refusal_text, refused, tagged}
 use Rattle.imap_session.specs.Commands.{on_found, says, selecting, wrong_state}
-use Rattle.laws_client.specs.Client.{Client, fresh, more, reads}
+use Rattle.laws_client.specs.Client.{Client, reads}
 use Rattle.laws_client.specs.Beliefs.{Follows, TellsNothing}
 use Rattle.laws_client.specs.Commands.{AreNames}
 use Rattle.laws_client.specs.ListTurns.{IsTag}
+use Rattle.laws_client.proofs.Reading.{fresh, more}
 use Rattle.laws_client.proofs.Ends.{refusal_tells_nothing, tagged_tells_nothing}
 use Rattle.laws_client.specs.Clients.{has_ok, reads_on}
 use Rattle.laws_client.proofs.RecordEntering.{IfOk, mapped, only_done, only_refused, selecting_known}

@@ -15,6 +15,7 @@ use Rattle.laws_client.specs.Fetches.{IsNumbered}
 use Rattle.laws_client.specs.Talks.{MayHappen}
 use Rattle.imap_session.specs.Happenings.{Happening, Heard, Line, Literal, LongLine, Told, Turned, VerdictsArePrinted, leads_to, told_line, told_of, whole_line}
 use Rattle.laws_client.specs.ListTurns.{AreTags, IsTag}
+use Rattle.laws_client.proofs.Reading.{asked_by}
 use Rattle.laws_client.proofs.Commands.{long_line_tells_nothing, may_answer}
 use Rattle.laws_client.proofs.Tags.{Tagged, read_tagged}
 use Rattle.laws_client.proofs.Talking.{kept_is_tag}
@@ -22,7 +23,7 @@ use Rattle.laws_client.proofs.Turns.{the_turn}
 use Rattle.imap_session.proofs.Barring.{refuses}
 use Rattle.imap_session.specs.declared.texts.ResponseText.{ResponseText}
 use Rattle.laws_client.proofs.Barred.{asked_has, line_case, login_asks, refused_turn}
-use Rattle.laws_client.specs.Clients.{Asked, answered, asked, asked_by, hears, hears_all, reads_on}
+use Rattle.laws_client.specs.Clients.{Asked, answered, asked, hears, hears_all, reads_on}
 use Rattle.laws_client.specs.HouseClients.{comes, turns, others}
 use Rattle.laws_client.specs.HouseClients.{Lives}
 use Rattle.laws_client.specs.Sizes.{HasShortTexts}

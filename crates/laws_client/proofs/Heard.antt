@@ -13,8 +13,9 @@ use Rattle.imap_grammar.specs.declared.items.FetchItem.{FetchItem}
 use Rattle.imap_grammar.specs.declared.items.FetchItem.TheVariants as fetch
 use Rattle.imap_grammar.specs.declared.items.Section.{Section}
 use Rattle.imap_grammar.specs.declared.items.Span.{Span}
-use Rattle.laws_client.specs.Client.{Known, closing, flag_names, into_first, items, number, unopened, with_flags, with_uid, words}
+use Rattle.laws_client.specs.Client.{Known, closing, flag_names, items, number, unopened}
 use Rattle.laws_client.specs.Fetches.{AreToldParts, IsToldPart}
+use Rattle.laws_client.proofs.Reading.{into_first, with_flags, with_uid, words}
 use Rattle.laws_client.proofs.Bytes.{decimal_digits, decimal_says}
 use Rattle.laws_client.proofs.Items.{item_closed, body_words, date_other, date_read, date_words, digits_closed, digits_other, flag_list, flag_list_other, is_other, number_words, other_passes, rfc822_other, rfc822_read, rfc822_words, tail, words_append}
 use Rattle.laws_client.proofs.Kept.{IsSmall, body_word, count_kept, item_kept, part_small, text_dated}

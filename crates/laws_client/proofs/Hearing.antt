@@ -12,8 +12,9 @@ use Rattle.imap_answers.specs.Answers.{answered, fetch_answer, flags_last, is_fl
 use Rattle.imap_grammar.specs.declared.items.FetchItem.{FetchItem}
 use Rattle.imap_grammar.specs.declared.items.FetchItem.TheVariants as fetch
 use Rattle.laws_client.specs.Clients.{Each}
-use Rattle.laws_client.specs.Client.{Known, into_first, items, knowing, unopened, with_flags, words}
+use Rattle.laws_client.specs.Client.{Known, items, knowing, unopened}
 use Rattle.laws_client.specs.Fetches.{AreToldParts, IsToldPart}
+use Rattle.laws_client.proofs.Reading.{into_first, with_flags, words}
 use Rattle.laws_client.proofs.Chosen.{small_in}
 use Rattle.laws_client.proofs.Each.{IsIn, is_in}
 use Rattle.laws_client.proofs.Fetched.{answer_read, answered_told, row_of, store_items, store_shape, store_told}

@@ -25,13 +25,15 @@ use Rattle.envelope.specs.Grammar.{Many}
 use Rattle.imap_grammar.specs.Brackets.{in_bracket}
 use Rattle.imap_grammar.specs.declared.items.BodyPart.{BodyPart}
 use Rattle.imap_grammar.specs.declared.items.BodyPart.TheVariants as parts
+use Rattle.imap_grammar.specs.Bytes.{is_digit}
 use Rattle.imap_grammar.proofs.Cuts.{is_other as is_not}
 use Rattle.imap_grammar.proofs.ItemWords.{Outside, open_behind}
 use Rattle.imap_grammar.proofs.Outside.{both_behind, both_outside, outside_plain, outside_within}
 use Rattle.imap_grammar.proofs.Tokens.{excludes, not_true}
-use Rattle.laws_client.specs.Client.{Known, words, words_from, into_first, is_digit, number, closing, items, with_uid, unopened}
+use Rattle.laws_client.specs.Client.{Known, number, closing, items, unopened}
 use Rattle.laws_client.specs.Clients.{IsOf}
 use Rattle.laws_client.specs.Fetches.{AreToldNames, IsToldPart, IsToldSpan, AreToldParts, is_name_byte}
+use Rattle.laws_client.proofs.Reading.{words, words_from, into_first, with_uid}
 use Rattle.laws_client.proofs.Bytes.{both, is_word, decimal_word, decimal_digits, decimal_says, first_of, rest_of}
 use Rattle.laws_client.proofs.Kept.{body_word, both_all, count_kept, each_date_byte, each_name_byte, item_kept, IsSmall, part_small, section_small, text_dated}
 

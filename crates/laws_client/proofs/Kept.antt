@@ -23,10 +23,12 @@ use Rattle.imap_grammar.specs.declared.items.FetchItem.TheVariants as fetch
 use Rattle.imap_grammar.specs.declared.items.Section.{Section}
 use Rattle.imap_grammar.specs.declared.items.Section.TheVariants.{Whole, Header, Text}
 use Rattle.imap_grammar.specs.declared.items.Span.{Span}
-use Rattle.laws_client.specs.Client.{Client, Messages, knowing, within, reads, line_ends, literal_of, told}
+use Rattle.laws_client.specs.Client.{Client, Messages, knowing, reads, line_ends, literal_of}
 use Rattle.laws_client.specs.ListTurns.{is_inner}
 use Rattle.laws_client.specs.Fetches.{AreToldNames, IsToldPart, IsToldSpan, AreToldParts, is_name_byte}
+use Rattle.laws_client.specs.ListLaws.{within}
 use Rattle.mail_date.specs.Bytes.{is_folded}
+use Rattle.laws_client.proofs.Reading.{told}
 use Rattle.laws_client.proofs.Bytes.{both, first_of, rest_of, reads-append, inner_byte, inner_text, words_are_inner, decimal_word}
 use Rattle.laws_client.proofs.LinesRead.{flags_inner, flags_part}
 use Rattle.laws_client.proofs.Literals.{literal_leaves_its_count}

@@ -1,3 +1,4 @@
+pub mod Reading
 pub mod Bytes
 pub mod Each
 pub mod LinesRead

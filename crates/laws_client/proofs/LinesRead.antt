@@ -9,8 +9,10 @@ use Rattle.std.proofs.lemmas.List.Folds.{list_all-append}
 use Rattle.change_ring.specs.declared.change.Flags.{Flags}
 use Rattle.cursor_set.specs.Lines.{exists_line, expunge_line, fetch_line}
 use Rattle.change_ring.specs.Words.{flag_words, spaced}
-use Rattle.laws_client.specs.Client.{Known, Messages, knowing, reads, literal_of, told, words, in_words, with_number, numbered, is_digit, number, closing, items, with_flags, with_uid, on_list, exists, expunged, fetched}
+use Rattle.imap_grammar.specs.Bytes.{is_digit}
+use Rattle.laws_client.specs.Client.{Known, Messages, knowing, reads, literal_of, in_words, numbered, number, closing, items, exists}
 use Rattle.laws_client.specs.ListTurns.{is_inner}
+use Rattle.laws_client.proofs.Reading.{told, words, with_number, with_flags, with_uid, on_list, expunged, fetched}
 use Rattle.laws_client.proofs.Bytes.{whole_line, words_cut, words_are_inner, decimal_word, decimal_says, decimal_digits, first_of, rest_of}
 
 -- ---- any line that begins with a number

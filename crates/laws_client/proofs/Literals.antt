@@ -7,9 +7,11 @@ use Rattle.std.proofs.lemmas.List.{reverse-reverse, reverse-append, append-nil}
 use Rattle.std.proofs.lemmas.List.Folds.{list_all-append}
 use Rattle.imap_answers.specs.Answers.{literal}
 use Rattle.imap_grammar.specs.Brackets.{in_bracket}
-use Rattle.laws_client.specs.Client.{Client, Messages, knowing, within, reads, literal_of, count_of, number, is_digit, told, words, words_from, in_words, into_first, line_ends}
+use Rattle.imap_grammar.specs.Bytes.{is_digit}
+use Rattle.laws_client.specs.Client.{Client, Messages, knowing, reads, literal_of, count_of, number, in_words, line_ends}
 use Rattle.laws_client.specs.ListTurns.{is_inner}
-use Rattle.laws_client.specs.ListLaws.{LiteralLeavesItsCount, LiteralsAreAlike}
+use Rattle.laws_client.specs.ListLaws.{LiteralLeavesItsCount, LiteralsAreAlike, within}
+use Rattle.laws_client.proofs.Reading.{told, words, words_from, into_first}
 use Rattle.laws_client.proofs.Bytes.{reads-append, inner_text, inner_byte, words_are_inner, decimal_word, decimal_says, decimal_digits, first_of, rest_of, whole_line}
 
 abbrev in_literal : Messages → List ℕ → ℕ → Client

@@ -3,7 +3,7 @@ use Rattle.std.proofs.Common.{◌≡◌, ℕ, List, [], ◌∷◌, ◌++◌, ref
 use Rattle.std.specs.Prelude.{Bool, Option, Some, None, if◌then◌else◌}
 use Rattle.world.specs.World.{Config, World}
 use Rattle.imap_session.specs.Exchange.{Standing}
-use Rattle.laws_client.specs.Client.{Client, fresh, reads}
+use Rattle.laws_client.specs.Client.{Client, reads}
 use Rattle.laws_client.specs.Clients.{Asked, IsRightAbout, KnowsWhereItIs, StaysThere, answered, hears, hears_all}
 use Rattle.laws_client.specs.Lives.{LivesAreKnown}
 use Rattle.laws_client.specs.HouseClients.{comes, turns, others}
@@ -13,6 +13,7 @@ use Rattle.laws_client.specs.HouseClients.{HasSmallNumbers}
 use Rattle.laws_client.specs.RecordTurns.{Stands}
 use Rattle.imap_session.specs.Happenings.{Answer, Told, Words, told_of}
 use Rattle.laws_client.specs.Views.{view_of}
+use Rattle.laws_client.proofs.Reading.{fresh}
 use Rattle.laws_client.proofs.Boxes.{box_goes}
 use Rattle.laws_client.proofs.RecordKnown.{stands_still, turn_known}
 use Rattle.laws_client.proofs.Moved.{short_before, short_met, sound_met, sound_step}

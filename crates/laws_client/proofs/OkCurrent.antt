@@ -24,11 +24,12 @@ use Rattle.imap_session.specs.Commands.{on_command, turn_of, says, unlimited, wi
 use Rattle.laws_client.specs.ListTurns.{IsTag}
 use Rattle.line_io.specs.Wire.{crlf}
 use Rattle.imap_session.specs.Happenings.{Answer as Answer_to, Line, Told, told_line, told_of, whole_line}
+use Rattle.laws_client.proofs.Reading.{asked_by}
 use Rattle.laws_client.proofs.Tags.{tags_are_tags}
 use Rattle.laws_client.specs.Current.{DoneCommandsMakeCurrent, IsAnswered, IsCurrent, ListsAreCurrent, shows_all}
 use Rattle.laws_client.proofs.RecordCurrent.{FedAll, LastFed, fed_all, last_current, last_weaker}
 use Rattle.laws_client.proofs.RecordEntering.{only_done, only_refused}
-use Rattle.laws_client.specs.Clients.{Asked, Neither, IsRightAbout, answered, asked, asked_by, hears, hears_all}
+use Rattle.laws_client.specs.Clients.{Asked, Neither, IsRightAbout, answered, asked, hears, hears_all}
 use Rattle.laws_client.specs.Clients.{IsRight}
 use Rattle.laws_client.specs.Client.{Client, Known, knowing, reads}
 use Rattle.laws_client.specs.Selecting.{Known_selected}

@@ -7,11 +7,12 @@ use Rattle.std.proofs.lemmas.Option.{none-some}
 use Rattle.cursor_set.specs.Lines.{exists_line}
 use Rattle.mailbox.specs.declared.clients.Opening.{Opening}
 use Rattle.imap_answers.specs.Answers.{name_answer, all_flags, opening_text}
-use Rattle.laws_client.specs.Client.{Client, Messages, exists, into_first, knowing, more, reads, status, words_from}
+use Rattle.laws_client.specs.Client.{Client, Messages, exists, knowing, reads}
 use Rattle.laws_client.specs.Beliefs.{TellsNothing}
 use Rattle.laws_client.specs.Clients.{Each, IsOf}
 use Rattle.laws_client.specs.ListLaws.{OpeningIsFollowed}
 use Rattle.laws_client.specs.ListTurns.{is_inner, IsPlain}
+use Rattle.laws_client.proofs.Reading.{into_first, more, status, words_from}
 use Rattle.laws_client.proofs.Bytes.{decimal_word, reads-append, words_are_inner}
 use Rattle.laws_client.proofs.LinesRead.{reads_exists}
 use Rattle.laws_client.proofs.Untold.{both_tell_nothing, inner_both, line_tells_nothing, name_tells_nothing}

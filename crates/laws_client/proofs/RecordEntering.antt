@@ -14,18 +14,19 @@ use Rattle.imap_session.specs.declared.standing.Selected.{Selected}
 use Rattle.imap_session.specs.Exchange.{Answer, Entered, Left, Refused, Starved, Event, Exchange, Done, Write, Put, Enter, Leave, Folder, Standing, Turn, closed, having, played, refusal_after, refusal_text, refused, saying, tagged}
 use Rattle.imap_session.specs.Commands.{closing, entering, folder_of, on_folder, on_found, opened, says, selecting, telling_recent, wanting, wrong_state, entered_text}
 use Rattle.imap_answers.specs.Answers.{opening_text}
-use Rattle.laws_client.specs.Client.{Client, Known, fresh, more, reads, unknown}
+use Rattle.laws_client.specs.Client.{Client, Known, reads, unknown}
 use Rattle.laws_client.specs.Beliefs.{Follows, Leads, TellsNothing}
 use Rattle.laws_client.specs.Clients.{Each, IsOf}
 use Rattle.laws_client.specs.Commands.{AreNames}
 use Rattle.laws_client.specs.ListTurns.{is_inner, IsPlain, IsTag}
+use Rattle.laws_client.proofs.Reading.{begins, fresh, more}
 use Rattle.laws_client.proofs.Bytes.{first_of, reads-append, rest_of}
 use Rattle.laws_client.proofs.Ends.{leaves, refusal_tells_nothing, tagged_tells_nothing}
 use Rattle.laws_client.proofs.Opening.{opening_told}
 use Rattle.laws_client.proofs.ToldAll.{HearsAll}
 use Rattle.laws_client.proofs.Turns.{the_turn, closed_silent, closed_quiet}
 use Rattle.laws_client.proofs.Untold.{both_tell_nothing, folder_plain}
-use Rattle.laws_client.specs.Clients.{IsRightAbout, begins, has_ok, reads_on}
+use Rattle.laws_client.specs.Clients.{IsRightAbout, has_ok, reads_on}
 use Rattle.imap_session.specs.declared.texts.ResponseText.TheVariants as texts
 use Rattle.imap_session.specs.Texts.{response_text}
 use Rattle.imap_session.specs.declared.texts.ResponseText.{ResponseText}

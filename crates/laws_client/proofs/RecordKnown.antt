@@ -15,9 +15,10 @@ use Rattle.laws_client.specs.Fetches.{IsNumbered}
 use Rattle.laws_client.specs.Talks.{MayHappen}
 use Rattle.imap_session.specs.Happenings.{Happening, Heard, Line, Literal, LongLine, Turned, VerdictsArePrinted, leads_to, told_line, told_of, whole_line}
 use Rattle.laws_client.specs.ListTurns.{IsTag}
+use Rattle.laws_client.proofs.Reading.{asked_by}
 use Rattle.laws_client.proofs.Tags.{Tagged, read_tagged}
 use Rattle.laws_client.proofs.Talking.{happening_follows, happening_keeps}
-use Rattle.laws_client.specs.Clients.{Asked, IsRightAbout, asked, asked_by, answered, hears, reads_on}
+use Rattle.laws_client.specs.Clients.{Asked, IsRightAbout, asked, answered, hears, reads_on}
 use Rattle.imap_session.proofs.Barring.{refuses}
 use Rattle.imap_session.specs.declared.texts.ResponseText.{ResponseText}
 use Rattle.laws_client.proofs.Barred.{asked_has, line_case, login_asks, refused_turn}

@@ -16,11 +16,12 @@ use Rattle.house.specs.Setup.{Setup}
 use Rattle.house.specs.Scene.{Scene, empty_scene}
 use Rattle.house_peers.specs.Visitor.{SeatedVisitor}
 use Rattle.laws_client.specs.Clients.{EndsWith, IsRight}
-use Rattle.laws_client.specs.Client.{Client, Known, Messages, fresh}
+use Rattle.laws_client.specs.Client.{Client, Known, Messages}
 use Rattle.imap_session.specs.Happenings.{IsSentFor, LongLine, Told, Turned, bytes_in}
 use Rattle.laws_client.specs.Appends.{Author, IsAnswered, SaysVerdict, TellsKept, TellsOfAppends, as_it_is, copy_under, tells_stored, SaysRefused, IsEarlier, SaysOfBatch, all_stored, awaits_next, has_no_number}
 use Rattle.laws_client.specs.Clients.{IsRightAbout}
 use Rattle.laws_client.specs.Cuts.{Cutter, IsOneAnswer, ends, opens, CutsSo}
+use Rattle.laws_client.proofs.Reading.{fresh}
 use Rattle.laws_client.proofs.LastLines.{Apart, IsWord, apart_tells_none, refusal_apart, words_of_tags, silence_tells_none}
 use Rattle.laws_client.proofs.LastRests.{no_apart}
 use Rattle.laws_client.proofs.LastWords.{uid_spares}

@@ -19,13 +19,14 @@ use Rattle.mailbox.specs.declared.mailbox.Status.{Status}
 use Rattle.imap_grammar.specs.declared.command.Command.TheVariants as commands
 use Rattle.delivery_token.specs.declared.Verdict.TheVariants as verdicts
 use Rattle.std.proofs.lemmas.Bool.{false≢true}
-use Rattle.laws_client.specs.Client.{Client, fresh, reads}
+use Rattle.laws_client.specs.Client.{Client, reads}
 use Rattle.laws_client.specs.Commands.{stays}
 use Rattle.laws_client.specs.ListTurns.{IsTag}
 use Rattle.imap_session.specs.Happenings.{Happening, Heard, Line, Literal, LongLine, Told, Turned, leads_to, told_line, told_of, whole_line}
+use Rattle.laws_client.proofs.Reading.{asked_by, fresh}
 use Rattle.laws_client.proofs.Tags.{Tagged, read_tagged}
 use Rattle.world.specs.World.{Config, World}
-use Rattle.laws_client.specs.Clients.{Asked, answered, asked, asked_by, has_ok, hears, hears_all, reads_on}
+use Rattle.laws_client.specs.Clients.{Asked, answered, asked, has_ok, hears, hears_all, reads_on}
 use Rattle.laws_client.specs.HouseClients.{comes, turns, others}
 use Rattle.laws_client.specs.HouseClients.{Lives}
 use Rattle.laws_client.specs.Selecting.{KnowingIsSelected, Known_selected}

@@ -8,8 +8,9 @@ use Rattle.std.proofs.lemmas.List.Folds.{list_all-append}
 use Rattle.imap_grammar.specs.declared.command.SearchReturns.{SearchReturns}
 use Rattle.imap_answers.specs.Answers.{all_item, count_item, extended_answer, extended_items, found_answer, highest, highest_item, if_asked, lowest, lowest_item, search_answer, spaced_numbers, uid_set}
 use Rattle.laws_client.specs.Beliefs.{TellsNothing}
-use Rattle.laws_client.specs.Client.{Messages, knowing, reads, told}
+use Rattle.laws_client.specs.Client.{Messages, knowing, reads}
 use Rattle.laws_client.specs.ListTurns.{is_inner, IsPlain, IsTag}
+use Rattle.laws_client.proofs.Reading.{told}
 use Rattle.laws_client.proofs.Bytes.{first_of, rest_of}
 use Rattle.laws_client.proofs.UidSets.{both_all, set_all}
 use Rattle.laws_client.proofs.Untold.{inner_both, line_tells_nothing}

@@ -11,8 +11,9 @@ use Rattle.delivery_token.specs.Text.{date_of}
 use Rattle.imap_answers.specs.Answers.{answered, fetch_answer, item_text, part, part_bytes, row_answer, section, flags_answer}
 use Rattle.imap_grammar.specs.declared.items.FetchItem.{FetchItem}
 use Rattle.imap_grammar.specs.declared.items.FetchItem.TheVariants as fetch
-use Rattle.laws_client.specs.Client.{Known, closing, flag_names, into_first, items, knowing, number, unopened, with_flags, with_uid, words}
+use Rattle.laws_client.specs.Client.{Known, closing, flag_names, items, knowing, number, unopened}
 use Rattle.laws_client.specs.Fetches.{AreToldParts, IsToldPart}
+use Rattle.laws_client.proofs.Reading.{into_first, with_flags, with_uid, words}
 use Rattle.laws_client.proofs.Bytes.{decimal_digits, decimal_says}
 use Rattle.laws_client.proofs.Each.{IsIn, is_in, is_told}
 use Rattle.laws_client.proofs.Fetched.{answer_read, answered_told, row_of, store_items, store_shape, store_told}

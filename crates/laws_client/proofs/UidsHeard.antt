@@ -12,9 +12,10 @@ use Rattle.mailbox.specs.declared.clients.Row.{Row}
 use Rattle.imap_answers.specs.Answers.{answered, fetch_answer, item_text, row_answer}
 use Rattle.imap_grammar.specs.declared.items.FetchItem.{FetchItem}
 use Rattle.laws_client.specs.Beliefs.{HearsUid, HoldsOf, IsKnownTo, KeepsUids}
-use Rattle.laws_client.specs.Client.{Known, fetched, into_first, items, knowing, unopened, words}
+use Rattle.laws_client.specs.Client.{Known, items, knowing, unopened}
 use Rattle.laws_client.specs.Fetches.{AreToldParts}
 use Rattle.laws_client.specs.ListLaws.{ChangeTellsUid, FetchTellsUid, FlagsKeepUids, LinesKeepUids, RowKeepsUids, StoreTellsUid}
+use Rattle.laws_client.proofs.Reading.{fetched, into_first, words}
 use Rattle.laws_client.proofs.Chosen.{small_in}
 use Rattle.laws_client.proofs.Each.{IsIn, fetched_next, is_in, is_told}
 use Rattle.laws_client.proofs.Fetched.{answer_read, answered_told, row_of, store_items, store_shape, store_told}

@@ -19,9 +19,10 @@ use Rattle.imap_session.specs.Commands.{closing, entering, folder_of, on_command
 use Rattle.imap_session.specs.Store.{Met}
 use Rattle.imap_answers.specs.Answers.{all_flags, opening_text}
 use Rattle.laws_client.specs.ListTurns.{IsTag}
+use Rattle.laws_client.proofs.Reading.{asked_by, begins}
 use Rattle.laws_client.proofs.Tags.{Tagged, read_tagged}
 use Rattle.laws_client.proofs.Turns.{the_turn}
-use Rattle.laws_client.specs.Clients.{Asked, Entering, Leaving, Neither, asked, asked_by, begins, has_ok}
+use Rattle.laws_client.specs.Clients.{Asked, Entering, Leaving, Neither, asked, has_ok}
 use Rattle.laws_client.specs.Selecting.{HasLoggedIn, RefusedSelectsNone}
 use Rattle.laws_client.proofs.RecordEntering.{Wrote, at_star, closed_line, recent_done, recent_line, mapped, only_refused, tagged_has, wanted, writes, wrote}
 use Rattle.laws_client.proofs.Moved.{Calls}

@@ -11,10 +11,11 @@ use Rattle.imap_grammar.specs.declared.items.StatusItem.{StatusItem}
 use Rattle.imap_grammar.specs.declared.items.StatusItem.TheVariants as status
 use Rattle.imap_session.specs.Exchange.{Folder}
 use Rattle.imap_session.specs.Commands.{folder_of, is_named}
-use Rattle.laws_client.specs.Client.{Client, Messages, knowing, reads, told}
+use Rattle.laws_client.specs.Client.{Client, Messages, knowing, reads}
 use Rattle.laws_client.specs.Beliefs.{TellsNothing}
 use Rattle.laws_client.specs.Commands.{AreNames}
 use Rattle.laws_client.specs.ListTurns.{is_inner, IsCounted, IsPlain}
+use Rattle.laws_client.proofs.Reading.{told}
 use Rattle.laws_client.proofs.Bytes.{decimal_word_wide, reads-append, whole_line, words_are_inner}
 use Rattle.laws_client.proofs.LinesRead.{not_a_count}
 use Rattle.imap_answers.specs.declared.list.Listing.{Listing}

@@ -20,8 +20,9 @@ use Rattle.imap_session.specs.Commands.{awaiting_argument, awaiting_response, fa
 use Rattle.imap_session.proofs.Parts.{IsPart, argument_part, challenge_part, given_part, is_parting, is_told}
 use Rattle.imap_session.specs.declared.standing.Profile.{Profile}
 use Rattle.imap_session.specs.declared.standing.Profile.TheVariants.{Standard, Compatible}
+use Rattle.laws_client.proofs.Reading.{asked_by}
 use Rattle.laws_client.proofs.Tags.{TaggedOf}
-use Rattle.laws_client.specs.Clients.{Neither, asked, asked_by}
+use Rattle.laws_client.specs.Clients.{Neither, asked}
 use Rattle.imap_session.specs.Happenings.{if_kept, whole_behind, whole_in, whole_line}
 
 -- a session that waits for no rest of a line, and doesn't idle, stands as without those

@@ -18,10 +18,11 @@ use Rattle.imap_session.specs.Store.{Met}
 use Rattle.laws_client.specs.Clients.{EndsWith, IsRight}
 use Rattle.laws_client.specs.Client.{Client, Known, knowing, reads}
 use Rattle.imap_session.specs.Happenings.{Answer as Answer_to, Happening, Heard, IsSentFor, Line, Literal, LongLine, Told, Turned, VerdictsArePrinted, Words, leads_to, told_line, told_of, whole_line}
+use Rattle.laws_client.proofs.Reading.{begins}
 use Rattle.laws_client.proofs.IdleTags.{AreTagsOf}
 use Rattle.laws_client.proofs.Talking.{happening_keeps_so}
 use Rattle.laws_client.proofs.Turns.{the_turn}
-use Rattle.laws_client.specs.Clients.{IsRightAbout, begins, hears, hears_all}
+use Rattle.laws_client.specs.Clients.{IsRightAbout, hears, hears_all}
 use Rattle.laws_client.specs.Current.{IsCurrent}
 use Rattle.laws_client.specs.HouseClients.{comes, others, turns}
 use Rattle.laws_client.specs.HouseClients.{Lives}

@@ -1,5 +1,6 @@
 -- A client that knows which of its own lines were SELECT, EXAMINE, CLOSE or UNSELECT, and reads whatever it is told.
-use Rattle.std.specs.Prelude.{◌≡◌, ℕ, ◌==◌, ◌&&◌, ◌||◌, Bool, true, false, codes, drop, length, reverse, take, List, [], ◌∷◌, ◌++◌, Option, Some, None, Result, Ok, Err, if◌then◌else◌}
+use Rattle.std.specs.Prelude.{◌≡◌, ℕ, nat_eq, ◌==◌, ◌&&◌, ◌||◌, Bool, true, false, codes, drop, length, reverse, take, List, [], ◌∷◌, ◌++◌, Option, Some, None, Result, Ok, if◌then◌else◌}
+use Rattle.std.specs.List.{starts_with}
 use Rattle.std.specs.Option.{option_map}
 use Rattle.line_io.specs.Wire.{crlf}
 use Rattle.imap_grammar.specs.Bytes.{is_tag}
@@ -12,7 +13,7 @@ use Rattle.imap_grammar.specs.declared.command.Command.TheVariants as commands
 use Rattle.imap_grammar.specs.declared.command.ImapFault.{ImapFault}
 use Rattle.imap_grammar.specs.declared.command.Literal.{Literal}
 use Rattle.imap_session.specs.Commands.{response_in}
-use Rattle.laws_client.specs.Client.{Client, Known, fresh, knowing, reads}
+use Rattle.laws_client.specs.Client.{Client, Known, knowing, reads}
 use Rattle.imap_session.specs.Happenings.{Answer, Told, Words}
 
 -- ---- what it asked
@@ -23,29 +24,19 @@ pub data Asked : Type 0 where
   Leaving : (tag : List ℕ) → Asked
   Neither : Asked
 
-abbrev pub asked_by : (tag : List ℕ) → Command → Asked
-asked_by tag (commands.Select name) = Entering tag
-asked_by tag (commands.Examine name) = Entering tag
-asked_by tag commands.Close = Leaving tag
-asked_by tag commands.Unselect = Leaving tag
-asked_by tag command = Neither
-
 abbrev pub asked : Result (List ℕ × Command) ImapFault → Asked
-asked (Ok line) = asked_by line.0 line.1
-asked (Err fault) = Neither
+asked (Ok (tag, commands.Select name)) = Entering tag
+asked (Ok (tag, commands.Examine name)) = Entering tag
+asked (Ok (tag, commands.Close)) = Leaving tag
+asked (Ok (tag, commands.Unselect)) = Leaving tag
+asked line = Neither
 
 -- ---- how it was answered
-
--- the bytes begin with these
-abbrev pub begins : List ℕ → List ℕ → Bool
-begins [] bytes = true
-begins (a ∷ front) [] = false
-begins (a ∷ front) (b ∷ bytes) = (a == b) && begins front bytes
 
 -- one of the lines is this tag's OK (7.1.1); at the first of these bytes a line begins, or it doesn't
 abbrev pub has_ok : (at_line : Bool) → (tag : List ℕ) → List ℕ → Bool
 has_ok at_line tag [] = false
-has_ok at_line tag (b ∷ bytes) = (at_line && begins (tag ++ codes " OK ") (b ∷ bytes)) || has_ok (b == 10) tag bytes
+has_ok at_line tag (b ∷ bytes) = (at_line && starts_with nat_eq (b ∷ bytes) (tag ++ codes " OK ")) || has_ok (b == 10) tag bytes
 
 -- ---- what it keeps
 
@@ -56,7 +47,7 @@ reads_on bytes client = option_map (λ (c : Client). reads c bytes) client
 -- The answer to a line. Where SELECT or EXAMINE is answered OK a list begins with the answer; where it is not, it is in no mailbox (6.3.2).
 -- CLOSE and UNSELECT take the list away where they are answered OK. Whatever else it asked, it reads on.
 abbrev pub answered : Asked → List ℕ → Option Client → Option Client
-answered (Entering tag) bytes client = if has_ok true tag bytes then Some (reads fresh bytes) else None
+answered (Entering tag) bytes client = if has_ok true tag bytes then Some (reads (knowing (Some [])) bytes) else None
 answered (Leaving tag) bytes client = if has_ok true tag bytes then None else reads_on bytes client
 answered Neither bytes client = reads_on bytes client
 

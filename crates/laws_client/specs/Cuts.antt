@@ -1,5 +1,6 @@
 -- How a client cuts what it reads into answers: behind each tagged line. What stands in literals is passed over (RFC 9051, 2.2.2, 4.3 and 7).
-use Rattle.std.specs.Prelude.{◌≡◌, ◌⊎◌, ◌==◌, ◌&&◌, ◌||◌, ℕ, zero, suc, Bool, false, true, codes, is_some, not, reverse, List, [], ◌∷◌, ◌++◌, Ok, Option, Some, None, if◌then◌else◌}
+use Rattle.std.specs.Prelude.{◌≡◌, ◌⊎◌, nat_eq, ◌==◌, ◌&&◌, ◌||◌, ℕ, zero, suc, Bool, false, true, codes, is_some, not, reverse, List, [], ◌∷◌, ◌++◌, Ok, Option, Some, None, if◌then◌else◌}
+use Rattle.std.specs.List.{starts_with}
 use Rattle.imap_grammar.specs.Reading.{read}
 use Rattle.imap_grammar.specs.declared.command.Command.{Command}
 use Rattle.imap_grammar.specs.declared.command.Command.TheVariants as commands
@@ -12,7 +13,6 @@ use Rattle.house.specs.Scene.{Scene, empty_scene}
 use Rattle.house.specs.Setup.{Setup}
 use Rattle.exactly_once.specs.Promise.{Entry, IsRecord}
 use Rattle.laws_client.specs.Client.{literal_of}
-use Rattle.laws_client.specs.Clients.{begins}
 use Rattle.imap_session.specs.Happenings.{Answer, Told, bytes_in}
 use Rattle.laws_client.specs.ClientRecords.{KeepsUp, KeptUp, shown_by_then, stays_by_then, user_by_then}
 use Rattle.laws_client.specs.HouseClients.{IsPrintable, first_standing}
@@ -37,7 +37,7 @@ between begun answers = amid [] begun answers
 
 -- an untagged line begins with a star, and one that says that the client may go on begins with a plus
 abbrev pub is_tagged : List ℕ → Bool
-is_tagged line = not (begins (codes "* ") line || begins (codes "+ ") line)
+is_tagged line = not (starts_with nat_eq line (codes "* ") || starts_with nat_eq line (codes "+ "))
 
 -- a line has ended: where it is tagged, all bytes up to here are an answer
 abbrev pub cut_line : Bool → (begun : List ℕ) → List (List ℕ) → Cutter

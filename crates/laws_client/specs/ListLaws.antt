@@ -19,7 +19,7 @@ use Rattle.imap_session.specs.Happenings.{kept_tag, Happening, IsPrinted}
 use Rattle.imap_session.specs.declared.standing.Profile.{Profile}
 use Rattle.imap_session.specs.Commands.{greeting, idle_turn, turn_of, turn_of_long_line, turn_of_verdict}
 use Rattle.delivery_token.specs.declared.Verdict.{Verdict}
-use Rattle.laws_client.specs.Client.{Client, Known, Messages, reads, within}
+use Rattle.laws_client.specs.Client.{Client, Known, Messages, reads}
 use Rattle.laws_client.specs.Beliefs.{Follows, HearsUid, IsKnownTo, KeepsUids, Leads, Leaves, MayShow, TellsNothing}
 use Rattle.laws_client.specs.Clients.{Each, IsOf, IsRight}
 use Rattle.laws_client.specs.Commands.{IsFollowed}
@@ -32,6 +32,10 @@ use Rattle.laws_client.specs.ListTurns.{AreTags, IsPlain, IsRowOf, IsTag, Says, 
 -- it makes no difference in which pieces the bytes come
 abbrev pub PiecesAreTheWhole : Type 0
 PiecesAreTheWhole = (client : Client) (one two : List ℕ) → reads client (one ++ two) ≡ reads (reads client one) two
+
+-- a client within a line, of which these bytes came, last byte first
+abbrev pub within : Messages → List ℕ → Client
+within messages line = record { messages = messages; line = line; literal = 0 }
 
 -- within a line a literal leaves nothing but its count, as if that stood there alone
 abbrev pub LiteralLeavesItsCount : Type 0

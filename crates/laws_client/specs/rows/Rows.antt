@@ -2,9 +2,13 @@
 use Rattle.std.specs.Prelude.{◌≡◌, ℕ, Bool, true, false, List, [], ◌∷◌, ◌++◌, codes, length, Option, Some, None}
 use Rattle.std.proofs.Common.{refl, ap, sym, subst, arith}
 use Rattle.change_ring.specs.View.{position}
-use Rattle.laws_client.specs.Client.{Client, Known, Messages, reads, fresh, knowing, unknown}
+use Rattle.laws_client.specs.Client.{Client, Known, Messages, reads, knowing, unknown}
 use Rattle.laws_client.specs.Beliefs.{HearsUid, HoldsOf, IsKnownTo, Follows, KeepsUids}
 use Rattle.laws_client.specs.Clients.{Each, IsOf}
+
+-- a client that has asked for a mailbox, and read nothing yet
+abbrev pub fresh : Client
+fresh = knowing (Some [])
 
 -- what SELECT answers about a mailbox of so many messages
 abbrev pub select_of : List ℕ → List ℕ

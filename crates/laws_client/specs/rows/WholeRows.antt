@@ -1,6 +1,7 @@
 -- What a client knows after all that a session said, from its greeting on.
 use Rattle.std.specs.Prelude.{◌≡◌, refl, ℕ, zero, suc, ◌+◌, List, [], ◌∷◌, codes, Some, None}
-use Rattle.laws_client.specs.Client.{Known, reads, fresh, knowing}
+use Rattle.laws_client.specs.Client.{Known, reads, knowing}
+use Rattle.laws_client.specs.rows.Rows.{fresh}
 
 -- seventy messages are marked as deleted by another client, while this one idles
 abbrev pub seventy : List ℕ
