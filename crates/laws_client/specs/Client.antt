@@ -1,14 +1,14 @@
 -- What a mail client knows of the selected mailbox by the bytes that it reads (RFC
 -- 9051, 2.2.2, 4.3, 7.1, 7.4 and 7.5), and by nothing else. It knows how
 -- lines are spelled that any server sends; it knows nothing of how this one comes to write them.
-use Rattle.std.specs.Prelude.{ℕ, zero, suc, ◌+◌, ◌-◌, false, List, [], ◌∷◌, ◌++◌, length, drop, replicate, reverse, codes, Option, Some, None, option_map, option_and_then, nat_le, ◌==◌, ◌&&◌, if◌then◌else◌}
-use Rattle.std.specs.List.{starts_with}
+use Rattle.std.specs.Prelude.{ℕ, zero, suc, ◌+◌, ◌-◌, false, List, [], ◌∷◌, ◌++◌, length, drop, replicate, reverse, codes, Option, Some, None, option_map, option_and_then, nat_le, ◌==◌, ◌&&◌, not, if◌then◌else◌}
+use Rattle.std.specs.List.{list_all, starts_with}
 use Rattle.std.specs.Option.{option_map_or, option_or}
 use Rattle.std.specs.Str.{bytes_eq}
 use Rattle.envelope.specs.Reading.{first_is}
 use Rattle.imap_grammar.specs.Brackets.{cut_outside}
 use Rattle.imap_grammar.specs.Bytes.{is_digit}
-use Rattle.imap_grammar.specs.Numbers.{are_digits, number_of}
+use Rattle.imap_grammar.specs.Numbers.{number_of}
 
 -- ---- what it keeps
 
@@ -52,7 +52,7 @@ replaced (suc (suc k)) now (message ∷ list) = option_map (λ later. message �
 
 -- a word that is a number: one digit or more (9, `number`)
 abbrev pub number : List ℕ → Option ℕ
-number word = if are_digits word then Some (number_of word) else None
+number word = if list_all is_digit word && not (length word == 0) then Some (number_of word) else None
 
 -- how many parentheses close at a word's end, and the word without them
 abbrev pub closing : List ℕ → ℕ × List ℕ
