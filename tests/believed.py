@@ -3,8 +3,8 @@
 
     tests/believed.py                       each file that has some, how many, and how many lines they take with their comments
     tests/believed.py --parts               the same in the parts in which the page lists them: the headline, which is over any dialogues; what of LMTP and of IMAP
-                                            comes to it; what README's sentence to a relay and the one to a client need besides, of a house on one thread, of a
-                                            server and of a script; and what README says besides. A definition counts in the first part that cites it
+                                            comes to it; and what README's sentence to a relay and the one to a client need besides, of a house on one thread, of a
+                                            server and of a script. A definition counts in the first part that cites it, and what a law pins by its head and by that law
     tests/believed.py --page docs/DEFINITIONS.md    the same check that the gate makes: the page lists these files in these parts, each with its lines, and no other
                                             of specs/; the heads of its sections tell their sums; and each function that README's promise names is of a part that counts
     tests/believed.py CRATE::FUNCTION ..    those of other functions
@@ -47,17 +47,12 @@ PARTS = [
             "laws_client::served_visitors_keep_up.right+counts",
             "laws_client::served_texts_stay",
             "laws_relay::client_slots_conclude",
+            "laws_relay::lines_conclude",
             "serving::serve_house.kept",
         ],
     ),
     ("Of a script", ROOTS),
     ("A script's lines", ["script::run_script.played"]),
-    (
-        "Besides",
-        [
-            "laws_relay::lines_conclude",
-        ],
-    ),
     (
         "While a server runs",
         [
@@ -69,8 +64,8 @@ PARTS = [
     ),
 ]
 
-# What is spoken is a promise of its own, and so is what the lines of a script ask for. What README says besides its two sentences, and what single calls say while a server runs, counts apart too.
-APART = ["LMTP", "IMAP", "A script's lines", "Besides", "While a server runs"]
+# What is spoken is a promise of its own, and so is what the lines of a script ask for. What single calls say while a server runs counts apart too.
+APART = ["LMTP", "IMAP", "A script's lines", "While a server runs"]
 
 # The parts that README's two sentences rest on where they are said of a house on one thread, whatever the dialogues are. Those of a server and of a script
 # come to them where the sentences are said of these too.
@@ -422,11 +417,6 @@ def of_all(found):
     return of_parts(found, [head for head, _ in PARTS if head not in APART])
 
 
-def with_besides(found):
-    """And with what README says besides."""
-    return of_parts(found, [head for head, _ in PARTS if head not in APART or head == "Besides"])
-
-
 def named_in(page, head):
     """The functions that a section of a page names, each with its crate."""
     with open(page, encoding="utf-8") as text:
@@ -468,7 +458,7 @@ def wrong_on(page):
         yield f"doesn't tell that the headline is {first[0]} lines in {first[1]} files"
     with open(page, encoding="utf-8") as text:
         told = text.read()
-    told_of = (("README's two sentences rest", of_parts(found, SENTENCES)), ("in each house they rest", of_all(found)), ("with that all rest", with_besides(found)))
+    told_of = (("README's two sentences rest", of_parts(found, SENTENCES)), ("in each house they rest", of_all(found)))
     for whose, (files, lines) in told_of:
         if f"rest on {lines:,} lines in {files} files" not in told:
             yield f"doesn't tell that {whose} on {lines:,} lines in {files} files"
@@ -501,7 +491,6 @@ def tell_parts():
     for whose, (files, lines) in (
         ("README's two sentences, of a house on one thread", of_parts(found, SENTENCES)),
         ("the two sentences, of each house", of_all(found)),
-        ("with what README says besides", with_besides(found)),
     ):
         print(f"{whose}: {files} files, {lines} lines")
     return 0
