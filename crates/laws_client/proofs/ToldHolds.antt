@@ -1,5 +1,5 @@
 -- What a client of a house on one thread is right about, worked out for a small house: its session's life, what was printed to it, and what a record has of that.
-use Rattle.std.proofs.Common.{◌≡◌, inl, ℕ, true, false, List, [], ◌∷◌, ◌++◌, refl, Some, None, sym, subst, arith}
+use Rattle.std.proofs.Common.{◌≡◌, ◌+◌, inl, ℕ, true, false, List, [], ◌∷◌, ◌++◌, length, drop, refl, Some, None, sym, subst, ap, ◌∙◌, arith, length-append, slice_index_or}
 use Rattle.std.specs.Prelude.{codes}
 use Rattle.std.specs.Borrow.{Bor}
 use Rattle.std.specs.Fmt.{digits}
@@ -17,7 +17,7 @@ use Rattle.imap_answers.specs.Answers.{opening_text}
 use Rattle.imap_grammar.specs.Reading.{read}
 use Rattle.imap_session.specs.Commands.{greeting, unlimited}
 use Rattle.imap_session.specs.Exchange.{Enter, Entered, Fed, Feed, Standing}
-use Rattle.imap_session.specs.Happenings.{Answer, Line, Told}
+use Rattle.imap_session.specs.Happenings.{Answer, Line, Told, bytes_in}
 use Rattle.imap_session.specs.declared.standing.After.TheVariants as afters
 use Rattle.imap_session.specs.declared.standing.Profile.TheVariants.{Standard}
 use Rattle.house.specs.Scene.{Scene, empty_scene}
@@ -28,7 +28,9 @@ use Rattle.exactly_once.specs.Promise.{Entry, Lines, Silence}
 use Rattle.exactly_once.specs.rows.Entries.{the_house}
 use Rattle.exactly_once.specs.rows.Worlds.{by_number, hi, small, yo}
 use Rattle.laws_client.specs.Client.{Known, unknown}
+use Rattle.laws_client.specs.Clients.{EndsWith, last_line}
 use Rattle.laws_client.specs.Flags.{FlagsOf}
+use Rattle.laws_client.proofs.LastLines.{words_of_tags}
 use Rattle.laws_client.specs.HouseClients.{IsOfOthers, IsToldRight, Lives, Seen, comes, first_standing, others, seen_by_then, turns, unseen}
 
 -- ---- a small house
@@ -106,6 +108,13 @@ both_lines = codes "a SELECT INBOX\r\nb NOOP\r\n"
 abbrev pub told : List Told
 told = Answer select_line (answer_to_select 2) ∷ Answer noop_line answer_to_noop ∷ []
 
+abbrev first_bytes : List ℕ → List Told → List ℕ
+first_bytes d [] = d
+first_bytes d (one ∷ more) = bytes_in one
+
+abbrev byte_at : ℕ → List ℕ → ℕ
+byte_at n bytes = slice_index_or bytes n 0
+
 abbrev pub selected : Standing
 selected = record standing { selected = Some (record { mailbox = 0; read_only = false }) }
 
@@ -145,6 +154,19 @@ seen sent shown = record { user = codes "alice"; began = at_first; sent = sent; 
 abbrev pub knows_both : List Known
 knows_both = unknown ∷ record { uid = Some 8; flags = Some (codes "\\Flagged" ∷ []) } ∷ []
 
+-- Neither of its answers tells of a message.
+no_message : (before after : List Told) (one : Told) (tag rest : List ℕ) → told ≡ before ++ one ∷ after → EndsWith tag (codes "OK [APPENDUID " ++ rest) (bytes_in one) → ⊥
+unfolding digits
+no_message [] after one tag rest split ends =
+    let is : bytes_in one ≡ answer_to_select 2 = sym (ap (first_bytes []) split) in
+    let words = words_of_tags (codes "a") tag (codes "OK [READ-WRITE] SELECT completed") (codes "OK [APPENDUID " ++ rest) refl ends.chosen (sym (ap last_line is) ∙ ends.last) in
+    let byte : 82 ≡ 65 = ap (byte_at 4) words in omega (arith, byte)
+no_message (first ∷ []) after one tag rest split ends =
+    let is : bytes_in one ≡ answer_to_noop = sym (ap (λ (l : List Told). first_bytes [] (drop 1 l)) split) in
+    let words = words_of_tags (codes "b") tag (codes "OK NOOP completed") (codes "OK [APPENDUID " ++ rest) refl ends.chosen (sym (ap last_line is) ∙ ends.last) in
+    let byte : 78 ≡ 91 = ap (byte_at 3) words in omega (arith, byte)
+no_message (first ∷ second ∷ before) after one tag rest split ends = omega (arith, ap length split, length-append before (one ∷ after))
+
 -- The client of the first session has sent half a line more, and the answer to its NOOP is still to be printed.
 pub is_right : IsToldRight house 0 (visitor (codes "c FE") answer_to_noop) at_last (seen (both_lines ++ codes "c FE") (hello ++ answer_to_select 2))
 unfolding read digits
@@ -154,8 +176,8 @@ is_right = record {
   lives = lives;
   sent = refl;
   shown = refl;
-  list = (knows_both, refl, ((λ n e. absurd (none-some n e)), ((λ n e. same n e), tt)));
-  flags = (knows_both, refl, ((λ names e. absurd (none-some names e)), ((λ names e. flags names e), tt)));
+  list = (knows_both, refl, (((λ n e. absurd (none-some n e)), (λ names e. absurd (none-some names e))), (((λ n e. same n e), (λ names e. flags names e)), tt)));
+  messages = λ before after one tag rest split ends. absurd (no_message before after one tag rest split ends);
 }
   where
     same : (n : ℕ) → Some 8 ≡ Some n → n ≡ 8

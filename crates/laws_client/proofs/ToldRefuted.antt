@@ -15,8 +15,9 @@ use Rattle.imap_session.specs.declared.standing.Profile.TheVariants.{Compatible}
 use Rattle.house_peers.specs.Visitor.{SeatedVisitor}
 use Rattle.exactly_once.specs.rows.Worlds.{by_number}
 use Rattle.laws_client.specs.Client.{Client, Known, Messages, knowing, unknown}
-use Rattle.laws_client.specs.Clients.{IsRight, IsRightAbout, hears_all}
-use Rattle.laws_client.specs.Flags.{FlagsOf, IsRightOnFlags, KnowsFlags, counted, flags_at}
+use Rattle.laws_client.specs.Clients.{IsOf, IsRight, hears_all}
+use Rattle.laws_client.specs.Flags.{Believes, FlagsOf, IsRightAt, KnowsFlags, Point, counted, flags_at}
+use Rattle.laws_client.proofs.Each.{each_weaker}
 use Rattle.laws_client.specs.HouseClients.{IsToldRight, Seen, point_of}
 use Rattle.laws_client.proofs.ToldHolds.{answer_to_select, arrivals, at_last, box, entered, hello, house, marked_twice, select_line, the_other}
 
@@ -26,25 +27,30 @@ abbrev pub the_list : Messages → List Known
 the_list None = []
 the_list (Some list) = list
 
+-- what it is right about, where it knows this list
+pub is_right_list : (p : Point) (list : List Known) → IsRightAt p (Some (knowing (Some list))) → IsRight (counted p) list
+is_right_list p list (found, same, right) =
+    subst (IsRight (counted p)) (sym (ap (λ (c : Client). the_list c.messages) same))
+    (each_weaker (λ u m. IsOf u m × Believes p u m) IsOf (λ u m both. both.0) (counted p) found right)
+
+pub is_right_flags : (p : Point) (list : List Known) → IsRightAt p (Some (knowing (Some list))) → KnowsFlags p list
+is_right_flags p list (found, same, right) =
+    subst (KnowsFlags p) (sym (ap (λ (c : Client). the_list c.messages) same))
+    (each_weaker (λ u m. IsOf u m × Believes p u m) (Believes p) (λ u m both. both.1) (counted p) found right)
+
 module _ {v : SeatedVisitor} {w : World} {s : Seen} (t : IsToldRight house 0 v w s) {told : List Told} (is : t.told ≡ told) where
-  -- what it is right about, where it knows this list by what it was told
+  -- so by what it was told
   right_list : (list : List Known) → hears_all None told ≡ Some (knowing (Some list)) → IsRight (counted (point_of w 0)) list
-  right_list list heard = by (subst (IsRightAbout (counted (point_of w 0))) (ap (hears_all None) is ∙ heard) t.list)
-    where
-      by : IsRightAbout (counted (point_of w 0)) (Some (knowing (Some list))) → IsRight (counted (point_of w 0)) list
-      by (found, same, right) = subst (IsRight (counted (point_of w 0))) (sym (ap (λ (c : Client). the_list c.messages) same)) right
+  right_list list heard = is_right_list (point_of w 0) list (subst (IsRightAt (point_of w 0)) (ap (hears_all None) is ∙ heard) t.list)
 
   right_flags : (list : List Known) → hears_all None told ≡ Some (knowing (Some list)) → KnowsFlags (point_of w 0) list
-  right_flags list heard = by (subst (IsRightOnFlags (point_of w 0)) (ap (hears_all None) is ∙ heard) t.flags)
-    where
-      by : IsRightOnFlags (point_of w 0) (Some (knowing (Some list))) → KnowsFlags (point_of w 0) list
-      by (found, same, right) = subst (KnowsFlags (point_of w 0)) (sym (ap (λ (c : Client). the_list c.messages) same)) right
+  right_flags list heard = is_right_flags (point_of w 0) list (subst (IsRightAt (point_of w 0)) (ap (hears_all None) is ∙ heard) t.list)
 
   -- and it was told no number that it can't have
   possible : hears_all None told ≡ Some (knowing None) → ⊥
-  possible heard = by (subst (IsRightAbout (counted (point_of w 0))) (ap (hears_all None) is ∙ heard) t.list)
+  possible heard = by (subst (IsRightAt (point_of w 0)) (ap (hears_all None) is ∙ heard) t.list)
     where
-      by : IsRightAbout (counted (point_of w 0)) (Some (knowing None)) → ⊥
+      by : IsRightAt (point_of w 0) (Some (knowing None)) → ⊥
       by (found, same, right) = none-some found (ap (λ (c : Client). c.messages) same)
 
 abbrev told_both : (line answer : List ℕ) → List Told

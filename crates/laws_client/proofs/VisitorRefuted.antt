@@ -13,17 +13,17 @@ use Rattle.imap_session.specs.Happenings.{Answer, Told}
 use Rattle.session_thread.specs.Locks.{LockedStore}
 use Rattle.world.specs.World.{Box}
 use Rattle.exactly_once.specs.rows.Worlds.{bye, hi, yo}
-use Rattle.laws_client.specs.Client.{Client, Known, knowing, unknown}
-use Rattle.laws_client.specs.Clients.{IsRight, IsRightAbout, hears_all}
-use Rattle.laws_client.specs.Flags.{FlagsOf, IsRightOnFlags, KnowsFlags, counted, flags_at}
+use Rattle.laws_client.specs.Client.{Known, knowing, unknown}
+use Rattle.laws_client.specs.Clients.{IsRight, hears_all}
+use Rattle.laws_client.specs.Flags.{FlagsOf, IsRightAt, KnowsFlags, counted, flags_at}
 use Rattle.laws_client.specs.Served.{place_of}
 use Rattle.laws_client.specs.rows.HistoryRows.{emptied, flagged, marked, outside, within}
 use Rattle.laws_client.proofs.ToldHolds.{answer_to_select, knows_both, select_line, told}
-use Rattle.laws_client.proofs.ToldRefuted.{first_of, heard_one, heard_three, heard_two, letter, letter_of, of_uid, the_list, with_names}
+use Rattle.laws_client.proofs.ToldRefuted.{first_of, heard_one, heard_three, heard_two, is_right_flags, is_right_list, letter, letter_of, of_uid, with_names}
 
 -- what is concluded of a visitor whose session has seen so much, and that was told this
 abbrev pub VisitorIsRight : LockedStore → List Told → Type 0
-VisitorIsRight selection told = IsRightAbout (counted (place_of selection)) (hears_all None told) × IsRightOnFlags (place_of selection) (hears_all None told)
+VisitorIsRight selection told = IsRightAt (place_of selection) (hears_all None told)
 
 -- ---- what passes
 
@@ -33,10 +33,9 @@ heard_both = refl
 
 -- Two messages are there. It was told so, and that the second is flagged; since then another client marked that as deleted.
 pub visitor_is_right : VisitorIsRight (within marked 3) told
-visitor_is_right = (
-  subst (IsRightAbout (counted (place_of (within marked 3)))) (sym heard_both) (knows_both, refl, ((λ n e. absurd (none-some n e)), (uid_so, tt))),
-  subst (IsRightOnFlags (place_of (within marked 3))) (sym heard_both) (knows_both, refl, ((λ names e. absurd (none-some names e)), (flags_so, tt))),
-)
+visitor_is_right =
+    subst (IsRightAt (place_of (within marked 3))) (sym heard_both)
+    (knows_both, refl, (((λ n e. absurd (none-some n e)), (λ names e. absurd (none-some names e))), ((uid_so, flags_so), tt)))
   where
     uid_so : (n : ℕ) → Some 8 ≡ Some n → n ≡ 8
     uid_so n e = cc
@@ -49,22 +48,16 @@ visitor_is_right = (
 
 -- It was told nothing, and so it believes nothing.
 knows_nothing : VisitorIsRight (within marked 3) []
-knows_nothing = (tt, tt)
+knows_nothing = tt
 
 -- ---- what doesn't
 
 module _ (selection : LockedStore) (told : List Told) (right : VisitorIsRight selection told) (list : List Known) (heard : hears_all None told ≡ Some (knowing (Some list))) where
   list_of : IsRight (counted (place_of selection)) list
-  list_of = by (subst (IsRightAbout (counted (place_of selection))) heard right.0)
-    where
-      by : IsRightAbout (counted (place_of selection)) (Some (knowing (Some list))) → IsRight (counted (place_of selection)) list
-      by (found, same, r) = subst (IsRight (counted (place_of selection))) (sym (ap (λ (c : Client). the_list c.messages) same)) r
+  list_of = is_right_list (place_of selection) list (subst (IsRightAt (place_of selection)) heard right)
 
   flags_of : KnowsFlags (place_of selection) list
-  flags_of = by (subst (IsRightOnFlags (place_of selection)) heard right.1)
-    where
-      by : IsRightOnFlags (place_of selection) (Some (knowing (Some list))) → KnowsFlags (place_of selection) list
-      by (found, same, r) = subst (KnowsFlags (place_of selection)) (sym (ap (λ (c : Client). the_list c.messages) same)) r
+  flags_of = is_right_flags (place_of selection) list (subst (IsRightAt (place_of selection)) heard right)
 
 abbrev told_select : (count : ℕ) → List Told
 told_select count = Answer select_line (answer_to_select count) ∷ []
@@ -140,10 +133,9 @@ older right = let byte : 0 ≡ 83 = flags_of_first _ ((flags_of (within marked 4
 
 -- Before it was shown that, this was right.
 not_yet_older : VisitorIsRight (within marked 3) (told_fetch (codes "* 1 FETCH (FLAGS ())\r\n"))
-not_yet_older = (
-  subst (IsRightAbout (counted (place_of (within marked 3)))) (sym heard_none) (_, refl, ((λ n e. absurd (none-some n e)), ((λ n e. absurd (none-some n e)), tt))),
-  subst (IsRightOnFlags (place_of (within marked 3))) (sym heard_none) (_, refl, (flags_so, ((λ names e. absurd (none-some names e)), tt))),
-)
+not_yet_older =
+    subst (IsRightAt (place_of (within marked 3))) (sym heard_none)
+    (_, refl, (((λ n e. absurd (none-some n e)), flags_so), (((λ n e. absurd (none-some n e)), (λ names e. absurd (none-some names e))), tt)))
   where
     flags_so : (names : List (List ℕ)) → ◌≡◌ {A = Option (List (List ℕ))} (Some []) (Some names) → FlagsOf (changes_in 0 marked) 3 7 names
     flags_so names e = record { moment = 3; since = omega arith; until = omega arith; flags = no_flags; had = refl; named = named }
