@@ -100,7 +100,7 @@ first_standing k user = begun_with (admitted_in k user) (folders_of k.directory 
 
 -- ---- what it appended
 
--- A client sent a message so (RFC 9051, 6.3.12): by this APPEND, under this tag; its text, as the literal that was announced; and the CRLF behind that.
+-- A client sent a message so (RFC 9051, 6.3.12): this APPEND, under this tag; its text, as the literal that was announced; and the CRLF behind that.
 pub record SendsMessage (sent tag : List ℕ) (append : Append) (text : List ℕ) : Type 0 where
   pub front : List ℕ
   pub bytes : List ℕ
@@ -112,8 +112,8 @@ pub record SendsMessage (sent tag : List ℕ) (append : Append) (text : List ℕ
   pub whole : sent ≡ front ++ (bytes ++ crlf) ++ text ++ crlf ++ behind
 
 module _ (k : Setup) (place : ℕ) (w : World) (seen : Seen) where
-  -- These words tell a client the UID of a message that it sent under this tag (RFC 4315, 3). It stands under that in the mailbox that was named, once,
-  -- with the text, the date and the flags that were sent, as a copy of the session with this serial.
+  -- These words tell a client the UID of a message that it sent under this tag (RFC 4315, 3). It stands under that in the mailbox that was named,
+  -- once, with the text, the date and the flags that were sent, as a copy of the session with this serial.
   pub record TellsOfMessage (serial : ℕ) (tag words : List ℕ) : Type 0 where
     pub append : Append
     pub copy : Job

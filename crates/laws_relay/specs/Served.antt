@@ -49,7 +49,7 @@ abbrev pub talk_on : {house : Premises} {seat connections : ℕ} {spoken : List 
     → HaveConversed house seat connections spoken judged → ℕ → List ℕ × List Reply
 talk_on none serial = ([], [])
 talk_on (passed {n} before) serial = if serial == n then ([], []) else talk_on before serial
-talk_on (next {n} bytes replies more at dropped written failed before taken are) serial = if serial == n then (bytes, replies) else talk_on before serial
+talk_on (next {n} bytes replies _ _ _ _ _ before _ _) serial = if serial == n then (bytes, replies) else talk_on before serial
 
 pub record WorkerConcludes (house : Premises) (seat : ℕ) (history : List Event) {connections : ℕ} {spoken : List Spoken} {judged : List Judged}
     (conversed : HaveConversed house seat connections spoken judged) : Type 0 where
