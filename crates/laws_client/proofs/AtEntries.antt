@@ -126,7 +126,7 @@ fresh_current : (k : Config) (events : List Event) (n : ℕ) (first : Came) (beg
     → (list : List Known) × (hears_all None told ≡ Some (knowing (Some list))) × IsRight (messages_of (w.box s.mailbox)) list
 fresh_current k events n first began base told more w h is short stands grown (untold e) front line tag bytes ending command client s last reads shows wrote knows at =
     absurd (omega (arith, ap length (sym e ∙ grown), length-append base more, ap length last, length-append front (Answer line bytes ∷ [])))
-fresh_current k events n first began base told more w h is short stands grown (turned new sent now u lives happening came turn for printed e leads met) front line tag bytes ending command client s last reads shows wrote knows at =
+fresh_current k events n first began base told more w h is short stands grown (turned new sent now u lives happening turn printed e leads met) front line tag bytes ending command client s last reads shows wrote knows at =
     let all : told ≡ (base ++ front) ++ Answer line bytes ∷ [] = grown ∙ ap (λ (x : List Told). base ++ x) last ∙ sym (append_assoc base front (Answer line bytes ∷ [])) in
     let both = last_same (base ++ new) (base ++ front) (told_of now happening turn.bytes) (Answer line bytes) (sym e ∙ all) in
     let a = answers_line now happening turn line bytes both.1 in
@@ -142,12 +142,12 @@ fresh_done : (k : Config) (events : List Event) (n : ℕ) (first : Came) (began 
     → (list : List Known) × (hears_all None told ≡ Some (knowing (Some list))) × IsRight (messages_of (w.box s.mailbox)) list
 fresh_done k events n first began base told more w h is short stands tags grown (untold e) front tag words bytes client s last ends knows at =
     absurd (omega (arith, ap length (sym e ∙ grown), length-append base more, ap length last, length-append front (Words bytes ∷ [])))
-fresh_done k events n first began base told more w h is short stands tags grown (turned new sent now u lives happening came turn for printed e leads met) front tag words bytes client s last ends knows at =
+fresh_done k events n first began base told more w h is short stands tags grown (turned new sent now u lives happening turn printed e leads met) front tag words bytes client s last ends knows at =
     let all : told ≡ (base ++ front) ++ Words bytes ∷ [] = grown ∙ ap (λ (x : List Told). base ++ x) last ∙ sym (append_assoc base front (Words bytes ∷ [])) in
     let both = last_same (base ++ new) (base ++ front) (told_of now happening turn.bytes) (Words bytes) (sym e ∙ all) in
     let wrote : bytes ≡ turn.bytes = sym (ap bytes_in both.1) ∙ told_bytes now happening turn.bytes in
-    let c = words_make_current k events n first.standing began sent (base ++ front) now u client happening came turn w bytes s h is short stands tags
-    (subst (λ (t : List Told). Lives k n first.standing began sent t now u) both.0 lives) knows for printed leads met both.1 wrote (tag, words, ends) at in
+    let c = words_make_current k events n first.standing began sent (base ++ front) now u client happening turn w bytes s h is short stands tags
+    (subst (λ (t : List Told). Lives k n first.standing began sent t now u) both.0 lives) knows printed leads met both.1 wrote (tag, words, ends) at in
     (c.0, ap (hears_all None) all ∙ c.1, c.2)
 
 -- ---- the entry

@@ -1,7 +1,6 @@
 -- What the life of an attended client is, and what that refuses: one thing at a time is wrong. Above each stands what would have happened.
-use Rattle.std.proofs.Common.{◌≡◌, ◌≢◌, ◌⊎◌, inl, inr, ◌≤◌, ◌==◌, ◌||◌, ℕ, Bool, true, false, List, [], ◌∷◌, ◌++◌, length, take, drop, refl, Option, Some, None, ap, sym, subst, ◌∙◌, append-nil, append_assoc, if◌then◌else◌, arith}
+use Rattle.std.proofs.Common.{◌≡◌, ◌≢◌, ◌⊎◌, inl, inr, ◌≤◌, ◌||◌, ℕ, Bool, true, false, List, [], ◌∷◌, ◌++◌, length, take, drop, refl, Option, Some, None, ap, sym, subst, ◌∙◌, append-nil, append_assoc, if◌then◌else◌, arith}
 use Rattle.std.specs.Prelude.{codes, flat_map}
-use Rattle.std.specs.List.{list_any}
 use Rattle.std.specs.Fmt.{digits}
 use Rattle.std.specs.Io.KnownBytes.{Appends}
 use Rattle.std.proofs.KnownBytes.{Appends-trans}
@@ -9,7 +8,7 @@ use Rattle.std.proofs.lemmas.Bool.{false≢true}
 use Rattle.std.proofs.lemmas.Grind.{flat_map-append}
 use Rattle.std.proofs.lemmas.List.{length-append}
 use Rattle.std.proofs.lemmas.Option.{none-some}
-use Rattle.line_io.specs.Wire.{EndsInCr, IsUncut, crlf}
+use Rattle.line_io.specs.Wire.{EndsInCr, crlf}
 use Rattle.delivery_token.specs.declared.Verdict.TheVariants.{Stored}
 use Rattle.house_history.specs.declared.event.Event as house
 use Rattle.house_history.specs.declared.event.Event.TheVariants.{Judged}
@@ -31,6 +30,7 @@ use Rattle.session_thread.specs.Locks.{LockedStore}
 use Rattle.imap_stream.specs.declared.client_slot.Parting.{Parting}
 use Rattle.imap_stream.specs.declared.client_slot.Parting.TheVariants.{Broken, Gone, Over, Stopped}
 use Rattle.imap_stream.specs.Visits.{Beginning, EndsSo, HasAttended, HasLived, IsCutShort, IsQuiet, said_in, SendsFirst, Visit, farewell, is_over, takes_bytes}
+use Rattle.laws_client.proofs.Bytes.{uncut}
 use Rattle.laws_client.specs.rows.HistoryRows.{first, outside, within}
 
 -- ---- a visit
@@ -55,10 +55,10 @@ ended bytes = record (taking bytes) { closed = true }
 abbrev hello : List ℕ
 hello = greeting Standard
 
-abbrev noop : List ℕ
+abbrev pub noop : List ℕ
 noop = codes "a NOOP\r\n"
 
-abbrev answer : List ℕ
+abbrev pub answer : List ℕ
 answer = codes "a OK NOOP completed\r\n"
 
 abbrev told_noop : List ℕ → List Told
@@ -72,16 +72,6 @@ no_cr (before, is) = let size = ap length is ∙ length-append before (13 ∷ []
 abbrev first_of : List ℕ → ℕ
 first_of [] = 0
 first_of (x ∷ xs) = x
-
--- what has no CR is one line
-uncut : (line : List ℕ) → list_any (λ b. b == 13) line ≡ false → IsUncut line
-uncut [] free (front, back, is) = let size = ap length is ∙ length-append front (13 ∷ 10 ∷ back) in omega (arith, size)
-uncut (x ∷ line) free ([], back, is) = false≢true (sym free ∙ ap (λ (y : ℕ). (y == 13) || list_any (λ b. b == 13) line) (ap first_of is))
-uncut (x ∷ line) free (y ∷ front, back, is) = by (x == 13) free (λ f. uncut line f (front, back, ap (drop 1) is))
-  where
-    by : (b : Bool) → (b || list_any (λ b. b == 13) line) ≡ false → (list_any (λ b. b == 13) line ≡ false → ⊥) → ⊥
-    by true f further = false≢true (sym f)
-    by false f further = further f
 
 is_afresh : StandsFor link (record { standing = standing; begun = [] })
 is_afresh = record {
@@ -262,7 +252,7 @@ noop_turn [] turn e =
 noop_turn (one ∷ more) turn e = absurd cc
 
 -- Either nothing was sent, and nothing is told, or NOOP, and the answer to that is.
-abbrev Tells : (sent said : List ℕ) → Type 0
+abbrev pub Tells : (sent said : List ℕ) → Type 0
 Tells sent said = ((sent ≡ []) × (said ≡ [])) ⊎ ((sent ≡ noop) × (said ≡ answer))
 
 -- a turn by which nothing is done
@@ -295,14 +285,14 @@ noop_line (a ∷ b ∷ c ∷ d ∷ x ∷ []) rest e = cc
 noop_line (a ∷ b ∷ c ∷ d ∷ x ∷ y ∷ []) rest e = cc
 noop_line (a ∷ b ∷ c ∷ d ∷ x ∷ y ∷ z ∷ line) rest e = absurd (let size = sym (length-append line (13 ∷ 10 ∷ rest)) ∙ ap (λ (l : List ℕ). length (drop 7 l)) e in omega (arith, size))
 
-first_line : (before bytes rest said line : List ℕ) → (before ++ bytes) ++ rest ≡ noop → Tells before said → bytes ≡ line ++ crlf → line ≡ codes "a NOOP"
+pub first_line : (before bytes rest said line : List ℕ) → (before ++ bytes) ++ rest ≡ noop → Tells before said → bytes ≡ line ++ crlf → line ≡ codes "a NOOP"
 first_line before bytes rest said line e (inl (none, silent)) is =
     noop_line line rest (sym (append_assoc line crlf rest) ∙ ap (λ (l : List ℕ). l ++ rest) (sym is) ∙ ap (λ (l : List ℕ). (l ++ bytes) ++ rest) (sym none) ∙ e)
 first_line before bytes rest said line e (inr (all, answered)) is =
     absurd (let whole = sym (length-append (before ++ bytes) rest) ∙ ap length e in let both = length-append before bytes in let front = ap length all in
     let back = ap length is ∙ length-append line crlf in omega (arith, whole, both, front, back))
 
-joins : (before bytes rest a b : List ℕ) → (before ++ bytes) ++ rest ≡ noop → Tells before a → Tells bytes b → Tells (before ++ bytes) (a ++ b)
+pub joins : (before bytes rest a b : List ℕ) → (before ++ bytes) ++ rest ≡ noop → Tells before a → Tells bytes b → Tells (before ++ bytes) (a ++ b)
 joins before bytes rest a b e (inl (x, u)) (inl (y, v)) = inl (ap (λ (l : List ℕ). l ++ bytes) x ∙ y, ap (λ (l : List ℕ). l ++ b) u ∙ v)
 joins before bytes rest a b e (inl (x, u)) (inr (y, v)) = inr (ap (λ (l : List ℕ). l ++ bytes) x ∙ y, ap (λ (l : List ℕ). l ++ b) u ∙ v)
 joins before bytes rest a b e (inr (x, u)) (inl (y, v)) =

@@ -8,6 +8,7 @@ use Rattle.std.proofs.lemmas.Grind.{reverse_onto}
 use Rattle.std.proofs.lemmas.List.{reverse-reverse, append-nil}
 use Rattle.std.proofs.lemmas.List.Folds.{list_all-append}
 use Rattle.imap_grammar.specs.Bytes.{is_digit}
+use Rattle.line_io.specs.Wire.{IsUncut}
 use Rattle.laws_client.specs.Client.{Client, Messages, knowing, reads, on_byte, line_ends, literal_of, number}
 use Rattle.laws_client.specs.ListTurns.{is_inner}
 use Rattle.laws_client.specs.ListLaws.{within}
@@ -35,6 +36,12 @@ inner_byte o (c ∷ line) b h = by (b == 10) h
 pub both : (a b : Bool) → (a && b) ≡ true → (a ≡ true) × (b ≡ true)
 both true b e = (refl, e)
 both false b e = absurd (false≢true e)
+
+-- where no LF is there is no CRLF
+pub uncut : (text : List ℕ) → list_all is_inner text ≡ true → IsUncut text
+uncut text h (front, back, is) =
+    let all : (list_all is_inner front && false) ≡ true = sym (list_all-append is_inner front (13 ∷ 10 ∷ back)) ∙ sym (ap (list_all is_inner) is) ∙ h in
+    false≢true (both (list_all is_inner front) false all).1
 
 pub first_of : (p : ℕ → Bool) (b : ℕ) (bs : List ℕ) → list_all p (b ∷ bs) ≡ true → p b ≡ true
 first_of p b bs h = (both (p b) (list_all p bs) h).0

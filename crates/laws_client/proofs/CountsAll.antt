@@ -52,7 +52,7 @@ ok_fed now happening selected turn one tags there leads told (of_other tag words
 
 lives_sound : (k : Config) (n : ℕ) (first : Standing) (began : World) {sent : List ℕ} {told : List Told} {now : Standing} {w : World} → Sound k began → Lives k n first began sent told now w → Sound k w
 lives_sound k n first began S comes = S
-lives_sound k n first began S (turns {w = w} lives happening bytes turn v sent printed e met) = sound_met k n w turn.events v (lives_sound k n first began S lives) met
+lives_sound k n first began S (turns {w = w} lives happening bytes turn v timely sent printed e met) = sound_met k n w turn.events v (lives_sound k n first began S lives) met
 lives_sound k n first began S (others {w = w} lives event v o step) = sound_step k w event v (lives_sound k n first began S lives) step
 
 -- where it has selected none it counts nothing

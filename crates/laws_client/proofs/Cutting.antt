@@ -73,7 +73,7 @@ one_more (t ∷ ts) one h k = (h.0, one_more ts one h.1 k)
 lives_cut : (k : Config) (n : ℕ) (first : Standing) (began : World) {sent : List ℕ} {told : List Told} {now : Standing} {w : World} → HasSmallNumbers k → Sound k began → Stands first → AreTagsOf IsWord first
     → Lives k n first began sent told now w → HasShortTexts w → EachIsOne told
 lives_cut k n first began h S stands words comes short = tt
-lives_cut k n first began h S stands words (turns {told = told} {now = now} {w = w} lives happening bytes turn v sent printed e met) short =
+lives_cut k n first began h S stands words (turns {told = told} {now = now} {w = w} lives happening bytes turn v timely sent printed e met) short =
     let short_w = short_met k n w turn.events v met short in
     let K = lives_known k n first began h S stands lives short_w in
     let sees = sees_all k n w turn.events v h K.sound short met in
@@ -115,7 +115,7 @@ turn_own now (Heard verdict answers) turn names e short = tt
 lives_own : (k : Config) (n : ℕ) (first : Standing) (began : World) {sent : List ℕ} {told : List Told} {now : Standing} {w : World} → HasSmallNumbers k → Sound k began → Stands first
     → Lives k n first began sent told now w → HasShortTexts w → AreOwn told
 lives_own k n first began h S stands comes short = tt
-lives_own k n first began h S stands (turns {told = told} {now = now} {w = w} lives happening bytes turn v sent printed e met) short =
+lives_own k n first began h S stands (turns {told = told} {now = now} {w = w} lives happening bytes turn v timely sent printed e met) short =
     let short_w = short_met k n w turn.events v met short in
     let K = lives_known k n first began h S stands lives short_w in
     let sees = sees_all k n w turn.events v h K.sound short met in

@@ -23,12 +23,10 @@ use Rattle.imap_session.specs.Exchange.{Answer, Fed, Refused, PendingLiteral, Ev
 use Rattle.imap_session.specs.Commands.{completed, on_idle_line, says, showing, turn_behind, turn_while, unlimited, without_begun}
 use Rattle.imap_session.specs.Store.{Met}
 use Rattle.house.specs.Meets.{Meets}
-use Rattle.line_io.specs.Wire.{crlf}
 use Rattle.imap_session.specs.Happenings.{Answer as Answer_to, Line, Told, Words, told_line, told_of, whole_in, whole_line}
 use Rattle.laws_client.specs.ListTurns.{IsTag}
 use Rattle.laws_client.proofs.Tags.{tags_are_tags}
 use Rattle.laws_client.specs.Clients.{has_ok, hears_all}
-use Rattle.laws_client.specs.HouseClients.{turns}
 use Rattle.laws_client.specs.Current.{IsAnswered}
 use Rattle.laws_client.specs.Views.{messages_of}
 use Rattle.laws_client.proofs.RecordEntering.{mapped, only_done, only_refused, refusal_has_none}
@@ -42,7 +40,7 @@ use Rattle.laws_client.specs.Flags.{Believes, BelievesNow, Point}
 use Rattle.laws_client.specs.Worlds.{DoneTellsFlags, HasFlagsNow, NoopTellsFlags, NothingPendingTellsFlags}
 use Rattle.laws_client.specs.HouseClients.{point_of}
 use Rattle.laws_client.specs.Flags.{IsRightOnFlags}
-use Rattle.laws_client.proofs.FlagKnown.{lives_flags}
+use Rattle.laws_client.proofs.FlagKnown.{flags_behind, lives_flags}
 use Rattle.laws_client.proofs.Moments.{flags_are_current}
 use Rattle.laws_client.proofs.FlagWorlds.{the_point}
 use Rattle.imap_session.specs.declared.texts.ResponseText.TheVariants as texts
@@ -155,7 +153,7 @@ pub noop_tells_flags : NoopTellsFlags
 noop_tells_flags k events n first began sent told now w line whole tag turn v s h is short stands lives a came reads ok at =
     let S = sound_always k events began h is in
     let before = lives_flags k n first began h S stands lives (short_met k n w turn.events v a.met short) in
-    let after = lives_flags k n first began h S stands (turns lives (Line line a.answers) (line ++ crlf) turn v refl tt a.answered a.met) short in
+    let after = flags_behind k n told now w (Line line a.answers) turn v h short before tt a.answered a.met in
     let told_is : told_of now (Line line a.answers) turn.bytes ≡ Answer_to whole turn.bytes = ap (λ (o : Option (List ℕ)). told_line o turn.bytes) came in
     flags_now v n s (hears_all None (told ++ Answer_to whole turn.bytes ∷ [])) at (noop_at_end k n now line whole tag w turn v before.sound.kept a came reads ok s at)
     (subst (λ (one : Told). IsRightOnFlags (point_of v n) (hears_all None (told ++ one ∷ []))) told_is after.right)
@@ -164,7 +162,7 @@ pub done_tells_flags : DoneTellsFlags
 done_tells_flags k events n first began sent told now w line tag turn v s h is short stands lives a begun idling done ok at =
     let S = sound_always k events began h is in
     let before = lives_flags k n first began h S stands lives (short_met k n w turn.events v a.met short) in
-    let after = lives_flags k n first began h S stands (turns lives (Line line a.answers) (line ++ crlf) turn v refl tt a.answered a.met) short in
+    let after = flags_behind k n told now w (Line line a.answers) turn v h short before tt a.answered a.met in
     let none : whole_line now line ≡ None = ap (λ (b : Option PendingLiteral). whole_in b now.idling line) begun ∙ ap (λ (i : Option (List ℕ)). whole_in None i line) idling in
     let told_is : told_of now (Line line a.answers) turn.bytes ≡ Words turn.bytes = ap (λ (o : Option (List ℕ)). told_line o turn.bytes) none in
     flags_now v n s (hears_all None (told ++ Words turn.bytes ∷ [])) at (done_at_end k n now line tag w turn v before.sound.kept a begun idling done ok s at)

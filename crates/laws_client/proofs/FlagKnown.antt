@@ -1,5 +1,5 @@
 -- A turn of a session, and its whole life, as they tell its client flags.
-use Rattle.std.proofs.Common.{◌≡◌, ℕ, true, false, List, refl, sym, subst, ap}
+use Rattle.std.proofs.Common.{◌≡◌, ℕ, true, false, List, [], ◌∷◌, ◌++◌, refl, sym, subst, ap}
 use Rattle.std.specs.Prelude.{Option, Some, None, Result, Ok, Err, not}
 use Rattle.world.specs.World.{Config, World}
 use Rattle.imap_grammar.specs.Reading.{read}
@@ -157,17 +157,22 @@ pub record KnownFlags (k : Config) (n : ℕ) (told : List Told) (now : Standing)
   pub stands : Stands now
   pub right : IsRightOnFlags (point_of w n) (hears_all None told)
 
+-- what is known behind a turn, by what was known before it, whether the turn was due or not
+pub flags_behind : (k : Config) (n : ℕ) (told : List Told) (now : Standing) (w : World) (happening : Happening) (turn : Turn) (v : World) → HasSmallNumbers k → HasShortTexts v → KnownFlags k n told now w
+    → VerdictsArePrinted happening → leads_to now happening ≡ Some turn → Met (Calls k n) w turn.events v → KnownFlags k n (told ++ told_of now happening turn.bytes ∷ []) turn.standing v
+flags_behind k n told now w happening turn v h short K printed e met = record {
+  sound = sound_met k n w turn.events v K.sound met;
+  stands = stands_still now happening turn K.stands e;
+  right = subst (λ (c : Option Client). IsRightOnFlags (point_of v n) c) (sym (hears_last None told (told_of now happening turn.bytes)))
+      (turn_flags k n now w happening turn v (hears_all None told) h K.sound short K.stands printed e met K.right);
+}
+
 -- the last turn comes after all that was known before it
 pub lives_flags : (k : Config) (n : ℕ) (first : Standing) (began : World) {sent : List ℕ} {told : List Told} {now : Standing} {w : World} → HasSmallNumbers k → Sound k began → Stands first
     → Lives k n first began sent told now w → HasShortTexts w → KnownFlags k n told now w
 lives_flags k n first began h S stands comes short = record { sound = S; stands = stands; right = tt }
-lives_flags k n first began h S stands (turns {told = told} {now = now} {w = w} lives happening bytes turn v sent printed e met) short =
-    let K = lives_flags k n first began h S stands lives (short_met k n w turn.events v met short) in record {
-      sound = sound_met k n w turn.events v K.sound met;
-      stands = stands_still now happening turn K.stands e;
-      right = subst (λ (c : Option Client). IsRightOnFlags (point_of v n) c) (sym (hears_last None told (told_of now happening turn.bytes)))
-          (turn_flags k n now w happening turn v (hears_all None told) h K.sound short K.stands printed e met K.right);
-    }
+lives_flags k n first began h S stands (turns {told = told} {now = now} {w = w} lives happening bytes turn v timely sent printed e met) short =
+    flags_behind k n told now w happening turn v h short (lives_flags k n first began h S stands lives (short_met k n w turn.events v met short)) printed e met
 lives_flags k n first began h S stands (others {told = told} {now = now} {w = w} lives event v o step) short =
     let K = lives_flags k n first began h S stands lives (short_before w v (λ m. goes_extends k (w.box m) (v.box m) (box_goes k w event v m step)) short) in record {
       sound = sound_step k w event v K.sound step;

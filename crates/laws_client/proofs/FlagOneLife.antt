@@ -15,6 +15,7 @@ use Rattle.world.specs.First.{one_copy}
 use Rattle.imap_session.specs.Happenings.{Line}
 use Rattle.laws_client.specs.HouseClients.{turns}
 use Rattle.laws_client.specs.RecordLife.{one_last}
+use Rattle.laws_client.proofs.Bytes.{uncut}
 use Rattle.laws_client.proofs.RecordOneLife.{one_life_is_lived, selects, shows_it}
 use Rattle.laws_client.specs.FlagLife.{OneLifeKnowsFlags}
 
@@ -38,7 +39,7 @@ one_life_knows_flags = (
   _,
   turns
       one_life_is_lived.1
-      (Line (codes "a3 STORE 1 +FLAGS (\\Flagged)") (Looked (1 ∷ []) ∷ Altered (Some flagged) ∷ [])) (codes "a3 STORE 1 +FLAGS (\\Flagged)\r\n") sets_it _ refl tt refl (
+      (Line (codes "a3 STORE 1 +FLAGS (\\Flagged)") (Looked (1 ∷ []) ∷ Altered (Some flagged) ∷ [])) (codes "a3 STORE 1 +FLAGS (\\Flagged)\r\n") sets_it _ (refl, refl, omega arith, uncut (codes "a3 STORE 1 +FLAGS (\\Flagged)") refl) refl tt refl (
         _,
         (refl, (_, refl, refl)),
         (

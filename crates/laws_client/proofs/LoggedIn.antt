@@ -108,7 +108,7 @@ turn_logged_in now happening turn h e = by now.login refl h
 
 lives_logged_in : (k : Config) (n : ℕ) (first : Standing) (began : World) {sent : List ℕ} {told : List Told} {now : Standing} {w : World} → HasLoggedIn first → Lives k n first began sent told now w → HasLoggedIn now
 lives_logged_in k n first began h comes = h
-lives_logged_in k n first began h (turns {now = now} lives happening bytes turn v sent printed e met) = turn_logged_in now happening turn (lives_logged_in k n first began h lives) e
+lives_logged_in k n first began h (turns {now = now} lives happening bytes turn v timely sent printed e met) = turn_logged_in now happening turn (lives_logged_in k n first began h lives) e
 lives_logged_in k n first began h (others lives event v o step) = lives_logged_in k n first began h lives
 
 pub login_comes_first : LoginComesFirst

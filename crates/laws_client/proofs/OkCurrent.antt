@@ -22,7 +22,6 @@ use Rattle.imap_session.specs.declared.standing.Selected.{Selected}
 use Rattle.imap_session.specs.Exchange.{Call, Answer, Event, Looked, Found, Counted, Altered, Expunged, Fed, Exchange, Done, Wait, Write, Put, Enter, Look, Read, Count, Alter, Expunge, Feed, Leave, Standing, Turn, closed, played, refusal_text, refused, saying, tagged, Discard, Discarded}
 use Rattle.imap_session.specs.Commands.{on_command, turn_of, says, unlimited, without_begun}
 use Rattle.laws_client.specs.ListTurns.{IsTag}
-use Rattle.line_io.specs.Wire.{crlf}
 use Rattle.imap_session.specs.Happenings.{Answer as Answer_to, Line, Told, told_line, told_of, whole_line}
 use Rattle.laws_client.proofs.Reading.{asked_by}
 use Rattle.laws_client.proofs.Tags.{tags_are_tags}
@@ -34,9 +33,8 @@ use Rattle.laws_client.specs.Clients.{IsRight}
 use Rattle.laws_client.specs.Client.{Client, Known, knowing, reads}
 use Rattle.laws_client.specs.Selecting.{Known_selected}
 use Rattle.laws_client.proofs.Selecting.{knowing_is_selected}
-use Rattle.laws_client.specs.HouseClients.{turns}
 use Rattle.laws_client.specs.Views.{messages_of, view_of}
-use Rattle.laws_client.proofs.Living.{hears_last, lives_known}
+use Rattle.laws_client.proofs.Living.{hears_last, known_behind, lives_known}
 use Rattle.laws_client.proofs.Moved.{short_met}
 use Rattle.laws_client.proofs.RecordWorlds.{sound_always}
 use Rattle.imap_session.specs.declared.texts.ResponseText.TheVariants as texts
@@ -267,7 +265,7 @@ pub lists_are_current : ListsAreCurrent
 lists_are_current k events n first began sent told now w client line whole tag command answers turn v front s h is short stands lives knows answer met came reads_as shows bytes at =
     let short_w = short_met k n w turn.events v met short in
     let before = lives_known k n first began h (sound_always k events began h is) stands lives short_w in
-    let after = lives_known k n first began h (sound_always k events began h is) stands (turns lives (Line line answers) (line ++ crlf) turn v refl tt answer met) short in
+    let after = known_behind k n told now w (Line line answers) turn v h short before tt answer met in
     let chosen : Known_selected (Some client) now = subst (λ (c : Option Client). Known_selected c now) knows (knowing_is_selected k n first began sent told now w lives) in
     let a : IsAnswered k n now line w turn v = record { selected = chosen.0; there = chosen.1; stands = before.stands; answers = answers; answered = answer; met = met } in
     let told_is : told_of now (Line line answers) turn.bytes ≡ Answer_to whole turn.bytes = ap (λ (o : Option (List ℕ)). told_line o turn.bytes) came in

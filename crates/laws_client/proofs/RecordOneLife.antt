@@ -14,6 +14,7 @@ use Rattle.imap_session.specs.Happenings.{Line}
 use Rattle.laws_client.specs.HouseClients.{comes, turns, others}
 use Rattle.laws_client.specs.RecordLife.{OneLifeIsLived, one_last}
 use Rattle.world.proofs.FirstRun.{box}
+use Rattle.laws_client.proofs.Bytes.{uncut}
 
 unfoldable pub selects : Turn
 selects = record {
@@ -36,7 +37,7 @@ one_life_is_lived = (
       (others
       (others
       (others
-      (turns comes (Line (codes "a1 SELECT INBOX") (Entered (record { count = 0; uidvalidity = 1; uidnext = 1 }) ∷ [])) (codes "a1 SELECT INBOX\r\n") selects _ refl tt refl
+      (turns comes (Line (codes "a1 SELECT INBOX") (Entered (record { count = 0; uidvalidity = 1; uidnext = 1 }) ∷ [])) (codes "a1 SELECT INBOX\r\n") selects _ (refl, refl, omega arith, uncut (codes "a1 SELECT INBOX") refl) refl tt refl
       (_, (enters (omega arith) (omega arith) refl (omega arith) refl, (_, refl, refl), (refl, refl), refl), refl))
       (Put 0 0 one_copy) _ tt
       (put_joins (record { seat = omega arith; own = refl; mailbox = omega arith; shard = (omega arith, refl); above_sent = λ t i d l. absurd (omega arith); above_heard = λ i d l. absurd (omega arith) }) refl (omega arith) refl))
@@ -44,7 +45,7 @@ one_life_is_lived = (
       (Deliver 0) _ tt (delivers one_copy box refl (omega arith, omega arith) (omega arith) (record { room = omega arith; log = refl; base = inl refl; accepted = refl }) refl))
       (AnswerEvent 0) _ tt (answers one_reply refl (omega arith) refl))
       (Hear 0) _ tt (hears_one 0 one_reply [] refl refl))
-      (Line (codes "a2 NOOP") (Fed [] (Add 1 ∷ []) ∷ [])) (codes "a2 NOOP\r\n") shows_it _ refl tt refl (
+      (Line (codes "a2 NOOP") (Fed [] (Add 1 ∷ []) ∷ [])) (codes "a2 NOOP\r\n") shows_it _ (refl, refl, omega arith, uncut (codes "a2 NOOP") refl) refl tt refl (
         _,
         (
           (_, refl, mails box (omega arith) (record { room = omega arith; log = refl; base = refl; accepted = refl }) refl),

@@ -322,7 +322,7 @@ turn_sel now (Heard verdict answers) turn client e k = reads_sel turn.bytes clie
 
 knowing_sel : (k : Config) (n : ℕ) (first : Standing) (began : World) {sent : List ℕ} {told : List Told} {now : Standing} {w : World} → Lives k n first began sent told now w → Known_selected (hears_all None told) now
 knowing_sel k n first began comes = tt
-knowing_sel k n first began (turns {told = heard} {now = now} lives happening bytes turn v sent printed e met) =
+knowing_sel k n first began (turns {told = heard} {now = now} lives happening bytes turn v timely sent printed e met) =
     subst (λ (c : Option Client). Known_selected c turn.standing) (sym (hears_last None heard (told_of now happening turn.bytes)))
     (turn_sel now happening turn (hears_all None heard) e (knowing_sel k n first began lives))
 knowing_sel k n first began (others lives event v o step) = knowing_sel k n first began lives

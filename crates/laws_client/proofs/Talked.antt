@@ -1,6 +1,6 @@
 -- What a session answers and says goes on from what it answered and said before.
 use Rattle.std.proofs.Common.{◌≡◌, ℕ, List, [], ◌∷◌, ◌++◌, Contains, refl, sym, subst, ap, ap₂, ◌∙◌, append-nil, append_assoc}
-use Rattle.std.specs.Prelude.{Bool, IfSome, Option, Some, None, flat_map}
+use Rattle.std.specs.Prelude.{Bool, false, IfSome, Option, Some, None, flat_map}
 use Rattle.std.proofs.lemmas.Grind.{flat_map-append}
 use Rattle.line_io.specs.Wire.{IsUncut, crlf}
 use Rattle.delivery_token.specs.declared.Verdict.{Verdict}
@@ -15,7 +15,7 @@ use Rattle.imap_session.specs.Dialogue as dialogue
 use Rattle.imap_session.specs.Dialogue.{AnswersLine, AnswersOne, Converses, Sends, goes_on, parts, reads, silent, spelled, too_long}
 use Rattle.house_peers.specs.Visitor.{Visitor, GoesOn, IsAnswered, SeatedVisitor, Works, keys_of, sent_by}
 use Rattle.house_peers.specs.Visitor as seated
-use Rattle.imap_session.specs.Happenings.{Happening, Heard, IsPrinted, IsSentFor, Line, Literal, LongLine, Told, Turned, bytes_in, leads_to, told_of}
+use Rattle.imap_session.specs.Happenings.{Happening, Heard, IsPrinted, IsSentFor, IsTimely, Line, Literal, LongLine, Told, Turned, bytes_in, leads_to, told_of}
 use Rattle.laws_client.specs.HouseClients.{comes, turns, others}
 use Rattle.laws_client.specs.HouseClients.{Lives}
 use Rattle.laws_client.specs.HouseClients.{IsOfOthers}
@@ -55,11 +55,11 @@ turn_notes k n first sent bytes told now w happening turn v t so for e met =
 
 -- a turn
 pub talked_turn : (k : Config) (n : ℕ) (first : Came) (began : World) (sent said : List ℕ) (now : Standing) (w : World) (happening : Happening) (bytes : List ℕ) (turn : Turn) (v : World)
-    → Talked k n first began sent said now w → IsSentFor happening bytes → HappensSo k first w now happening → leads_to now happening ≡ Some turn → Met (Calls k n) w turn.events v
+    → Talked k n first began sent said now w → IsTimely now happening → IsSentFor happening bytes → HappensSo k first w now happening → leads_to now happening ≡ Some turn → Met (Calls k n) w turn.events v
     → Talked k n first began (sent ++ bytes) (said ++ turn.bytes) turn.standing v
-talked_turn k n first began sent said now w happening bytes turn v t is so e met = record {
+talked_turn k n first began sent said now w happening bytes turn v t timely is so e met = record {
   told = t.told ++ told_of now happening turn.bytes ∷ [];
-  lives = turns t.lives happening bytes turn v is (so_printed k first w now happening so) e met;
+  lives = turns t.lives happening bytes turn v timely is (so_printed k first w now happening so) e met;
   bytes = flat_map-append bytes_in t.told (told_of now happening turn.bytes ∷ [])
       ∙ ap₂ (λ (a b : List ℕ). a ++ b) t.bytes (append-nil (bytes_in (told_of now happening turn.bytes)) ∙ told_bytes now happening turn.bytes);
   notes = turn_notes k n first sent bytes t.told now w happening turn v t.notes so is e met;
@@ -79,25 +79,25 @@ talked_others k n first began sent said now w event v t o step = record {
 -- ---- what its client sends
 
 line_talked : (k : Config) (n : ℕ) (first : Came) (began : World) (sent heard : List ℕ) (now : Standing) (line : List ℕ) (old new : World) (said : List ℕ) (how : After) (next : Standing)
-    → AnswersLine (Calls k n) now line old new [] said how next → due_of now.mailing.begun ≡ 0 → IsUncut line → Talked k n first began sent heard now old → Talked k n first began (sent ++ (line ++ crlf)) (heard ++ said) next new
-line_talked k n first began sent heard now line old new said how next (reads few a) due uncut t =
+    → AnswersLine (Calls k n) now line old new [] said how next → now.ended ≡ false → due_of now.mailing.begun ≡ 0 → IsUncut line → Talked k n first began sent heard now old → Talked k n first began (sent ++ (line ++ crlf)) (heard ++ said) next new
+line_talked k n first began sent heard now line old new said how next (reads few a) live due uncut t =
     let turn : Turn = record { events = a.events; bytes = a.bytes; after = how; standing = next } in
     subst (λ (b : List ℕ). Talked k n first began (sent ++ (line ++ crlf)) (heard ++ b) next new) (sym a.wrote)
-    (talked_turn k n first began sent heard now old (Line line a.answers) (line ++ crlf) turn new t refl (due, tt) a.played a.met)
-line_talked k n first began sent heard now line old new said how next (too_long many same w h e) due uncut t =
+    (talked_turn k n first began sent heard now old (Line line a.answers) (line ++ crlf) turn new t (live, due, few, uncut) refl (due, tt) a.played a.met)
+line_talked k n first began sent heard now line old new said how next (too_long many same w h e) live due uncut t =
     subst (λ (s : Standing). Talked k n first began (sent ++ (line ++ crlf)) (heard ++ said) s new) (sym e)
     (subst (λ (b : List ℕ). Talked k n first began (sent ++ (line ++ crlf)) (heard ++ b) (turn_of_long_line now).standing new) (sym w)
-    (talked_turn k n first began sent heard now old LongLine (line ++ crlf) (turn_of_long_line now) new t (line, many, uncut, refl) (tt, tt) refl same))
+    (talked_turn k n first began sent heard now old LongLine (line ++ crlf) (turn_of_long_line now) new t (live, due) (line, many, uncut, refl) (tt, tt) refl same))
 
 one_talked : (k : Config) (n : ℕ) (first : Came) (began : World) (sent heard : List ℕ) (now : Standing) (one : Sends) (old new : World) (said : List ℕ) (how : After) (next : Standing)
     → AnswersOne (Calls k n) now one old new [] said how next → Talked k n first began sent heard now old → Talked k n first began (sent ++ spelled one) (heard ++ said) next new
-one_talked k n first began sent heard now (dialogue.Line line) old new said how next a t = line_talked k n first began sent heard now line old new said how next a.2 a.1 a.3 t
+one_talked k n first began sent heard now (dialogue.Line line) old new said how next a t = line_talked k n first began sent heard now line old new said how next a.2 a.0 a.1 a.3 t
 one_talked k n first began sent heard now (dialogue.Bytes bytes) old new said how next a t =
     let kept : Bool = a.takes.0 in
     let turn : Turn = nothing_more (may_send (with_bytes kept bytes now)) (with_bytes kept bytes now) in
     subst (λ (s : Standing). Talked k n first began (sent ++ bytes) (heard ++ said) s new) (sym a.takes.1)
     (subst (λ (b : List ℕ). Talked k n first began (sent ++ bytes) (heard ++ b) (with_bytes kept bytes now) new) (sym a.silent)
-    (talked_turn k n first began sent heard now old (Literal kept bytes) bytes turn new t refl (a.due, tt) refl a.unasked))
+    (talked_turn k n first began sent heard now old (Literal kept bytes) bytes turn new t (a.goes, a.some, a.due, a.takes.2) refl (a.due, tt) refl a.unasked))
 
 pub converses_talked : (k : Config) (n : ℕ) (first : Came) (began : World) (sent heard : List ℕ) {now next : Standing} {sends : List Sends} {old new : World} {said : List ℕ} {how : After}
     → Converses (Calls k n) now sends old new said how next → Talked k n first began sent heard now old → Talked k n first began (sent ++ flat_map spelled sends) (heard ++ said) next new
@@ -161,7 +161,7 @@ verdict_talked : (k : Config) (n : ℕ) (first : Came) (began : World) (sent hea
 verdict_talked k n first began sent heard now verdict old new said how next so a t =
     let turn : Turn = record { events = a.events; bytes = a.bytes; after = how; standing = next } in
     subst (λ (b : List ℕ). Talked k n first began (sent ++ []) (heard ++ b) next new) (sym a.wrote)
-    (talked_turn k n first began sent heard now old (Heard verdict a.answers) [] turn new t refl (so a.answers) a.played a.met)
+    (talked_turn k n first began sent heard now old (Heard verdict a.answers) [] turn new t tt refl (so a.answers) a.played a.met)
 
 same_reached : (k : Config) (n : ℕ) (first : Came) (began : World) (came heard : List ℕ) (v after : SeatedVisitor) (old new : World) (said : List ℕ) → new ≡ old → after ≡ v → said ≡ []
     → Reached k n first began came heard v.session old → Reached k n first began came (heard ++ said) after.session new
@@ -187,6 +187,6 @@ idles_reached k n first began came heard v after old new said count a waits r =
     record {
       sent = r.sent ++ [];
       talked = subst (λ (b : List ℕ). Talked k n first began (r.sent ++ []) (heard ++ b) after.standing new) (sym a.wrote)
-          (talked_turn k n first began r.sent heard v.standing old (Turned a.answers) [] turn new r.talked refl (tt, tt) a.played a.met);
+          (talked_turn k n first began r.sent heard v.standing old (Turned a.answers) [] turn new r.talked tt refl (tt, tt) a.played a.met);
       waits = r.waits ∙ ap₂ (λ (s w : List ℕ). s ++ w) (sym (append-nil r.sent)) (sym waits);
     }

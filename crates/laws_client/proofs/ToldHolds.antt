@@ -32,6 +32,7 @@ use Rattle.laws_client.specs.Clients.{EndsWith, last_line}
 use Rattle.laws_client.specs.Flags.{FlagsOf}
 use Rattle.laws_client.proofs.LastLines.{words_of_tags}
 use Rattle.laws_client.specs.HouseClients.{IsOfOthers, IsToldRight, Lives, Seen, comes, first_standing, others, seen_by_then, turns, unseen}
+use Rattle.laws_client.proofs.Bytes.{uncut}
 
 -- ---- a small house
 
@@ -124,7 +125,7 @@ pub it_selects : Lives house.config 0 standing at_first (codes "a SELECT INBOX\r
 unfolding read digits
 it_selects = turns comes (Line select_line (Entered (record { count = 2; uidnext = 9; uidvalidity = 1 }) ∷ [])) (codes "a SELECT INBOX\r\n")
     (record { events = record { call = Enter 0; answer = Entered (record { count = 2; uidnext = 9; uidvalidity = 1 }) } ∷ []; bytes = answer_to_select 2; after = afters.Go; standing = selected })
-    entered refl tt refl (entered, (world.enters (omega arith) (omega arith) refl (omega arith) refl, (the_other, refl, refl), (refl, refl), refl), refl)
+    entered (refl, refl, omega arith, uncut select_line refl) refl tt refl (entered, (world.enters (omega arith) (omega arith) refl (omega arith) refl, (the_other, refl, refl), (refl, refl), refl), refl)
 
 abbrev pub sets : Flags → world.Event
 sets flags = world.Store 1 8 (Insert flags)
@@ -138,7 +139,7 @@ lives = others (turns
     (others it_selects (sets flagged) was_flagged (of_the_other flagged) (the_other, refl, world.mails (box marked) (omega arith) (record { room = omega arith; log = refl; base = inl refl; accepted = refl }) refl))
     (Line noop_line (Fed (7 ∷ 8 ∷ []) (SetFlags 8 flagged ∷ []) ∷ [])) (codes "b NOOP\r\n")
     (record { events = record { call = Feed unlimited; answer = Fed (7 ∷ 8 ∷ []) (SetFlags 8 flagged ∷ []) } ∷ []; bytes = answer_to_noop; after = afters.Go; standing = selected })
-    was_shown refl tt refl
+    was_shown (refl, refl, omega arith, uncut noop_line refl) refl tt refl
     (was_shown, ((the_other, refl, world.mails (box marked) (omega arith) nothing refl), (the_other, refl, (record { kept = omega arith; mailbox = box marked; logs = nothing; made = refl }, record { kept = omega arith; counted = refl; handed = refl }))), refl))
     (sets was_read) at_last (of_the_other was_read) (the_other, refl, world.mails (box marked_twice) (omega arith) (record { room = omega arith; log = refl; base = inl refl; accepted = refl }) refl)
   where

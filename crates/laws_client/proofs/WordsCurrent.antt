@@ -17,7 +17,7 @@ use Rattle.imap_session.specs.Commands.{appended_words, completed, on_idle_line,
 use Rattle.imap_session.specs.Store.{Met}
 use Rattle.laws_client.specs.Clients.{EndsWith, IsRight}
 use Rattle.laws_client.specs.Client.{Client, Known, knowing, reads}
-use Rattle.imap_session.specs.Happenings.{Answer as Answer_to, Happening, Heard, IsSentFor, Line, Literal, LongLine, Told, Turned, VerdictsArePrinted, Words, leads_to, told_line, told_of, whole_line}
+use Rattle.imap_session.specs.Happenings.{Answer as Answer_to, Happening, Heard, Line, Literal, LongLine, Told, Turned, VerdictsArePrinted, Words, leads_to, told_line, told_of, whole_line}
 use Rattle.laws_client.proofs.Reading.{begins}
 use Rattle.laws_client.proofs.IdleTags.{AreTagsOf}
 use Rattle.laws_client.proofs.Talking.{happening_keeps_so}
@@ -36,7 +36,7 @@ use Rattle.laws_client.proofs.RecordEntering.{mapped, only_done, only_refused}
 use Rattle.laws_client.proofs.LastLines.{Apart, IsWord, Spares, TurnFine, apart_tells_none, refusal_apart, silence_tells_none, tagged_apart, behind_lines}
 use Rattle.laws_client.proofs.LastRests.{long_line_apart, no_apart, part_fine, rest_fine}
 use Rattle.laws_client.proofs.LastTurns.{IsFine, idle_fine, awaits_silent}
-use Rattle.laws_client.proofs.Living.{hears_last, lives_known}
+use Rattle.laws_client.proofs.Living.{hears_last, known_behind, lives_known}
 use Rattle.laws_client.proofs.Moved.{Calls, short_met}
 use Rattle.laws_client.proofs.OkCurrent.{has_list}
 use Rattle.laws_client.proofs.Selecting.{knowing_is_selected}
@@ -245,19 +245,19 @@ words_current k n now happening selected w turn v bytes K t there told e met ok 
 -- the tags that it keeps are words of tags all its life
 pub lives_words : (k : Config) (n : ℕ) (first : Standing) (began : World) {sent : List ℕ} {told : List Told} {now : Standing} {w : World} → AreTagsOf IsWord first → Lives k n first began sent told now w → AreTagsOf IsWord now
 lives_words k n first began t comes = t
-lives_words k n first began t (turns {now = now} lives happening bytes turn v sent printed e met) = happening_keeps_so IsWord (λ tag word. word) now happening turn (lives_words k n first began t lives) e
+lives_words k n first began t (turns {now = now} lives happening bytes turn v timely sent printed e met) = happening_keeps_so IsWord (λ tag word. word) now happening turn (lives_words k n first began t lives) e
 lives_words k n first began t (others lives event v o step) = lives_words k n first began t lives
 
 -- a client that knows where it is, and reads such an OK, has a list of the mailbox as it is
-pub words_make_current : (k : Config) (events : List Event) (n : ℕ) (first : Standing) (began : World) (sent : List ℕ) (told : List Told) (now : Standing) (w : World) (client : Client) (happening : Happening) (came : List ℕ) (turn : Turn) (v : World)
+pub words_make_current : (k : Config) (events : List Event) (n : ℕ) (first : Standing) (began : World) (sent : List ℕ) (told : List Told) (now : Standing) (w : World) (client : Client) (happening : Happening) (turn : Turn) (v : World)
     (bytes : List ℕ) (s : Session) → HasSmallNumbers k → IsWorld k events began → HasShortTexts v → Stands first → AreTagsOf IsWord first → Lives k n first began sent told now w → hears_all None told ≡ Some client
-    → IsSentFor happening came → VerdictsArePrinted happening → leads_to now happening ≡ Some turn → Met (Calls k n) w turn.events v → told_of now happening turn.bytes ≡ Words bytes → bytes ≡ turn.bytes → SaysOk bytes → v.session n ≡ Some s
+    → VerdictsArePrinted happening → leads_to now happening ≡ Some turn → Met (Calls k n) w turn.events v → told_of now happening turn.bytes ≡ Words bytes → bytes ≡ turn.bytes → SaysOk bytes → v.session n ≡ Some s
     → (list : List Known) × (hears_all None (told ++ Words bytes ∷ []) ≡ Some (knowing (Some list))) × IsRight (messages_of (v.box s.mailbox)) list
-words_make_current k events n first began sent told now w client happening came turn v bytes s h is short stands words lives knows for printed e met told_is wrote ok at =
+words_make_current k events n first began sent told now w client happening turn v bytes s h is short stands words lives knows printed e met told_is wrote ok at =
     let short_w = short_met k n w turn.events v met short in
     let S = sound_always k events began h is in
     let before = lives_known k n first began h S stands lives short_w in
-    let after = lives_known k n first began h S stands (turns lives happening came turn v for printed e met) short in
+    let after = known_behind k n told now w happening turn v h short before printed e met in
     let chosen : Known_selected (Some client) now = subst (λ (c : Option Client). Known_selected c now) knows (knowing_is_selected k n first began sent told now w lives) in
     let current : view_of v n ≡ messages_of (v.box s.mailbox) =
     words_current k n now happening chosen.0 w turn v bytes before.sound.kept (lives_words k n first began words lives) chosen.1 told_is e met (subst SaysOk wrote ok) s at in

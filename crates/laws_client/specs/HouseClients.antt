@@ -11,7 +11,7 @@ use Rattle.world.specs.World.{Config, last_uid, Event, Enter, Read, Store, Expun
 use Rattle.imap_session.specs.Commands.{appended_words, greeting, number_named}
 use Rattle.imap_session.specs.Exchange.{Call, Answer as StoreAnswer, Standing, Turn, begun_with}
 use Rattle.imap_session.specs.Folders.{folders_of}
-use Rattle.imap_session.specs.Happenings.{Happening, IsSentFor, Told, VerdictsArePrinted, bytes_in, leads_to, told_of}
+use Rattle.imap_session.specs.Happenings.{Happening, IsSentFor, IsTimely, Told, VerdictsArePrinted, bytes_in, leads_to, told_of}
 use Rattle.imap_session.specs.Store.{Met}
 use Rattle.house_peers.specs.Visitor.{SeatedVisitor}
 use Rattle.house.specs.Meets.{Meets}
@@ -87,8 +87,8 @@ IsOfOthers n event = Unit {0}
 pub data Lives (k : Config) (n : ℕ) (first : Standing) (began : World) : List ℕ → List Told → Standing → World → Type 0 where
   comes : Lives k n first began [] [] first began
   turns : {sent : List ℕ} {told : List Told} {now : Standing} {w : World} → Lives k n first began sent told now w
-      → (happening : Happening) (bytes : List ℕ) (turn : Turn) (v : World) → IsSentFor happening bytes → VerdictsArePrinted happening
-      → leads_to now happening ≡ Some turn
+      → (happening : Happening) (bytes : List ℕ) (turn : Turn) (v : World) → IsTimely now happening → IsSentFor happening bytes
+      → VerdictsArePrinted happening → leads_to now happening ≡ Some turn
       → Met (λ (w : World) (call : Call) (answer : StoreAnswer) (v : World). Meets k n w call answer v) w turn.events v
       → Lives k n first began (sent ++ bytes) (told ++ told_of now happening turn.bytes ∷ []) turn.standing v
   others : {sent : List ℕ} {told : List Told} {now : Standing} {w : World} → Lives k n first began sent told now w
