@@ -1,6 +1,7 @@
 -- The client of a session of a house on one thread is right, by the record: what `KeepsUp` and `KnowsFlagsToo` say of it in more words.
 use Rattle.std.proofs.Common.{◌≡◌, ℕ, ◌+◌, ◌==◌, Bool, true, false, List, [], ◌∷◌, ◌++◌, append-nil, refl, sym, subst, ap, ◌∙◌}
 use Rattle.std.specs.Prelude.{codes, if◌then◌else◌, flat_map, Contains, Ok, Option, Some, None}
+use Rattle.delivery_token.specs.Keys.{Below}
 use Rattle.delivery_token.specs.declared.log.Noted.{Noted}
 use Rattle.imap_grammar.specs.Reading.{read}
 use Rattle.imap_grammar.specs.declared.command.Command.TheVariants as commands
@@ -153,8 +154,9 @@ tells_of k place w seen author tag words noted here sent folders x =
     }
 
 pub clients_are_right : ClientsAreRight
-clients_are_right k entries t place v printable is there read =
-    let kept = appends_are_kept k entries t place v printable is there read in
+unfolding tells_of
+clients_are_right k entries t place v printable is there is_read =
+    let kept = appends_are_kept k entries t place v printable is there is_read in
     let u = kept.0 in
     let so = is_so place (empty_scene k) entries unseen in
     let user : List ℕ = user_by_then place [] entries in
@@ -169,6 +171,7 @@ clients_are_right k entries t place v printable is there read =
       list = right_both IsOf (Believes (point_of t.world place)) (counted (point_of t.world place)) (hears_all None u.told)
           (subst (λ (x : List ℕ). IsRightAbout x (hears_all None u.told)) (counted_there t.world (t.world.session place)) u.right) flags.right;
       messages = λ before after one tag rest split ends. by kept.1 before after one tag rest split ends;
+      in_turn = λ before mid after one two a x b y split ends other_ends. both kept.1 before mid after one two a x b y split ends other_ends;
     }
   where
     LivesFrom : (user : List ℕ) (began : World) (sent : List ℕ) (told : List Told) → Type 0
@@ -181,3 +184,18 @@ clients_are_right k entries t place v printable is there read =
         let so = is_so place (empty_scene k) entries unseen in
         let x = known.kept before after one tag (codes "OK [APPENDUID " ++ rest) split ends refl in
         tells_of k place t.world (seen_by_then place (empty_scene k) entries unseen) (author_at k entries place v.serial) tag (codes "OK [APPENDUID " ++ rest) x.0 refl so.sent (ap (folders_of k.directory) so.user) x.1
+
+    both : {told : List Told} → KeptAsTold k t.world (author_at k entries place v.serial) told → (before mid after : List Told) (one two : Told) (a x b y : List ℕ) → told ≡ before ++ one ∷ (mid ++ two ∷ after)
+        → EndsWith a (codes "OK [APPENDUID " ++ x) (bytes_in one) → EndsWith b (codes "OK [APPENDUID " ++ y) (bytes_in two)
+        → (first : TellsOfMessage k place t.world (seen_by_then place (empty_scene k) entries unseen) v.serial a (codes "OK [APPENDUID " ++ x))
+        × (second : TellsOfMessage k place t.world (seen_by_then place (empty_scene k) entries unseen) v.serial b (codes "OK [APPENDUID " ++ y)) × Below first.copy.key second.copy.key
+    both known before mid after one two a x b y split ends other_ends =
+        let so = is_so place (empty_scene k) entries unseen in
+        let seen : Seen = seen_by_then place (empty_scene k) entries unseen in
+        let author : Author = author_at k entries place v.serial in
+        let h = known.apart before mid after one two a (codes "OK [APPENDUID " ++ x) b (codes "OK [APPENDUID " ++ y) split ends refl other_ends refl in
+        (
+          tells_of k place t.world seen author a (codes "OK [APPENDUID " ++ x) h.0 refl so.sent (ap (folders_of k.directory) so.user) h.2,
+          tells_of k place t.world seen author b (codes "OK [APPENDUID " ++ y) h.1 refl so.sent (ap (folders_of k.directory) so.user) h.3,
+          h.4,
+        )

@@ -179,6 +179,7 @@ is_right = record {
   shown = refl;
   list = (knows_both, refl, (((λ n e. absurd (none-some n e)), (λ names e. absurd (none-some names e))), (((λ n e. same n e), (λ names e. flags names e)), tt)));
   messages = λ before after one tag rest split ends. absurd (no_message before after one tag rest split ends);
+  in_turn = λ before mid after one two a x b y split ends other_ends. absurd (no_message before (mid ++ two ∷ after) one a x split ends);
 }
   where
     same : (n : ℕ) → Some 8 ≡ Some n → n ≡ 8

@@ -1,5 +1,6 @@
 -- The client of a session of a house on one thread: what it sent and was told, by the record of all that happened there, and what it is right about.
 use Rattle.std.specs.Prelude.{◌≡◌, ℕ, List, ◌<◌, ◌≤◌, ◌^◌, ◌≢◌, [], Option, Some, None, Ok, ◌∷◌, ◌++◌, ◌+◌, ◌==◌, Contains, codes, length, true, false, flat_map, IfSome, if◌then◌else◌}
+use Rattle.delivery_token.specs.Keys.{Below}
 use Rattle.delivery_token.specs.declared.Job.{Job}
 use Rattle.envelope.specs.Names.{Home, is_folder}
 use Rattle.imap_grammar.specs.Reading.{read}
@@ -150,6 +151,11 @@ module _ (k : Setup) (place : ℕ) where
     -- what ends in `OK [APPENDUID ` tells of a message that it appended
     pub messages : (before after : List Told) (one : Told) (tag rest : List ℕ) → told ≡ before ++ one ∷ after
         → EndsWith tag (codes "OK [APPENDUID " ++ rest) (bytes_in one) → TellsOfMessage k place w seen v.serial tag (codes "OK [APPENDUID " ++ rest)
+    -- and two of these of two messages, of which the first was appended first
+    pub in_turn : (before mid after : List Told) (one two : Told) (a x b y : List ℕ) → told ≡ before ++ one ∷ (mid ++ two ∷ after)
+        → EndsWith a (codes "OK [APPENDUID " ++ x) (bytes_in one) → EndsWith b (codes "OK [APPENDUID " ++ y) (bytes_in two)
+        → (first : TellsOfMessage k place w seen v.serial a (codes "OK [APPENDUID " ++ x))
+        × (second : TellsOfMessage k place w seen v.serial b (codes "OK [APPENDUID " ++ y)) × Below first.copy.key second.copy.key
 
 -- nobody was let in yet
 abbrev pub unseen : Seen
