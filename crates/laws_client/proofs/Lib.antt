@@ -112,3 +112,6 @@ mod HistoryHolds
 mod HistoryRefuted
 mod StillHouse
 mod RunRefuted
+mod MessageHolds
+mod MessageRefuted
+mod MessagePasses
