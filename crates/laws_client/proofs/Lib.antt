@@ -114,4 +114,3 @@ mod StillHouse
 mod RunRefuted
 mod MessageHolds
 mod MessageRefuted
-mod MessagePasses

@@ -10,6 +10,7 @@ use Rattle.change_ring.specs.declared.change.Change.TheVariants.{Add, Gone}
 use Rattle.change_ring.specs.declared.change.Flags.{Flags}
 use Rattle.change_ring.specs.Log.{no_flags, replay, shown, without}
 use Rattle.change_ring.specs.Words.{flag_words}
+use Rattle.delivery_token.specs.Keys.{Below}
 use Rattle.delivery_token.specs.Text.{undated}
 use Rattle.delivery_token.specs.declared.Job.{Job}
 use Rattle.mail_date.specs.InternalBack.{internal_date}
@@ -268,6 +269,17 @@ module _ (seen : Seen) (serial : ℕ) (tag : List ℕ) where
   -- It stands as a copy of the client that was at this place before.
   of_earlier_client : (words : List ℕ) → TellsOfMessage home 0 (in_inbox (third mine)) seen 1 tag words → ⊥
   of_earlier_client words t = let number : 0 ≡ 1 = serial_is t in omega (arith, number)
+
+  -- Two answers tell of messages, and one copy stands: a message is lost.
+  of_one_by_two : (other words other_words : List ℕ) (first : TellsOfMessage home 0 (in_inbox (third mine)) seen serial tag words)
+      (second : TellsOfMessage home 0 (in_inbox (third mine)) seen serial other other_words) → Below first.copy.key second.copy.key → ⊥
+  of_one_by_two other words other_words first second turn =
+      by (subst (λ (x : Job). Below mine.key x.key) (sym (copy_is second)) (subst (λ (x : Job). Below x.key second.copy.key) (sym (copy_is first)) turn))
+    where
+      by : Below mine.key mine.key → ⊥
+      by (inl l) = omega (arith, l)
+      by (inr (e, inl l)) = omega (arith, l)
+      by (inr (e, inr (f, l))) = omega (arith, l)
 
 -- ---- what was sent
 
