@@ -11,11 +11,12 @@ use Rattle.change_ring.specs.Words.{flag_words}
 use Rattle.imap_session.specs.Exchange.{Alter, Altered, Fed, Feed}
 use Rattle.imap_session.specs.Commands.{unlimited}
 use Rattle.change_ring.specs.declared.flag_op.FlagOp.{FlagOp}
+use Rattle.session_thread.specs.ByHistory.{flags_in}
 use Rattle.laws_client.specs.Beliefs.{Follows}
 use Rattle.laws_client.specs.Clients.{Each}
 use Rattle.laws_client.specs.Client.{Client, Known, Messages, unknown}
 use Rattle.laws_client.specs.FlagLaws.{HearsFlags}
-use Rattle.laws_client.specs.Flags.{FlagsOf, KnowsFlags, HasNow, Point, flags_at}
+use Rattle.laws_client.specs.Flags.{FlagsOf, KnowsFlags, HasNow, Point}
 use Rattle.laws_client.specs.FlagTurns.{SeesFlags}
 use Rattle.laws_client.specs.rows.FlagRows.{both, flagged, the_log}
 
@@ -31,7 +32,7 @@ named_so flags had names e named = named ∙ sym (ap (λ (o : Option Flags). fla
 older : FlagsOf the_log 2 7 [] → ⊥
 older f = by f.moment f.since f.until f.had
   where
-    by : (m : ℕ) → 2 ≤ m → m ≤ 3 → flags_at 7 (take m the_log) ≡ Some f.flags → ⊥
+    by : (m : ℕ) → 2 ≤ m → m ≤ 3 → flags_in 7 (take m the_log) ≡ Some f.flags → ⊥
     by zero low high had = absurd (omega (arith, low))
     by (suc zero) low high had = absurd (omega (arith, low))
     by (suc (suc zero)) low high had = absurd (omega (arith, ap length (named_so flagged f.flags [] had f.named)))
@@ -52,7 +53,7 @@ numbered_by_the_mailbox right = wrong (right.0 (codes "\\Seen" ∷ []) refl)
     wrong : FlagsOf one_gone 2 6 (codes "\\Seen" ∷ []) → ⊥
     wrong f = by f.moment f.since f.until f.had
       where
-        by : (m : ℕ) → 2 ≤ m → m ≤ 4 → flags_at 6 (take m one_gone) ≡ Some f.flags → ⊥
+        by : (m : ℕ) → 2 ≤ m → m ≤ 4 → flags_in 6 (take m one_gone) ≡ Some f.flags → ⊥
         by zero low high had = absurd (omega (arith, low))
         by (suc zero) low high had = absurd (omega (arith, low))
         by (suc (suc zero)) low high had = absurd (omega (arith, ap length (named_so no_flags f.flags (codes "\\Seen" ∷ []) had f.named)))
@@ -93,4 +94,4 @@ left_out q s = false≢true (ap first_seen s.shows)
 
 -- one that answers a STORE with the flags that were there before it
 as_before : (q : Point) (op : FlagOp) → q.log ≡ the_log → SeesFlags (record { log = Add 7 ∷ SetFlags 7 flagged ∷ []; cursor = 1 }) (record { call = Alter 7 op; answer = Altered (Some flagged) }) q → ⊥
-as_before q op e s = false≢true (sym (ap (λ (o : Option Flags). (the_flags o).seen) (sym (ap (flags_at 7) e) ∙ s.tells)))
+as_before q op e s = false≢true (sym (ap (λ (o : Option Flags). (the_flags o).seen) (sym (ap (flags_in 7) e) ∙ s.tells)))

@@ -14,6 +14,7 @@ use Rattle.change_ring.proofs.LogLaws.{replay-append}
 use Rattle.cursor_set.specs.Lines.{line, lines}
 use Rattle.change_ring.specs.View.{position}
 use Rattle.change_ring.specs.Words.{flag_words}
+use Rattle.session_thread.specs.ByHistory.{flags_in}
 use Rattle.laws_client.specs.Client.{Client, Known, knowing, reads}
 use Rattle.laws_client.specs.Beliefs.{ArePrinted, Follows}
 use Rattle.laws_client.specs.Clients.{Each}
@@ -22,7 +23,7 @@ use Rattle.laws_client.proofs.Each.{IsIn, WasTold, fetched_next, is_in}
 use Rattle.laws_client.proofs.Follows.{follows_one, position_most, printed_first, shown_most}
 use Rattle.laws_client.proofs.LinesRead.{reads_fetch, told_of}
 use Rattle.cursor_set.proofs.Positions.{position_pos}
-use Rattle.laws_client.specs.Flags.{Believes, flags_at}
+use Rattle.laws_client.specs.Flags.{Believes}
 use Rattle.laws_client.specs.FlagLaws.{LinesTellFlags}
 use Rattle.laws_client.proofs.Distinct.{Distinct, front_distinct, is_away}
 use Rattle.laws_client.proofs.Moments.{Spares, moves_on, set_at}
@@ -80,7 +81,7 @@ told_past front behind uid flags m is names e =
       since = omega arith;
       until = omega (arith, length-append front (c ∷ []), length-append front (c ∷ behind));
       flags = flags;
-      had = subst (λ (l : List Change). flags_at uid l ≡ Some flags) (sym (ap (take (length (front ++ c ∷ []))) (sym (append_assoc front (c ∷ []) behind)) ∙ take-append_seam (front ++ c ∷ []) behind))
+      had = subst (λ (l : List Change). flags_in uid l ≡ Some flags) (sym (ap (take (length (front ++ c ∷ []))) (sym (append_assoc front (c ∷ []) behind)) ∙ take-append_seam (front ++ c ∷ []) behind))
           (set_at uid front flags is);
       named = sym (the_names e);
     }

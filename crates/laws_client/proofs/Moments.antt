@@ -12,15 +12,16 @@ use Rattle.change_ring.specs.Log.{Row, row_change, rows_of, with_flags, without_
 use Rattle.change_ring.proofs.LogLaws.{rows_after-append, uids-rows_after}
 use Rattle.change_ring.specs.Words.{flag_words}
 use Rattle.delivery_core.specs.Clients.{row_with}
+use Rattle.session_thread.specs.ByHistory.{flags_in}
 use Rattle.laws_client.proofs.Each.{IsIn}
-use Rattle.laws_client.specs.Flags.{FlagsOf, flags_at}
+use Rattle.laws_client.specs.Flags.{FlagsOf}
 use Rattle.laws_client.specs.FlagLaws.{FlagsAreCurrent, FlagsOutlast}
 
 pub flags_are_current : FlagsAreCurrent
 flags_are_current log uid names f =
     let here : f.moment ≡ length log = omega (arith, f.since, f.until) in record {
       flags = f.flags;
-      has = subst (λ (l : List Change). flags_at uid l ≡ Some f.flags) (take-length log) (subst (λ (n : ℕ). flags_at uid (take n log) ≡ Some f.flags) here f.had);
+      has = subst (λ (l : List Change). flags_in uid l ≡ Some f.flags) (take-length log) (subst (λ (n : ℕ). flags_in uid (take n log) ≡ Some f.flags) here f.had);
       named = f.named;
     }
 
@@ -30,18 +31,18 @@ flags_outlast log later cursor uid names f = record {
   since = f.since;
   until = omega (arith, f.until, length-append log later);
   flags = f.flags;
-  had = subst (λ (l : List Change). flags_at uid l ≡ Some f.flags) (sym (take-append-le f.moment log later f.until)) f.had;
+  had = subst (λ (l : List Change). flags_in uid l ≡ Some f.flags) (sym (take-append-le f.moment log later f.until)) f.had;
   named = f.named;
 }
 
 -- the flags that it has now, at the end of the log, are such
-pub now_is_moment : (log : List Change) (cursor uid : ℕ) (flags : Flags) (names : List (List ℕ)) → cursor ≤ length log → flags_at uid log ≡ Some flags → names ≡ flag_words flags → FlagsOf log cursor uid names
+pub now_is_moment : (log : List Change) (cursor uid : ℕ) (flags : Flags) (names : List (List ℕ)) → cursor ≤ length log → flags_in uid log ≡ Some flags → names ≡ flag_words flags → FlagsOf log cursor uid names
 now_is_moment log cursor uid flags names within has named = record {
   moment = length log;
   since = within;
   until = omega arith;
   flags = flags;
-  had = subst (λ (l : List Change). flags_at uid l ≡ Some flags) (sym (take-length log)) has;
+  had = subst (λ (l : List Change). flags_in uid l ≡ Some flags) (sym (take-length log)) has;
   named = named;
 }
 
@@ -98,7 +99,7 @@ spared uid (SetFlags other flags) rows f s h = ap the_flags (flagged_other uid o
 rows_then : (front : List Change) (c : Change) → rows_of (front ++ c ∷ []) ≡ row_change (rows_of front) c
 rows_then front c = rows_after-append [] front (c ∷ [])
 
-pub spared_at : (uid : ℕ) (front : List Change) (c : Change) (f : Flags) → Spares uid c → flags_at uid front ≡ Some f → flags_at uid (front ++ c ∷ []) ≡ Some f
+pub spared_at : (uid : ℕ) (front : List Change) (c : Change) (f : Flags) → Spares uid c → flags_in uid front ≡ Some f → flags_in uid (front ++ c ∷ []) ≡ Some f
 spared_at uid front c f s h = ap (λ (rows : List Row). the_flags (row_with uid rows)) (rows_then front c) ∙ spared uid c (rows_of front) f s h
 
 -- ---- a change that sets them
@@ -114,7 +115,7 @@ flagged_here uid flags (row ∷ rows) is = by (row.uid == uid) refl is (flagged_
     by false e (inl same) more = absurd (false≢true (sym e ∙ eq-eqb row.uid uid same))
     by false e (inr other) more = rw e (more other)
 
-pub set_at : (uid : ℕ) (front : List Change) (flags : Flags) → IsIn uid (replay [] front) → flags_at uid (front ++ SetFlags uid flags ∷ []) ≡ Some flags
+pub set_at : (uid : ℕ) (front : List Change) (flags : Flags) → IsIn uid (replay [] front) → flags_in uid (front ++ SetFlags uid flags ∷ []) ≡ Some flags
 set_at uid front flags is =
     ap (λ (rows : List Row). the_flags (row_with uid rows)) (rows_then front (SetFlags uid flags))
     ∙ flagged_here uid flags (rows_of front) (subst (λ (us : List ℕ). IsIn uid us) (sym (uids-rows_after [] front)) is)
@@ -135,8 +136,8 @@ moves_on uid front behind c names s f = by (f.moment == length front) refl
     seam : take (length (front ++ c ∷ [])) (front ++ c ∷ behind) ≡ front ++ c ∷ []
     seam = ap (take (length (front ++ c ∷ []))) (sym (regroup front behind c)) ∙ take-append_seam (front ++ c ∷ []) behind
 
-    here : f.moment ≡ length front → flags_at uid front ≡ Some f.flags
-    here e = subst (λ (l : List Change). flags_at uid l ≡ Some f.flags) (ap (λ (n : ℕ). take n (front ++ c ∷ behind)) e ∙ take-append_seam front (c ∷ behind)) f.had
+    here : f.moment ≡ length front → flags_in uid front ≡ Some f.flags
+    here e = subst (λ (l : List Change). flags_in uid l ≡ Some f.flags) (ap (λ (n : ℕ). take n (front ++ c ∷ behind)) e ∙ take-append_seam front (c ∷ behind)) f.had
 
     by : (b : Bool) → (f.moment == length front) ≡ b → FlagsOf (front ++ c ∷ behind) (length (front ++ c ∷ [])) uid names
     by true e =
@@ -145,7 +146,7 @@ moves_on uid front behind c names s f = by (f.moment == length front) refl
           since = omega arith;
           until = omega (arith, ap length (regroup front behind c), length-append (front ++ c ∷ []) behind);
           flags = f.flags;
-          had = subst (λ (l : List Change). flags_at uid l ≡ Some f.flags) (sym seam) (spared_at uid front c f.flags s (here at));
+          had = subst (λ (l : List Change). flags_in uid l ≡ Some f.flags) (sym seam) (spared_at uid front c f.flags s (here at));
           named = f.named;
         }
     by false e = record {

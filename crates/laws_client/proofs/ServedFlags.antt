@@ -1,15 +1,11 @@
 -- What the calls of a session over mailboxes behind locks tell of flags, and what its client believes of them.
-use Rattle.std.proofs.Common.{◌≡◌, ℕ, ◌+◌, ◌≤◌, Bool, ◌==◌, List, [], ◌∷◌, ◌++◌, length, take, drop, refl, sym, subst, ap, ◌∙◌, arith, append-nil, append_assoc, length-append, Option, Some, None}
-use Rattle.std.specs.Prelude.{if◌then◌else◌, option_map}
-use Rattle.std.specs.List.{find}
+use Rattle.std.proofs.Common.{◌≡◌, ℕ, ◌+◌, ◌≤◌, Bool, List, [], ◌∷◌, ◌++◌, length, take, drop, refl, sym, subst, ap, ◌∙◌, arith, append-nil, append_assoc, length-append, Option, Some, None}
 use Rattle.std.proofs.lemmas.List.{drop-append-le, length-drop, take-append-drop, take-append-le}
 use mathlib.Core.List.{IsPrefix}
 use Rattle.change_ring.specs.declared.change.Change.{Change}
 use Rattle.change_ring.specs.declared.change.Flags.{Flags}
-use Rattle.change_ring.specs.Log as change
-use Rattle.change_ring.specs.Log.{IsLegalLog, rows_of, view_at}
+use Rattle.change_ring.specs.Log.{IsLegalLog, view_at}
 use Rattle.change_ring.specs.Words.{flag_words}
-use Rattle.delivery_core.specs.Clients.{row_with}
 use Rattle.mailbox.specs.declared.clients.Row.{Row}
 use Rattle.house_history.specs.declared.event.Event as house
 use Rattle.house_history.specs.Events.{changes_in}
@@ -26,7 +22,7 @@ use Rattle.laws_client.specs.Clients.{Each}
 use Rattle.laws_client.specs.Client.{Client}
 use Rattle.laws_client.specs.Clients.{hears, hears_all}
 use Rattle.laws_client.specs.Fetches.{IsNumbered}
-use Rattle.laws_client.specs.Flags.{Believes, BelievesNow, FlagsOf, HasNow, Point, counted, flags_at}
+use Rattle.laws_client.specs.Flags.{Believes, BelievesNow, FlagsOf, HasNow, Point, counted}
 use Rattle.laws_client.specs.FlagTurns.{IfInside, shown_in}
 use Rattle.laws_client.specs.ListTurns.{Sees}
 use Rattle.laws_client.specs.RecordTurns.{Stands}
@@ -45,21 +41,13 @@ use Rattle.laws_client.proofs.ToldAll.{HearsAll}
 
 -- ---- a call
 
-row_found : (uid : ℕ) (rows : List change.Row) → row_with uid rows ≡ find (λ (row : change.Row). row.uid == uid) rows
-row_found uid [] = refl
-row_found uid (row ∷ rows) = ap (λ (rest : Option change.Row). if row.uid == uid then Some row else rest) (row_found uid rows)
-
--- by the rows that a log leaves
-flags_found : (uid : ℕ) (log : List Change) → flags_at uid log ≡ flags_in uid log
-flags_found uid log = ap (λ (o : Option change.Row). option_map (λ (row : change.Row). row.flags) o) (row_found uid (rows_of log))
-
 place_at : (new : LockedStore) (here : Entry) → new.entered ≡ Some here → (place_of new).log ≡ changes_in here.mailbox new.history
 place_at new here is = ap (λ (e : Option Entry). (place_in new.history e).log) is
 
 has_now : (new : LockedStore) (here : Entry) (uid : ℕ) (flags : Flags) → new.entered ≡ Some here → Some flags ≡ flags_in uid (changes_in here.mailbox new.history) → HasNow (place_of new).log uid (flag_words flags)
 has_now new here uid flags there is = record {
   flags = flags;
-  has = ap (λ (log : List Change). flags_at uid log) (place_at new here there) ∙ flags_found uid (changes_in here.mailbox new.history) ∙ sym is;
+  has = ap (λ (log : List Change). flags_in uid log) (place_at new here there) ∙ sym is;
   named = refl;
 }
 

@@ -14,9 +14,10 @@ use Rattle.imap_session.specs.Happenings.{Answer, Told, bytes_in}
 use Rattle.imap_session.specs.declared.standing.Profile.TheVariants.{Compatible}
 use Rattle.house_peers.specs.Visitor.{SeatedVisitor}
 use Rattle.exactly_once.specs.rows.Worlds.{by_number}
+use Rattle.session_thread.specs.ByHistory.{flags_in}
 use Rattle.laws_client.specs.Client.{Client, Known, Messages, knowing, unknown}
 use Rattle.laws_client.specs.Clients.{IsOf, IsRight, hears_all}
-use Rattle.laws_client.specs.Flags.{Believes, FlagsOf, IsRightAt, KnowsFlags, Point, counted, flags_at}
+use Rattle.laws_client.specs.Flags.{Believes, FlagsOf, IsRightAt, KnowsFlags, Point, counted}
 use Rattle.laws_client.proofs.Each.{each_weaker}
 use Rattle.laws_client.specs.HouseClients.{IsToldRight, Seen, point_of}
 use Rattle.laws_client.proofs.ToldHolds.{answer_to_select, arrivals, at_last, box, entered, hello, house, marked_twice, select_line, the_other}
@@ -138,7 +139,7 @@ letter_of flags = letter (flag_words (the_flags flags))
 flags_of_second : (names : List (List ℕ)) → FlagsOf marked_twice 3 8 names → letter names ≡ 70
 flags_of_second names f = ap letter f.named ∙ sym (ap letter_of f.had) ∙ by f.moment f.since f.until
   where
-    by : (m : ℕ) → 3 ≤ m → m ≤ 4 → letter_of (flags_at 8 (take m marked_twice)) ≡ 70
+    by : (m : ℕ) → 3 ≤ m → m ≤ 4 → letter_of (flags_in 8 (take m marked_twice)) ≡ 70
     by zero low high = absurd (omega (arith, low))
     by (suc zero) low high = absurd (omega (arith, low))
     by (suc (suc zero)) low high = absurd (omega (arith, low))
@@ -150,7 +151,7 @@ flags_of_second names f = ap letter f.named ∙ sym (ap letter_of f.had) ∙ by 
 flags_of_first : (names : List (List ℕ)) → FlagsOf marked_twice 3 7 names → letter names ≡ 0
 flags_of_first names f = ap letter f.named ∙ sym (ap letter_of f.had) ∙ by f.moment f.since f.until
   where
-    by : (m : ℕ) → 3 ≤ m → m ≤ 4 → letter_of (flags_at 7 (take m marked_twice)) ≡ 0
+    by : (m : ℕ) → 3 ≤ m → m ≤ 4 → letter_of (flags_in 7 (take m marked_twice)) ≡ 0
     by zero low high = absurd (omega (arith, low))
     by (suc zero) low high = absurd (omega (arith, low))
     by (suc (suc zero)) low high = absurd (omega (arith, low))

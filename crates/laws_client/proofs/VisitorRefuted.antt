@@ -13,9 +13,10 @@ use Rattle.imap_session.specs.Happenings.{Answer, Told}
 use Rattle.session_thread.specs.Locks.{LockedStore}
 use Rattle.world.specs.World.{Box}
 use Rattle.exactly_once.specs.rows.Worlds.{bye, hi, yo}
+use Rattle.session_thread.specs.ByHistory.{flags_in}
 use Rattle.laws_client.specs.Client.{Known, knowing, unknown}
 use Rattle.laws_client.specs.Clients.{IsRight, hears_all}
-use Rattle.laws_client.specs.Flags.{FlagsOf, IsRightAt, KnowsFlags, counted, flags_at}
+use Rattle.laws_client.specs.Flags.{FlagsOf, IsRightAt, KnowsFlags, counted}
 use Rattle.laws_client.specs.Served.{place_of}
 use Rattle.laws_client.specs.rows.HistoryRows.{emptied, flagged, marked, outside, within}
 use Rattle.laws_client.proofs.ToldHolds.{answer_to_select, knows_both, select_line, told}
@@ -101,7 +102,7 @@ in_no_mailbox right = list_of (outside marked) (told_select 2) right _ heard_two
 flags_of_second : (names : List (List ℕ)) → FlagsOf (changes_in 0 marked) 3 8 names → letter names ≡ 70
 flags_of_second names f = ap letter f.named ∙ sym (ap letter_of f.had) ∙ by f.moment f.since f.until
   where
-    by : (m : ℕ) → 3 ≤ m → m ≤ 5 → letter_of (flags_at 8 (take m (changes_in 0 marked))) ≡ 70
+    by : (m : ℕ) → 3 ≤ m → m ≤ 5 → letter_of (flags_in 8 (take m (changes_in 0 marked))) ≡ 70
     by zero low high = absurd (omega (arith, low))
     by (suc zero) low high = absurd (omega (arith, low))
     by (suc (suc zero)) low high = absurd (omega (arith, low))
@@ -114,7 +115,7 @@ flags_of_second names f = ap letter f.named ∙ sym (ap letter_of f.had) ∙ by 
 flags_of_first : (names : List (List ℕ)) → FlagsOf (changes_in 0 marked) 4 7 names → letter names ≡ 83
 flags_of_first names f = ap letter f.named ∙ sym (ap letter_of f.had) ∙ by f.moment f.since f.until
   where
-    by : (m : ℕ) → 4 ≤ m → m ≤ 5 → letter_of (flags_at 7 (take m (changes_in 0 marked))) ≡ 83
+    by : (m : ℕ) → 4 ≤ m → m ≤ 5 → letter_of (flags_in 7 (take m (changes_in 0 marked))) ≡ 83
     by zero low high = absurd (omega (arith, low))
     by (suc zero) low high = absurd (omega (arith, low))
     by (suc (suc zero)) low high = absurd (omega (arith, low))

@@ -14,6 +14,7 @@ use Rattle.imap_answers.specs.Answers.{is_flags, row_answer, flags_answer}
 use Rattle.imap_grammar.specs.declared.items.FetchItem.{FetchItem}
 use Rattle.imap_session.specs.Exchange.{Answer, Standing, Turn}
 use Rattle.imap_session.specs.Commands.{idle_turn, turn_of, turn_of_verdict}
+use Rattle.session_thread.specs.ByHistory.{flags_in}
 use Rattle.laws_client.specs.Beliefs.{Follows, MayShow}
 use Rattle.laws_client.specs.Clients.{IsRight}
 use Rattle.laws_client.specs.Client.{Known}
@@ -21,7 +22,7 @@ use Rattle.laws_client.specs.Commands.{IsFollowed}
 use Rattle.imap_session.specs.Happenings.{IsPrinted}
 use Rattle.laws_client.specs.Fetches.{AreToldParts, IsNumbered}
 use Rattle.laws_client.specs.ListTurns.{IsRowOf, IsTag}
-use Rattle.laws_client.specs.Flags.{FlagsOf, HasNow, KnowsFlags, Point, counted, flags_at}
+use Rattle.laws_client.specs.Flags.{FlagsOf, HasNow, KnowsFlags, Point, counted}
 use Rattle.laws_client.specs.FlagTurns.{LeadsFlags, LeavesFlags, SeesAllFlags}
 
 -- ---- moments
@@ -55,12 +56,12 @@ LinesTellFlags = (p : Point) (changes rest : List Change) → IsLegalLog p.log �
 abbrev pub RowTellsFlags : Type 0
 RowTellsFlags = (p : Point) (uid : ℕ) (by_uid : Bool) (items : List FetchItem) (row : Row) → Contains (counted p) uid → IsNumbered (counted p)
     → IsRowOf uid (Some row) → AreToldParts items
-    → flags_at uid p.log ≡ Some row.flags → p.cursor ≤ length p.log → LeavesFlags p (row_answer (position uid (counted p)) by_uid items row)
+    → flags_in uid p.log ≡ Some row.flags → p.cursor ≤ length p.log → LeavesFlags p (row_answer (position uid (counted p)) by_uid items row)
 
 -- and the flags after a STORE
 abbrev pub StoreTellsFlags : Type 0
 StoreTellsFlags = (p : Point) (uid : ℕ) (by_uid : Bool) (flags : Flags) → Contains (counted p) uid → IsNumbered (counted p)
-    → flags_at uid p.log ≡ Some flags → p.cursor ≤ length p.log → LeavesFlags p (flags_answer by_uid (position uid (counted p)) uid flags)
+    → flags_in uid p.log ≡ Some flags → p.cursor ≤ length p.log → LeavesFlags p (flags_answer by_uid (position uid (counted p)) uid flags)
 
 -- ---- what is told is heard
 

@@ -3,10 +3,11 @@ use Rattle.std.specs.Prelude.{◌≡◌, ℕ, ◌+◌, ◌≤◌, List, [], ◌�
 use Rattle.change_ring.specs.declared.change.Change.{Change}
 use Rattle.change_ring.specs.Log.{IsLegalLog}
 use Rattle.imap_session.specs.Exchange.{Call, Answer, Event, Entered, Found, Fed, Expunged, Altered, Left, Read, Alter}
+use Rattle.session_thread.specs.ByHistory.{flags_in}
 use Rattle.laws_client.specs.Beliefs.{Follows}
 use Rattle.laws_client.specs.Client.{Known}
 use Rattle.laws_client.specs.ListTurns.{Sees}
-use Rattle.laws_client.specs.Flags.{Believes, KnowsFlags, Point, counted, flags_at}
+use Rattle.laws_client.specs.Flags.{Believes, KnowsFlags, Point, counted}
 
 -- the changes that an answer shows
 abbrev pub shown_in : Answer → List Change
@@ -17,8 +18,8 @@ shown_in answer = []
 -- The flags in an answer are those that the message has when all was logged that the call led to: of a row that was read, also where that set \Seen,
 -- and of a message whose flags were altered.
 abbrev pub TellsFlags : Point → Call → Answer → Type 0
-TellsFlags p (Read uid mark) (Found (Some row)) = flags_at uid p.log ≡ Some row.flags
-TellsFlags p (Alter uid change) (Altered (Some flags)) = flags_at uid p.log ≡ Some flags
+TellsFlags p (Read uid mark) (Found (Some row)) = flags_in uid p.log ≡ Some row.flags
+TellsFlags p (Alter uid change) (Altered (Some flags)) = flags_in uid p.log ≡ Some flags
 TellsFlags p call answer = Unit {0}
 
 -- From this point a call and its answer lead to that one.

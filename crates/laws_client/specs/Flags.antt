@@ -1,10 +1,10 @@
 -- What a client believes of flags, and when it is so.
-use Rattle.std.specs.Prelude.{◌≡◌, ℕ, ◌≤◌, List, length, map, take, Option, Some, option_map}
+use Rattle.std.specs.Prelude.{◌≡◌, ℕ, ◌≤◌, List, length, map, take, Option, Some}
 use Rattle.change_ring.specs.declared.change.Change.{Change}
 use Rattle.change_ring.specs.declared.change.Flags.{Flags}
 use Rattle.change_ring.specs.Log.{Row, rows_of, view_at}
 use Rattle.change_ring.specs.Words.{flag_words}
-use Rattle.delivery_core.specs.Clients.{row_with}
+use Rattle.session_thread.specs.ByHistory.{flags_in}
 use Rattle.laws_client.specs.Clients.{Each, IsOf, IsRightBy}
 use Rattle.laws_client.specs.Client.{Client, Known}
 
@@ -21,10 +21,6 @@ counted p = view_at p.log p.cursor
 abbrev pub CountsAll : Point → Type 0
 CountsAll p = counted p ≡ map (λ (row : Row). row.uid) (rows_of p.log)
 
--- the flags of a message after these changes, where it is there
-abbrev pub flags_at : ℕ → List Change → Option Flags
-flags_at uid log = option_map (λ (row : Row). row.flags) (row_with uid (rows_of log))
-
 -- These are the names of flags that the message had at some moment which isn't before the session's cursor. A client may know newer flags than those
 -- at the cursor, by its own STORE or a FETCH, and may then be told older ones first; but never such that are older than what it was shown.
 pub record FlagsOf (log : List Change) (cursor uid : ℕ) (names : List (List ℕ)) : Type 0 where
@@ -33,7 +29,7 @@ pub record FlagsOf (log : List Change) (cursor uid : ℕ) (names : List (List �
   pub since : cursor ≤ moment
   pub until : moment ≤ length log
   pub flags : Flags
-  pub had : flags_at uid (take moment log) ≡ Some flags
+  pub had : flags_in uid (take moment log) ≡ Some flags
   pub named : names ≡ flag_words flags
 
 -- what is known of a message's flags, where anything is, is so
@@ -47,7 +43,7 @@ KnowsFlags p list = Each (Believes p) (counted p) list
 -- these are the names of the flags that the message has after all these changes
 pub record HasNow (log : List Change) (uid : ℕ) (names : List (List ℕ)) : Type 0 where
   pub flags : Flags
-  pub has : flags_at uid log ≡ Some flags
+  pub has : flags_in uid log ≡ Some flags
   pub named : names ≡ flag_words flags
 
 -- what is known of a message's flags is what they are now

@@ -10,8 +10,9 @@ use Rattle.cursor_set.specs.Lines.{lines}
 use Rattle.change_ring.specs.Words.{flag_words}
 use Rattle.imap_session.specs.Exchange.{Altered, Fed}
 use Rattle.imap_answers.specs.Answers.{flags_answer}
+use Rattle.session_thread.specs.ByHistory.{flags_in}
 use Rattle.laws_client.specs.Client.{knowing, reads, unknown}
-use Rattle.laws_client.specs.Flags.{FlagsOf, Point, counted, flags_at}
+use Rattle.laws_client.specs.Flags.{FlagsOf, Point, counted}
 use Rattle.laws_client.specs.FlagTurns.{shown_in}
 
 abbrev pub flagged : Flags
@@ -61,13 +62,13 @@ own_moment = record { moment = 3; since = omega arith; until = omega arith; flag
 -- ---- moments
 
 -- of a message that isn't there yet, of one without flags, and of one that went
-not_yet : flags_at 7 [] ≡ None
+not_yet : flags_in 7 [] ≡ None
 not_yet = refl
 
-bare : flags_at 7 (Add 6 ∷ Add 7 ∷ SetFlags 6 both ∷ []) ≡ Some no_flags
+bare : flags_in 7 (Add 6 ∷ Add 7 ∷ SetFlags 6 both ∷ []) ≡ Some no_flags
 bare = refl
 
-gone : flags_at 7 (the_log ++ Gone 7 ∷ []) ≡ None
+gone : flags_in 7 (the_log ++ Gone 7 ∷ []) ≡ None
 gone = refl
 
 -- flags of which none is set are told by no name
