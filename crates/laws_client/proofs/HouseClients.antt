@@ -193,8 +193,7 @@ clients_are_right k entries t place v printable is there is_read =
         let so = is_so place (empty_scene k) entries unseen in
         let seen : Seen = seen_by_then place (empty_scene k) entries unseen in
         let author : Author = author_at k entries place v.serial in
-        let h = known.apart before mid after one two a (codes "OK [APPENDUID " ++ x) b (codes "OK [APPENDUID " ++ y) split ends refl other_ends refl in
-        (
+        let h = known.apart before mid after one two a (codes "OK [APPENDUID " ++ x) b (codes "OK [APPENDUID " ++ y) split ends refl other_ends refl in (
           tells_of k place t.world seen author a (codes "OK [APPENDUID " ++ x) h.0 refl so.sent (ap (folders_of k.directory) so.user) h.2,
           tells_of k place t.world seen author b (codes "OK [APPENDUID " ++ y) h.1 refl so.sent (ap (folders_of k.directory) so.user) h.3,
           h.4,
